@@ -27,7 +27,10 @@ mod soa;
 mod unknown;
 
 pub use a::A;
-pub use dns_opt::{ComposeOptData, LongOptData, OptHeader, OptionIter, SubnetAddr, UnknownOptData};
+pub use dns_opt::{
+    BadOptData, ClientSubnet, ComposeOptData, Cookie, Expire, ExtendedError, KnownOptData,
+    LongOptData, OptHeader, OptionIter, SubnetAddr, TcpKeepalive, UnknownOptData,
+};
 pub use error::LongRecordData;
 pub use length::{compose_canonical_len_rdata, compose_len_rdata};
 pub use name_data::{Cname, Ns};

@@ -4,8 +4,11 @@ ghost use Rattle.std.specs.Prelude.{◌≤◌, IsTrue, length, refl};
 ghost use Rattle.dns_opt.specs.OptionsOf.{are_options};
 
 use crate::record_data::{ComposeRecordData, ParseRecordData, RecordData};
-use dns_code::Rtype;
-use dns_opt::{OptionIter, are_options, known_options};
+use dns_code::{OptionCode, Rtype};
+use dns_opt::{
+    BadOptData, ClientSubnet, Cookie, Expire, ExtendedError, OptionIter, TcpKeepalive, are_options,
+    known_options,
+};
 use dns_wire::{AppendError, Composer, Octets, ParseError, Parser};
 use std::alloc::AllocError;
 
@@ -18,10 +21,13 @@ pub struct Opt<Octs: Octets> {
 }
 
 impl<Octs: Octets> Opt<Octs> {
-    ghost use Rattle.std.specs.Prelude.{◌≡◌, ◌↔◌, IfOk, IfErr, IsOk};
+    ghost use Rattle.std.specs.Prelude.{◌≡◌, ◌↔◌, IfOk, IfErr, IsOk, option_copied};
     ghost use Rattle.dns_name.specs.Names.{fault_of};
     ghost use Rattle.dns_name.specs.Names.Fault.{ShortInput};
     ghost use Rattle.dns_opt.specs.OptionIter.{options_left};
+    ghost use Rattle.dns_opt.specs.ReadKinds.{ReadsFirst, first_octets};
+    ghost use Rattle.dns_opt.specs.ReadOptions.{ReadsClientSubnet, ReadsCookie, ReadsExpire};
+    ghost use Rattle.dns_opt.specs.ReadOptions.{ReadsExtendedError, ReadsTcpKeepalive};
     ghost use Rattle.dns_data.specs.Opt.{opt_buffer, opt_options, is_opt_data};
 
     /// Takes octets as the RDATA. Returns `ShortInput` if they aren't a list of options or are more
@@ -50,6 +56,83 @@ impl<Octs: Octets> Opt<Octs> {
         ensures { options_left result ≡ opt_options self.now }
     {
         known_options(self.octets.octets())
+    }
+
+    /// The octets of the first option with the code, `None` if there is none.
+    pub fn first(&self, code: OptionCode) -> Option<&[u8]>
+        ensures { option_copied result ≡ first_octets code (opt_options self.now) }
+    {
+        self.iter().first(code)
+    }
+
+    /// The identifier of the name server, empty in a query (NSID, RFC 5001). `None` if no option is
+    /// one.
+    pub fn nsid(&self) -> Option<&[u8]>
+        ensures { option_copied result ≡ first_octets 3 (opt_options self.now) }
+    {
+        self.first(OptionCode::NSID)
+    }
+
+    /// The first client subnet (RFC 7871). `None` if no option is one, and an error if its octets
+    /// are malformed.
+    pub fn client_subnet(&self) -> Result<Option<ClientSubnet>, BadOptData>
+        ensures { ReadsFirst ReadsClientSubnet (first_octets 8 (opt_options self.now)) result }
+    {
+        match self.first(OptionCode::CLIENT_SUBNET) {
+            Some(octets) => Ok(Some(ClientSubnet::parse(octets)?)),
+            None => Ok(None),
+        }
+    }
+
+    /// When the zone expires (EXPIRE, RFC 7314). `None` if no option says so, and an error if its
+    /// octets are malformed.
+    pub fn expire(&self) -> Result<Option<Expire>, BadOptData>
+        ensures { ReadsFirst ReadsExpire (first_octets 9 (opt_options self.now)) result }
+    {
+        match self.first(OptionCode::EXPIRE) {
+            Some(octets) => Ok(Some(Expire::parse(octets)?)),
+            None => Ok(None),
+        }
+    }
+
+    /// The first cookie (COOKIE, RFC 7873). `None` if no option is one, and an error if its octets
+    /// are malformed.
+    pub fn cookie(&self) -> Result<Option<Cookie<'_>>, BadOptData>
+        ensures { ReadsFirst ReadsCookie (first_octets 10 (opt_options self.now)) result }
+    {
+        match self.first(OptionCode::COOKIE) {
+            Some(octets) => Ok(Some(Cookie::parse(octets)?)),
+            None => Ok(None),
+        }
+    }
+
+    /// How long the TCP connection is kept (RFC 7828). `None` if no option says so, and an error if
+    /// its octets are malformed.
+    pub fn tcp_keepalive(&self) -> Result<Option<TcpKeepalive>, BadOptData>
+        ensures { ReadsFirst ReadsTcpKeepalive (first_octets 11 (opt_options self.now)) result }
+    {
+        match self.first(OptionCode::TCP_KEEPALIVE) {
+            Some(octets) => Ok(Some(TcpKeepalive::parse(octets)?)),
+            None => Ok(None),
+        }
+    }
+
+    /// The octets of the first padding (RFC 7830). `None` if no option is one.
+    pub fn padding(&self) -> Option<&[u8]>
+        ensures { option_copied result ≡ first_octets 12 (opt_options self.now) }
+    {
+        self.first(OptionCode::PADDING)
+    }
+
+    /// The first extended error (RFC 8914). `None` if no option is one, and an error if its octets
+    /// are malformed.
+    pub fn extended_error(&self) -> Result<Option<ExtendedError<'_>>, BadOptData>
+        ensures { ReadsFirst ReadsExtendedError (first_octets 15 (opt_options self.now)) result }
+    {
+        match self.first(OptionCode::EXTENDED_ERROR) {
+            Some(octets) => Ok(Some(ExtendedError::parse(octets)?)),
+            None => Ok(None),
+        }
     }
 
     /// The RDATA of octets that are known to be a list of options of at most 65,535 octets.

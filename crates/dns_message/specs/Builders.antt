@@ -20,7 +20,7 @@ pub use Rattle.dns_build.specs.Opt.{opt_record, with_opt, with_rcode, Gathers, O
 pub use Rattle.dns_build.specs.OptReading.{said, HasNoOpt}
 pub use Rattle.dns_opt_builder.specs.Gathered.{Gathered, gathered, nothing_gathered, option_octets, with_extended_rcode}
 pub use Rattle.dns_opt_builder.specs.Additions.{Adds}
-pub use Rattle.dns_opt_builder.specs.KnownOptions.{nsid_option, dau_option, dhu_option, n3u_option, client_subnet_option, expire_option, cookie_option, IsServerCookie, tcp_keepalive_option, padding_option, chain_option, key_tag_option, extended_error_option}
+pub use Rattle.dns_opt.specs.KnownOptions.{nsid_option, dau_option, dhu_option, n3u_option, client_subnet_option, expire_option, cookie_option, IsServerCookie, tcp_keepalive_option, padding_option, chain_option, key_tag_option, extended_error_option}
 -- the statements of the theorems on builders
 pub use Rattle.dns_build.specs.MessageOf.{EncodingsReadBack, EncodingsAreTargets, EncodingsAreMessages}
 pub use Rattle.dns_build.specs.KnownByState.{BuildersAreKnown, RewindsLeaveNothing}

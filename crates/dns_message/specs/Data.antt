@@ -20,6 +20,10 @@ pub use Rattle.dns_opt.specs.OptionsOf.{options_in, are_options}
 pub use Rattle.dns_opt.specs.Options.{OptionItem, AreOptions, encode_option, encode_options}
 pub use Rattle.dns_opt.specs.OptionIter.{option_item, options_left}
 pub use Rattle.dns_opt.specs.OptHeader
+-- options of known kinds, as they are read
+pub use Rattle.dns_opt.specs.ReadOptions.{ReadsExactly, HasOnlyBits, EncodesClientSubnet, EncodesExpire, EncodesCookie, EncodesTcpKeepalive, EncodesError, CookieOctets, cookie_octets, ErrorOctets, error_octets}
+pub use Rattle.dns_opt.specs.ReadOptions.{ReadsClientSubnet, ReadsExpire, ReadsCookie, ReadsTcpKeepalive, ReadsExtendedError}
+pub use Rattle.dns_opt.specs.ReadKinds.{IsKnownCode, ReadsKnown, ReadsFirst, first_octets}
 -- canonical order (RFC 4034 section 6.3) and texts
 pub use Rattle.dns_data.specs.CanonicalOrders.{a_canonical_order, ns_canonical_order, cname_canonical_order, soa_canonical_order, unknown_canonical_order, opt_canonical_order}
 pub use Rattle.dns_data.specs.Printing.{address_text, absolute_text, soa_text, opaque_text}

@@ -147,8 +147,9 @@ pub mod record {
 /// ```
 pub mod data {
     pub use dns_data::{
-        A, Cname, ComposeOptData, ComposeRecordData, LongOptData, LongRecordData, Ns, Opt,
-        OptHeader, OptionIter, ParseAnyRecordData, ParseRecordData, RecordData, Soa, SubnetAddr,
+        A, BadOptData, ClientSubnet, Cname, ComposeOptData, ComposeRecordData, Cookie, Expire,
+        ExtendedError, KnownOptData, LongOptData, LongRecordData, Ns, Opt, OptHeader, OptionIter,
+        ParseAnyRecordData, ParseRecordData, RecordData, Soa, SubnetAddr, TcpKeepalive,
         UnknownOptData, UnknownRecordData, compose_canonical_len_rdata, compose_len_rdata, laws,
     };
     pub use dns_opt::laws as option_laws;

@@ -1,1 +1,2 @@
 pub mod theory
+mod KindLemmas

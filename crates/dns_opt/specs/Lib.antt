@@ -4,4 +4,8 @@ pub mod Splitting
 pub mod OptionIter
 pub mod OptHeader
 pub mod OptData
+pub mod KnownOptions
+pub mod ReadOptions
+pub mod Prefixes
+pub mod ReadKinds
 pub mod Laws

@@ -70,3 +70,17 @@ pub enum SubnetAddr {
     /// An IPv6 address.
     V6([u8; 16]),
 }
+
+impl SubnetAddr {
+    ghost use Rattle.dns_opt.specs.KnownOptions.{address_bits};
+
+    /// The number of bits of an address of this family.
+    pub fn bits(self) -> u8
+        ensures { result ≡ address_bits self }
+    {
+        match self {
+            SubnetAddr::V4(_) => 32,
+            SubnetAddr::V6(_) => 128,
+        }
+    }
+}

@@ -28,8 +28,10 @@ pub struct OptionIter<'a> {
 }
 
 impl<'a> OptionIter<'a> {
+    ghost use Rattle.std.specs.Prelude.{option_copied};
     ghost use Rattle.dns_opt.specs.OptionsOf.{options_in};
     ghost use Rattle.dns_opt.specs.OptionIter.{options_left};
+    ghost use Rattle.dns_opt.specs.ReadKinds.{first_octets};
 
     /// The options in octets, `None` if the octets aren't a list of options.
     pub fn new(octets: &'a [u8]) -> Option<Self>
@@ -49,6 +51,18 @@ impl<'a> OptionIter<'a> {
         ensures { options_left result ≡ options_in octets.now }
     {
         OptionIter { left: octets }
+    }
+
+    /// The octets of the first remaining option with the code, `None` if there is none.
+    pub fn first(self, code: OptionCode) -> Option<&'a [u8]>
+        ensures { option_copied result ≡ first_octets code (options_left self.entry) }
+    {
+        for (each, octets) in self {
+            if each == code {
+                return Some(octets);
+            }
+        }
+        None
     }
 }
 

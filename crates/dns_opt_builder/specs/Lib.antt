@@ -1,4 +1,3 @@
 pub mod OptionLists
 pub mod Gathered
 pub mod Additions
-pub mod KnownOptions

@@ -1,15 +1,15 @@
 //! The options that RFCs define, encoded as these say.
 ghost use Rattle.std.specs.Prelude.{◌*◌, ◌≤◌, ◌++◌, length, [], ◌∷◌, None, Some, option_copied};
 ghost use Rattle.std.specs.Option.{ForSome};
+ghost use Rattle.dns_opt.specs.KnownOptions.{nsid_option, dau_option, dhu_option, n3u_option};
+ghost use Rattle.dns_opt.specs.KnownOptions.{client_subnet_option, prefix_octets, expire_option};
+ghost use Rattle.dns_opt.specs.KnownOptions.{cookie_option, IsServerCookie, tcp_keepalive_option};
+ghost use Rattle.dns_opt.specs.KnownOptions.{padding_option, zeros, chain_option, key_tag_option};
+ghost use Rattle.dns_opt.specs.KnownOptions.{extended_error_option};
 ghost use Rattle.dns_opt_builder.specs.Additions.{Adds};
-ghost use Rattle.dns_opt_builder.specs.KnownOptions.{nsid_option, dau_option, dhu_option, n3u_option};
-ghost use Rattle.dns_opt_builder.specs.KnownOptions.{expire_option, cookie_option, IsServerCookie};
-ghost use Rattle.dns_opt_builder.specs.KnownOptions.{tcp_keepalive_option, padding_option, zeros, chain_option};
-ghost use Rattle.dns_opt_builder.specs.KnownOptions.{client_subnet_option, prefix_octets, key_tag_option, extended_error_option};
 
 use crate::builder::OptBuilder;
-use crate::subnet::address_prefix;
-use dns_opt::SubnetAddr;
+use dns_opt::{SubnetAddr, address_prefix};
 use dns_wire::{AppendError, ToName};
 
 // The codes of the options in IANA's registry.

@@ -8,6 +8,5 @@
 mod builder;
 mod known_options;
 mod options;
-mod subnet;
 
 pub use builder::OptBuilder;

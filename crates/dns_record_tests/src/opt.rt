@@ -3,3 +3,4 @@ mod builder;
 mod data;
 mod header;
 mod known_options;
+mod read_options;

@@ -1,0 +1,335 @@
+//! Options of known kinds, read from their octets. Expected values follow from the RFCs.
+use crate::asserts::{assert_holds, assert_octets, options};
+use dns_code::{Header, OptionCode};
+use dns_data::Opt;
+use dns_opt::{
+    BadOptData, ClientSubnet, Cookie, Expire, ExtendedError, KnownOptData, SubnetAddr, TcpKeepalive,
+};
+use dns_opt_builder::OptBuilder;
+use std::process::Abort;
+use std::test::Fail;
+
+/// A client cookie of eight octets.
+const CLIENT: [u8; 8] = [1, 2, 3, 4, 5, 6, 7, 8];
+
+/// The octets of an option of 41 octets, of which a row takes some.
+const OCTETS: [u8; 41] = [
+    1, 2, 3, 4, 5, 6, 7, 8, 9, 10, 11, 12, 13, 14, 15, 16, 17, 18, 19, 20, 21, 22, 23, 24, 25, 26,
+    27, 28, 29, 30, 31, 32, 33, 34, 35, 36, 37, 38, 39, 40, 41,
+];
+
+#[test]
+fn reads_cookies_of_allowed_lengths(rt: HostRuntime) {
+    for len in 0..42 {
+        let octets = &OCTETS[..len];
+        let allowed = len == 8 || (16..=40).contains(&len);
+        if let Ok(cookie) = Cookie::parse(octets) {
+            assert!(rt; allowed, "a cookie of {len} octets");
+            assert_holds(&rt, "client", cookie.client == CLIENT);
+            assert_holds(&rt, "a server cookie", cookie.server.is_some() == (len > 8));
+            let server = octets.get(8..).unwrap_or(&[]);
+            assert_octets(&rt, "server", cookie.server.unwrap_or(&[]), server);
+        } else {
+            assert!(rt; !allowed, "no cookie of {len} octets");
+        }
+    }
+}
+
+#[test]
+fn reads_the_cookies_of_rfc_9018(rt: HostRuntime) -> Result<(), Fail> {
+    // RFC 9018 appendix A.1: the client's cookie, and then with that of the server.
+    let query = Cookie::parse(b"\x24\x64\xC4\xAB\xCF\x10\xC9\x57")?;
+    assert_holds(&rt, "no server cookie", query.server.is_none());
+    let response = Cookie::parse(
+        b"\x24\x64\xC4\xAB\xCF\x10\xC9\x57\x01\x00\x00\x00\x5C\xF7\x9F\x11\x1F\x81\x30\xC3\xEE\xE2\x94\x80",
+    )?;
+    assert_octets(&rt, "client", &response.client, &query.client);
+    assert_octets(
+        &rt,
+        "server",
+        response.server.unwrap_or(&[]),
+        b"\x01\x00\x00\x00\x5C\xF7\x9F\x11\x1F\x81\x30\xC3\xEE\xE2\x94\x80",
+    );
+    Ok(())
+}
+
+/// The octets of a client subnet, and what they are read as.
+struct Subnet {
+    name: &'static str,
+    octets: &'static [u8],
+    source: u8,
+    scope: u8,
+    address: SubnetAddr,
+}
+
+const SUBNETS: &[Subnet] = &[
+    Subnet {
+        name: "192.0.2.0/24, in a query",
+        octets: b"\x00\x01\x18\x00\xC0\x00\x02",
+        source: 24,
+        scope: 0,
+        address: SubnetAddr::V4([192, 0, 2, 0]),
+    },
+    Subnet {
+        name: "a prefix that ends within an octet",
+        octets: b"\x00\x01\x14\x08\xC0\x00\xF0",
+        source: 20,
+        scope: 8,
+        address: SubnetAddr::V4([192, 0, 240, 0]),
+    },
+    Subnet {
+        name: "no prefix: the client asks that none be sent on",
+        octets: b"\x00\x01\x00\x00",
+        source: 0,
+        scope: 0,
+        address: SubnetAddr::V4([0; 4]),
+    },
+    Subnet {
+        name: "all bits of an IPv4 address",
+        octets: b"\x00\x01\x20\x20\xC0\x00\x02\x01",
+        source: 32,
+        scope: 32,
+        address: SubnetAddr::V4([192, 0, 2, 1]),
+    },
+    Subnet {
+        name: "2001:db8:fd13:4200::/56, valid for 48 bits",
+        octets: b"\x00\x02\x38\x30\x20\x01\x0D\xB8\xFD\x13\x42",
+        source: 56,
+        scope: 48,
+        address: SubnetAddr::V6([
+            0x20, 0x01, 0x0D, 0xB8, 0xFD, 0x13, 0x42, 0, 0, 0, 0, 0, 0, 0, 0, 0,
+        ]),
+    },
+];
+
+#[test]
+fn reads_client_subnets(rt: HostRuntime) {
+    for case in SUBNETS {
+        let Ok(subnet) = ClientSubnet::parse(case.octets) else {
+            panic!(rt; "{}: malformed", case.name)
+        };
+        assert_holds(&rt, case.name, subnet.source == case.source);
+        assert_holds(&rt, case.name, subnet.scope == case.scope);
+        assert_holds(&rt, case.name, subnet.address == case.address);
+    }
+}
+
+/// The octets of an option that its kind doesn't have.
+struct Malformed {
+    name: &'static str,
+    code: u16,
+    octets: &'static [u8],
+}
+
+const MALFORMED_SUBNETS: &[Malformed] = &[
+    Malformed {
+        name: "a bit set past the source prefix",
+        code: 8,
+        octets: b"\x00\x01\x14\x00\xC0\x00\xF8",
+    },
+    Malformed {
+        name: "more octets of address than the prefix needs",
+        code: 8,
+        octets: b"\x00\x01\x18\x00\xC0\x00\x02\x00",
+    },
+    Malformed {
+        name: "fewer octets of address than the prefix needs",
+        code: 8,
+        octets: b"\x00\x01\x18\x00\xC0\x00",
+    },
+    Malformed {
+        name: "a source prefix of 33 bits of IPv4",
+        code: 8,
+        octets: b"\x00\x01\x21\x00\xC0\x00\x02\x01\x00",
+    },
+    Malformed {
+        name: "a scope prefix of 33 bits of IPv4",
+        code: 8,
+        octets: b"\x00\x01\x18\x21\xC0\x00\x02",
+    },
+    Malformed {
+        name: "a scope prefix of 129 bits of IPv6",
+        code: 8,
+        octets: b"\x00\x02\x08\x81\x20",
+    },
+    Malformed {
+        name: "family 0",
+        code: 8,
+        octets: b"\x00\x00\x00\x00",
+    },
+    Malformed {
+        name: "family 257",
+        code: 8,
+        octets: b"\x01\x01\x00\x00",
+    },
+    Malformed {
+        name: "no prefix lengths",
+        code: 8,
+        octets: b"\x00\x01\x18",
+    },
+];
+
+const MALFORMED: &[Malformed] = &[
+    Malformed {
+        name: "EXPIRE of three octets",
+        code: 9,
+        octets: b"\x00\x00\x01",
+    },
+    Malformed {
+        name: "EXPIRE of five octets",
+        code: 9,
+        octets: b"\x00\x00\x01\x00\x00",
+    },
+    Malformed {
+        name: "a cookie of seven octets",
+        code: 10,
+        octets: b"\x01\x02\x03\x04\x05\x06\x07",
+    },
+    Malformed {
+        name: "a keepalive of one octet",
+        code: 11,
+        octets: b"\x01",
+    },
+    Malformed {
+        name: "a keepalive of three octets",
+        code: 11,
+        octets: b"\x00\x01\x02",
+    },
+    Malformed {
+        name: "an extended error of one octet",
+        code: 15,
+        octets: b"\x00",
+    },
+];
+
+/// Fails unless reading each option is an error.
+fn assert_malformed(rt: &impl Abort, cases: &[Malformed]) {
+    for case in cases {
+        let code = OptionCode::from_int(case.code);
+        let error = KnownOptData::parse(code, case.octets).err();
+        assert_holds(rt, case.name, error == Some(BadOptData));
+    }
+}
+
+#[test]
+fn refuses_malformed_options(rt: HostRuntime) {
+    assert_malformed(&rt, MALFORMED_SUBNETS);
+    assert_malformed(&rt, MALFORMED);
+}
+
+#[test]
+fn reads_numbers_and_texts(rt: HostRuntime) -> Result<(), Fail> {
+    let query = Expire::parse(b"")?;
+    assert_holds(&rt, "EXPIRE in a query", query.0.is_none());
+    let week = Expire::parse(b"\x00\x09\x3A\x80")?;
+    assert_holds(&rt, "EXPIRE after a week", week.0 == Some(604_800));
+    let query = TcpKeepalive::parse(b"")?;
+    assert_holds(&rt, "keepalive in a query", query.0.is_none());
+    let half_minute = TcpKeepalive::parse(b"\x01\x2C")?;
+    assert_holds(&rt, "keepalive of 30 seconds", half_minute.0 == Some(300));
+    let bare = ExtendedError::parse(b"\x00\x12")?;
+    assert_holds(
+        &rt,
+        "Prohibited",
+        bare.code == 18 && bare.text() == Some(""),
+    );
+    let error = ExtendedError::parse(b"\x00\x06no key \xE2\x98\x83")?;
+    assert_holds(&rt, "DNSSEC Bogus", error.code == 6);
+    assert_holds(&rt, "its text", error.text() == Some("no key \u{2603}"));
+    let other = ExtendedError::parse(b"\x00\x00\xFF")?;
+    assert_holds(&rt, "not UTF-8", other.text().is_none());
+    assert_octets(&rt, "its octets", other.text_octets, b"\xFF");
+    Ok(())
+}
+
+#[test]
+fn reads_each_kind_by_its_code(rt: HostRuntime) {
+    if let Ok(Some(KnownOptData::Nsid(identifier))) = KnownOptData::parse(
+        OptionCode::NSID,
+        b"gpdns",
+    ) {
+        assert_octets(&rt, "NSID", identifier, b"gpdns");
+    } else {
+        panic!(rt; "no NSID");
+    }
+    if let Ok(Some(KnownOptData::Padding(octets))) = KnownOptData::parse(
+        OptionCode::PADDING,
+        b"\0\0",
+    ) {
+        assert_octets(&rt, "padding", octets, b"\0\0");
+    } else {
+        panic!(rt; "no padding");
+    }
+    if let Ok(Some(KnownOptData::Cookie(cookie))) = KnownOptData::parse(
+        OptionCode::COOKIE,
+        &CLIENT,
+    ) {
+        assert_holds(&rt, "cookie", cookie.client == CLIENT);
+    } else {
+        panic!(rt; "no cookie");
+    }
+    let dau = KnownOptData::parse(OptionCode::DAU, b"\x08");
+    assert_holds(&rt, "DAU isn't among them", dau == Ok(None));
+}
+
+#[test]
+fn finds_the_first_of_a_kind(rt: HostRuntime) -> Result<(), Fail> {
+    // A keepalive of 30 seconds, DAU, a keepalive of a malformed length, and a malformed cookie.
+    let opt = options(
+        &rt,
+        b"\x00\x0B\x00\x02\x01\x2C\x00\x05\x00\x01\x08\x00\x0B\x00\x01\x00\x00\x0A\x00\x01\x00",
+    );
+    let keepalive = opt.tcp_keepalive()?;
+    assert_holds(
+        &rt,
+        "the first keepalive",
+        keepalive == Some(TcpKeepalive(Some(300))),
+    );
+    assert_holds(&rt, "cookie", opt.cookie().err() == Some(BadOptData));
+    assert_holds(&rt, "no EXPIRE", opt.expire()? == None);
+    assert_holds(&rt, "no NSID", opt.nsid().is_none());
+    let dau = opt.first(OptionCode::DAU);
+    assert_octets(&rt, "DAU", dau.unwrap_or(&[]), b"\x08");
+    Ok(())
+}
+
+/// A builder with an option of each kind.
+fn builder(rt: &HostRuntime) -> Result<OptBuilder, Fail> {
+    let mut opt = OptBuilder::new(rt.alloc(), Header::new());
+    opt.nsid(b"ns1")?;
+    opt.client_subnet(20, 40, SubnetAddr::V4([192, 0, 255, 1]))?;
+    opt.expire(Some(258))?;
+    opt.cookie(CLIENT, Some(&OCTETS[..16]))?;
+    opt.tcp_keepalive(None)?;
+    opt.padding(3)?;
+    opt.extended_error(18, Some("no"))?;
+    Ok(opt)
+}
+
+#[test]
+fn reads_back_what_a_builder_wrote(rt: HostRuntime) -> Result<(), Fail> {
+    let builder = builder(&rt)?;
+    let opt = Opt::from_octets(builder.option_octets())?;
+    assert_octets(&rt, "NSID", opt.nsid().unwrap_or(&[]), b"ns1");
+    assert_octets(&rt, "padding", opt.padding().unwrap_or(&[]), b"\0\0\0");
+    let subnet = ClientSubnet {
+        source: 20,
+        scope: 32,
+        address: SubnetAddr::V4([192, 0, 240, 0]),
+    };
+    assert_holds(&rt, "subnet", opt.client_subnet()? == Some(subnet));
+    assert_holds(&rt, "EXPIRE", opt.expire()? == Some(Expire(Some(258))));
+    let keepalive = opt.tcp_keepalive()?;
+    assert_holds(&rt, "keepalive", keepalive == Some(TcpKeepalive(None)));
+    let Some(cookie) = opt.cookie()? else {
+        panic!(rt; "no cookie")
+    };
+    assert_holds(&rt, "client cookie", cookie.client == CLIENT);
+    let server = cookie.server.unwrap_or(&[]);
+    assert_octets(&rt, "server cookie", server, &OCTETS[..16]);
+    let Some(error) = opt.extended_error()? else {
+        panic!(rt; "no extended error")
+    };
+    assert_holds(&rt, "error", error.code == 18 && error.text() == Some("no"));
+    Ok(())
+}
