@@ -6,6 +6,7 @@ mod Steps
 mod SomeState
 mod OptLemmas
 mod OptReading
+mod ReservedOptLemmas
 mod TypedReading
 mod KnownByState
 mod AnswerLemmas

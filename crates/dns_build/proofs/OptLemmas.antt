@@ -11,9 +11,12 @@ use Rattle.dns_opt.proofs.theory.OptionsLemmas.{options_of-holds}
 use Rattle.dns_opt_builder.specs.Gathered.{Gathered, IsGathered, gathered, option_octets}
 use Rattle.dns_opt_builder.specs.declared.builder.OptBuilder.{OptBuilder}
 use Rattle.dns_item.specs.Items.{RecordItem}
-use Rattle.dns_build.specs.Opt.{opt_record, OptReturns}
-use Rattle.dns_build.specs.BuilderStates.{PushReturns, push_error}
+use Rattle.dns_wire.specs.Encoders.{Rule}
+use Rattle.dns_build.specs.Opt.{opt_record, Gathers, OptReturns, PushesOpt, PushesOptRecord}
+use Rattle.dns_build.specs.BuilderStates.{Built, PushReturns, push_error}
+use Rattle.dns_build.specs.State.{State}
 use Rattle.dns_build.specs.declared.push_error.PushError.{PushError}
+use Rattle.dns_build.proofs.Moves.{always}
 
 -- a record with the fields of the OPT record of `g` is that record
 pub same_item : (x : RecordItem) (g : Gathered) → x.owner ≡ [] → x.rtype ≡ 41 → x.class ≡ g.fields.udp_payload_size → x.ttl ≡ ttl_in g.fields → x.parts ≡ Octets (encode_options g.options) ∷ [] → x ≡ opt_record g
@@ -25,6 +28,19 @@ closure_refused capacity grows limit n count e r is = subst (λ (x : Result (Uni
 
 pub closure_done : (capacity : Option ℕ) (grows : Bool) (limit n count : ℕ) (r : Result (Unit {0}) AppendError) (result : Result (Unit {0}) PushError) → r ≡ Ok tt → PushReturns capacity grows limit n count result → OptReturns capacity grows limit n count r result
 closure_done capacity grows limit n count r result is reported = subst (λ (x : Result (Unit {0}) AppendError). OptReturns capacity grows limit n count x result) (sym is) reported
+
+-- if the closure doesn't fail, what it has gathered is pushed
+pub pushes_opt : (capacity : Option ℕ) (grows : Bool) (rule : Rule) (call : OptBuilder → Result (Unit {0}) AppendError → OptBuilder → Type 0) (s : State) (new : Built)
+    (result : Result (Unit {0}) PushError) (g : Gathered) (outcome : Result (Unit {0}) AppendError)
+    → outcome ≡ Ok tt → Gathers call s.header outcome g → PushesOptRecord capacity grows rule g s new result → PushesOpt capacity grows rule call s new result
+pushes_opt capacity grows rule call s new result g outcome done gathers pushes = record {
+  g = g;
+  outcome = outcome;
+  gathers = gathers;
+  answers = closure_done capacity grows s.limit _ _ outcome result done pushes.outcome;
+  is_gathered = always result pushes.is_gathered;
+  accepted = pushes.accepted;
+}
 
 -- if octets are a list of options, `options_of` gives this list
 list_in : (b : List ℕ) (o : Option (List OptionItem)) → options_of b ≡ o → IsTrue (is_some o) → AreOptions b (option_map_or (λ (xs : List OptionItem). xs) o [])

@@ -31,6 +31,12 @@ with_rcode rcode header = record header { rcode = rcode }
 abbrev pub with_opt : Gathered → State → State
 with_opt g s = with_header (with_rcode g.header.rcode s.header) (with_record InAdditional (opt_record g) s)
 
+-- The OPT record of `g` is pushed. On success the builder represents the state with the record and the rcode.
+pub record PushesOptRecord (capacity : Option ℕ) (grows : Bool) (rule : Rule) (g : Gathered) (s : State) (new : Built) (result : Result (Unit {0}) PushError) : Type 0 where
+  pub outcome : PushReturns capacity grows s.limit (size_after rule (with_record InAdditional (opt_record g)) s) (length s.additionals) result
+  pub is_gathered : IsGathered g
+  pub accepted : OnOk result (Represents InAdditional rule (with_opt g s) new)
+
 -- The closure was called on a new `OptBuilder` that has a copy of `header`. It returned `outcome`, and the builder had then gathered `g`.
 pub record Gathers (call : OptBuilder → Result (Unit {0}) AppendError → OptBuilder → Type 0) (header : HeaderFields) (outcome : Result (Unit {0}) AppendError) (g : Gathered) : Type 0 where
   pub before : OptBuilder

@@ -10,7 +10,7 @@ ghost use Rattle.dns_opt_builder.specs.Gathered.{IsGathered, gathered};
 ghost use Rattle.dns_item.specs.Record.{owner_of, class_of, ttl_of, data_of};
 ghost use Rattle.dns_build.specs.State.{InAdditional};
 ghost use Rattle.dns_build.specs.BuilderStates.{InEach};
-ghost use Rattle.dns_build.specs.Opt.{with_rcode, PushesOpt};
+ghost use Rattle.dns_build.specs.Opt.{with_rcode, PushesOpt, PushesOptRecord};
 
 use crate::builder::Builder;
 use crate::push_error::PushError;
@@ -41,8 +41,19 @@ impl<T: Composer> Builder<T, AtAdditional> {
     {
         let mut gathered = OptBuilder::new(alloc, self.header());
         gather(&mut gathered)?;
-        self.push(record_of(&gathered))?;
-        self.set_header(with_rcode(self.header(), gathered.header().rcode()));
+        self.push_gathered(&gathered)
+    }
+
+    /// Appends the OPT record of `builder`. On success the header takes the rcode of its copy.
+    ///
+    /// Returns what `push` returns. Nothing changes on error.
+    pub(crate) fn push_gathered(&mut self, builder: &OptBuilder) -> Result<(), PushError>
+        ensures pushes { InEach InAdditional T.rule self.old (λ s. PushesOptRecord T.capacity
+            T.grows T.rule (gathered builder.now) s self.new result) }
+        ensures refused { OnErr result (self.new ≡ self.old) }
+    {
+        self.push(record_of(builder))?;
+        self.set_header(with_rcode(self.header(), builder.header().rcode()));
         Ok(())
     }
 }

@@ -18,6 +18,8 @@ mod copies;
 #[cfg(test)]
 mod opt;
 #[cfg(test)]
+mod reserved_opt;
+#[cfg(test)]
 mod steps;
 #[cfg(test)]
 mod stream;

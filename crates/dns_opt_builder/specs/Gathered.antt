@@ -1,5 +1,5 @@
 -- What an OPT builder has collected. RFC 6891 section 6.1.
-use Rattle.std.specs.Prelude.{vec_capacity, ℕ, ◌/◌, ◌%◌, ◌<◌, ◌≤◌, List, [], length, false}
+use Rattle.std.specs.Prelude.{vec_capacity, ℕ, ◌+◌, ◌/◌, ◌%◌, ◌<◌, ◌≤◌, List, [], length, false}
 use Rattle.dns_code.specs.Header.{HeaderFields, fields as header_fields}
 use Rattle.dns_opt.specs.OptHeader.{OptFields, fields as opt_fields}
 use Rattle.dns_opt.specs.Options.{OptionItem, AreOptions, encode_options}
@@ -35,6 +35,10 @@ nothing_gathered header = record {
   fields = record { udp_payload_size = 0; ext = 0; version = 0; dnssec_ok = false; z = 0 };
   options = [];
 }
+
+-- the octets of the OPT record in a message: 11 for owner, which is the root, type, class, TTL and RDLENGTH, and those of the options (RFC 6891 section 6.1.2)
+abbrev pub opt_size : Gathered → ℕ
+opt_size g = 11 + length (encode_options g.options)
 
 -- with another rcode: its lower four bits are in the header, the others in the record (RFC 6891 section 6.1.3)
 abbrev pub with_extended_rcode : ℕ → Gathered → Gathered

@@ -12,6 +12,9 @@ use dns_opt::{ComposeOptData, OptHeader, OptionIter};
 use dns_wire::{AppendError, Octets};
 use std::alloc::Global;
 
+/// The octets of an OPT record before its options: owner, type, class, TTL and RDLENGTH.
+const FIXED_LEN: usize = 11;
+
 /// The fields and options of an OPT record, and a copy of the message's header, which has the lower
 /// bits of the rcode.
 ///
@@ -34,7 +37,7 @@ impl OptBuilder {
     ghost use Rattle.dns_code.specs.Header.{fields as header_fields};
     ghost use Rattle.dns_opt.specs.OptHeader.{fields as opt_fields};
     ghost use Rattle.dns_opt.specs.OptionIter.{options_left};
-    ghost use Rattle.dns_opt_builder.specs.Gathered.{gathered, nothing_gathered, option_octets, with_extended_rcode};
+    ghost use Rattle.dns_opt_builder.specs.Gathered.{gathered, nothing_gathered, opt_size, option_octets, with_extended_rcode};
     ghost use Rattle.dns_opt_builder.specs.Additions.{Adds};
     ghost use Rattle.dns_item.specs.OptRecord.{opt_item};
 
@@ -71,6 +74,14 @@ impl OptBuilder {
         ensures short { length result.now ≤ 65535 }
     {
         self.octets.as_slice()
+    }
+
+    /// The octets that the OPT record takes in a message: 11, and those of the options (RFC 6891
+    /// section 6.1.2).
+    pub fn compose_len(&self) -> usize
+        ensures { result ≡ opt_size (gathered self.now) }
+    {
+        FIXED_LEN + self.option_octets().len()
     }
 
     /// The most octets of a UDP payload that the sender can receive.
