@@ -1,0 +1,7 @@
+//! Values of record data from words of presentation format (RFC 1035 section 5.1). Numbers, octets and
+//! strings are read by `dns_value_text`.
+#![tactic(auto)]
+
+mod address;
+
+pub use address::{read_ipv4, read_ipv6};
