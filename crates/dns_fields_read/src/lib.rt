@@ -3,5 +3,12 @@
 #![tactic(auto)]
 
 mod address;
+pub mod laws;
+mod name;
+mod salt;
+mod type_name;
 
 pub use address::{read_ipv4, read_ipv6};
+pub use name::read_name;
+pub use salt::read_salt;
+pub use type_name::read_type;

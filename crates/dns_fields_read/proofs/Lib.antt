@@ -1,0 +1,5 @@
+mod AddressLaws
+mod NameLaws
+mod RowLemmas
+mod StringLaws
+mod TypeLemmas
