@@ -1,4 +1,6 @@
 mod AddressLaws
+mod Calendar
+mod EuiLemmas
 mod NameLaws
 mod RowLemmas
 mod StringLaws

@@ -104,9 +104,9 @@ not_quoted (o ∷ octets) h =
     let parts = and_parts (is_ascii_alphanumeric o) (list_all is_ascii_alphanumeric octets) h in
     let first : (o == quote) ≡ false = (plain_tag o parts.0).0 in
     no_and (nat_le 2 (length (o ∷ octets))) (o == quote) (slice_index (o ∷ octets) (length (o ∷ octets) - 1) == quote) first where
-  no_and : (a b c : Bool) → b ≡ false → a && b && c ≡ false
-  no_and true b c e = ap (λ t. t && c) e
-  no_and false b c e = refl
+      no_and : (a b c : Bool) → b ≡ false → a && b && c ≡ false
+      no_and true b c e = ap (λ t. t && c) e
+      no_and false b c e = refl
 
 -- a tag reads back
 pub tag_reads_back : (octets : List ℕ) → is_tag octets ≡ true → SpellsString octets octets

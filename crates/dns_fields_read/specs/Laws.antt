@@ -8,11 +8,15 @@ use Rattle.dns_name.specs.Names.{Labels, IsName}
 use Rattle.dns_name.specs.NameTexts.{SpellsName, name_text}
 use Rattle.dns_number.specs.Mnemonics.{mnemonic}
 use Rattle.dns_number.specs.Types.{type_text}
+use Rattle.dns_value_text.specs.Addresses.{eui_text}
 use Rattle.dns_value_text.specs.Hex.{hex_text}
 use Rattle.dns_value_text.specs.String.{is_tag, quoted}
 use Rattle.dns_value_text.specs.Strings.{SpellsString}
+use Rattle.dns_value_text.specs.Time.{time_text}
 use Rattle.dns_fields_read.specs.Addresses.{IsIpv6Word}
+use Rattle.dns_fields_read.specs.EuiWords.{IsEuiWord}
 use Rattle.dns_fields_read.specs.Salts.{IsSaltWord}
+use Rattle.dns_fields_read.specs.TimeWords.{IsTimeWord}
 use Rattle.dns_fields_read.specs.TypeWords.{IsTypeWord, table_mnemonics}
 
 -- record types: the mnemonic in the table, else the text of `Rtype`
@@ -42,3 +46,11 @@ TagsReadBack = (octets : List ℕ) → is_tag octets ≡ true → SpellsString o
 -- salts: a hyphen for no octets, else hexadecimal digits
 abbrev pub SaltsReadBack : Type 0
 SaltsReadBack = IsSaltWord (codes "-") [] × ((octets : List ℕ) → IsBytes octets → IsSaltWord (hex_text octets) octets)
+
+-- EUI-48 and EUI-64 addresses
+abbrev pub EuiReadsBack : Type 0
+EuiReadsBack = (octets : List ℕ) → IsBytes octets → IsEuiWord (length octets) (eui_text octets) octets
+
+-- times of 32 bits
+abbrev pub TimesReadBack : Type 0
+TimesReadBack = (seconds : ℕ) → seconds < 2 ^ 32 → IsTimeWord (time_text seconds) seconds

@@ -3,12 +3,16 @@
 #![tactic(auto)]
 
 mod address;
+mod eui;
 pub mod laws;
 mod name;
 mod salt;
+mod time;
 mod type_name;
 
 pub use address::{read_ipv4, read_ipv6};
+pub use eui::read_eui;
 pub use name::read_name;
 pub use salt::read_salt;
+pub use time::read_time;
 pub use type_name::read_type;

@@ -1,6 +1,7 @@
 use Rattle.std.proofs.Common.{refl, inl, inr}
 use Rattle.std.proofs.NetLemmas.Texts.{IsDotted-ipv4_text}
 use Rattle.dns_fields_read.proofs.AddressLaws.{ipv6_reads_back}
+use Rattle.dns_fields_read.proofs.EuiLemmas.{eui_reads_back}
 use Rattle.dns_fields_read.proofs.NameLaws.{names_read_back}
 use Rattle.dns_fields_read.proofs.StringLaws.{string_reads_back, tag_reads_back}
 use Rattle.dns_fields_read.proofs.TypeLemmas.{types_read_back}
@@ -26,3 +27,9 @@ returns-clause-tags c = tag_reads_back
 
 pub returns-clause-salts : goal.returns-clause-salts
 returns-clause-salts c = (inl (refl, refl), λ octets bytes. inr (c.printed_values_read_back.ensures.hexadecimal octets bytes))
+
+pub returns-clause-eui : goal.returns-clause-eui
+returns-clause-eui c = eui_reads_back
+
+pub returns-clause-times : goal.returns-clause-times
+returns-clause-times c = λ seconds small. inl (small, refl)
