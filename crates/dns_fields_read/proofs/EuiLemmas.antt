@@ -50,7 +50,7 @@ pub record IsRead (size : ℕ) (word octets left : List ℕ) : Type 0 where
   pub whole : 0x2d ∷ str_to_ascii_lowercase word ≡ flat_map hyphen_pair octets ++ str_to_ascii_lowercase left
 
 -- octets and one more
-bytes_more : (octets : List ℕ) (octet : ℕ) → IsBytes octets → octet < 256 → IsBytes (octets ++ octet ∷ [])
+pub bytes_more : (octets : List ℕ) (octet : ℕ) → IsBytes octets → octet < 256 → IsBytes (octets ++ octet ∷ [])
 bytes_more [] octet bytes small zero = small
 bytes_more [] octet bytes small (suc i) = omega arith
 bytes_more (o ∷ octets) octet bytes small zero = bytes 0

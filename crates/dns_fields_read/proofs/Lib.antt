@@ -1,4 +1,5 @@
 mod AddressLaws
+mod Base32Lemmas
 mod Calendar
 mod EuiLemmas
 mod NameLaws

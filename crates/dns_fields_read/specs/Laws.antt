@@ -9,11 +9,13 @@ use Rattle.dns_name.specs.NameTexts.{SpellsName, name_text}
 use Rattle.dns_number.specs.Mnemonics.{mnemonic}
 use Rattle.dns_number.specs.Types.{type_text}
 use Rattle.dns_value_text.specs.Addresses.{eui_text}
+use Rattle.dns_value_text.specs.Base32.{base32_text}
 use Rattle.dns_value_text.specs.Hex.{hex_text}
 use Rattle.dns_value_text.specs.String.{is_tag, quoted}
 use Rattle.dns_value_text.specs.Strings.{SpellsString}
 use Rattle.dns_value_text.specs.Time.{time_text}
 use Rattle.dns_fields_read.specs.Addresses.{IsIpv6Word}
+use Rattle.dns_fields_read.specs.Base32Words.{IsBase32}
 use Rattle.dns_fields_read.specs.EuiWords.{IsEuiWord}
 use Rattle.dns_fields_read.specs.Salts.{IsSaltWord}
 use Rattle.dns_fields_read.specs.TimeWords.{IsTimeWord}
@@ -54,3 +56,7 @@ EuiReadsBack = (octets : List ℕ) → IsBytes octets → IsEuiWord (length octe
 -- times of 32 bits
 abbrev pub TimesReadBack : Type 0
 TimesReadBack = (seconds : ℕ) → seconds < 2 ^ 32 → IsTimeWord (time_text seconds) seconds
+
+-- octets in base32
+abbrev pub Base32ReadsBack : Type 0
+Base32ReadsBack = (octets : List ℕ) → IsBytes octets → IsBase32 (base32_text octets) octets

@@ -1,4 +1,5 @@
 pub mod Addresses
+pub mod Base32Words
 pub mod EuiWords
 pub mod Laws
 pub mod NameWords

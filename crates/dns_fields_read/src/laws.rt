@@ -1,5 +1,5 @@
 //! Theorems on values and their words. Each contract is a theorem.
-ghost use Rattle.dns_fields_read.specs.Laws.{EuiReadsBack, Ipv4ReadsBack, Ipv6ReadsBack, NamesReadBack, SaltsReadBack, StringsReadBack, TagsReadBack, TimesReadBack, TypesReadBack};
+ghost use Rattle.dns_fields_read.specs.Laws.{Base32ReadsBack, EuiReadsBack, Ipv4ReadsBack, Ipv6ReadsBack, NamesReadBack, SaltsReadBack, StringsReadBack, TagsReadBack, TimesReadBack, TypesReadBack};
 
 use dns_value_text::laws::printed_values_read_back;
 
@@ -12,6 +12,7 @@ pub fn printed_fields_read_back()
     ensures strings { StringsReadBack }
     ensures tags { TagsReadBack }
     ensures salts { SaltsReadBack }
+    ensures base32 { Base32ReadsBack }
     ensures eui { EuiReadsBack }
     ensures times { TimesReadBack }
 {

@@ -3,6 +3,7 @@
 #![tactic(auto)]
 
 mod address;
+mod base32;
 mod eui;
 pub mod laws;
 mod name;
@@ -11,6 +12,7 @@ mod time;
 mod type_name;
 
 pub use address::{read_ipv4, read_ipv6};
+pub use base32::read_base32;
 pub use eui::read_eui;
 pub use name::read_name;
 pub use salt::read_salt;

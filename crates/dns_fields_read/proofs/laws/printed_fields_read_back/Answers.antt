@@ -1,6 +1,7 @@
 use Rattle.std.proofs.Common.{refl, inl, inr}
 use Rattle.std.proofs.NetLemmas.Texts.{IsDotted-ipv4_text}
 use Rattle.dns_fields_read.proofs.AddressLaws.{ipv6_reads_back}
+use Rattle.dns_fields_read.proofs.Base32Lemmas.{base32_reads_back}
 use Rattle.dns_fields_read.proofs.EuiLemmas.{eui_reads_back}
 use Rattle.dns_fields_read.proofs.NameLaws.{names_read_back}
 use Rattle.dns_fields_read.proofs.StringLaws.{string_reads_back, tag_reads_back}
@@ -33,3 +34,6 @@ returns-clause-eui c = eui_reads_back
 
 pub returns-clause-times : goal.returns-clause-times
 returns-clause-times c = λ seconds small. inl (small, refl)
+
+pub returns-clause-base32 : goal.returns-clause-base32
+returns-clause-base32 c = base32_reads_back
