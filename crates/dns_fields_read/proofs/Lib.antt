@@ -1,0 +1,8 @@
+mod AddressLaws
+mod Base32Lemmas
+mod Calendar
+mod EuiLemmas
+mod NameLaws
+mod RowLemmas
+mod StringLaws
+mod TypeLemmas
