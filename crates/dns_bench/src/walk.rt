@@ -6,17 +6,25 @@ use dns_read::{Message, RecordSection};
 use dns_wire::ParsedName;
 
 /// The number of labels without the root, plus the octets of the uncompressed name.
-fn name_sum(name: &ParsedName<'_>) -> u64 {
+pub(crate) fn name_sum(name: &ParsedName<'_>) -> u64 {
     let labels = name.label_count() as u64;
     (name.compose_len() as u64)
         .wrapping_add(labels)
         .wrapping_sub(1)
 }
 
-fn question_sum(question: &Question<ParsedName<'_>>) -> u64 {
+pub(crate) fn question_sum(question: &Question<ParsedName<'_>>) -> u64 {
     name_sum(question.qname())
         .wrapping_add(u64::from(question.qtype().to_int()))
         .wrapping_add(u64::from(question.qclass().to_int()))
+}
+
+/// The sum of a record's owner, type, class and TTL.
+pub(crate) fn head_sum(record: &ParsedRecord<'_>) -> u64 {
+    name_sum(&record.owner())
+        .wrapping_add(u64::from(record.rtype().to_int()))
+        .wrapping_add(u64::from(record.class().to_int()))
+        .wrapping_add(u64::from(record.ttl().as_secs()))
 }
 
 /// What RDATA adds to the sum. `None` if it is malformed.
@@ -39,11 +47,7 @@ fn data_sum(record: &ParsedRecord<'_>) -> Option<u64> {
 }
 
 fn record_sum(record: &ParsedRecord<'_>) -> Option<u64> {
-    let header = name_sum(&record.owner())
-        .wrapping_add(u64::from(record.rtype().to_int()))
-        .wrapping_add(u64::from(record.class().to_int()))
-        .wrapping_add(u64::from(record.ttl().as_secs()));
-    Some(header.wrapping_add(data_sum(record)?))
+    Some(head_sum(record).wrapping_add(data_sum(record)?))
 }
 
 fn section_sum(section: &mut RecordSection<'_>) -> Option<u64> {
@@ -55,7 +59,7 @@ fn section_sum(section: &mut RecordSection<'_>) -> Option<u64> {
 }
 
 /// The sum of the header fields and the counts.
-fn header_sum(message: &Message<&[u8]>) -> u64 {
+pub(crate) fn header_sum(message: &Message<&[u8]>) -> u64 {
     let header = message.header();
     let octets = header.as_slice();
     let counts = message.header_counts();
