@@ -48,11 +48,10 @@ static int64_t header_sum(const uint8_t *message)
     return sum;
 }
 
-/* A message, the offset of what is read next, whether all fields of data are read, and the sum of what was read. */
+/* A message, the offset of what is read next, and the sum of what was read. */
 struct reader {
     const uint8_t *message;
     size_t len, place;
-    bool fields;
     int64_t sum;
 };
 
@@ -100,31 +99,6 @@ static bool read_data(struct reader *reader, uint16_t type, size_t octets)
     return true;
 }
 
-/* The sum of the seven numbers before the signer of RRSIG. */
-static int64_t signature_numbers(const uint8_t *data)
-{
-    return (int64_t)knot_wire_read_u16(data) + data[2] + data[3] + knot_wire_read_u32(data + 4) +
-           (int64_t)knot_wire_read_u32(data + 8) + knot_wire_read_u32(data + 12) +
-           knot_wire_read_u16(data + 16);
-}
-
-static bool read_fields(struct reader *reader, uint16_t type, size_t octets)
-{
-    size_t end = reader->place + octets, numbers = type == KNOT_RRTYPE_MX ? 2 : 18;
-    const uint8_t *data = reader->message + reader->place;
-    if (type != KNOT_RRTYPE_MX && type != KNOT_RRTYPE_RRSIG)
-        return read_data(reader, type, octets);
-    if (octets < numbers)
-        return false;
-    reader->sum += type == KNOT_RRTYPE_MX ? knot_wire_read_u16(data) : signature_numbers(data);
-    reader->place += numbers;
-    if (!read_name(reader, end) || (type == KNOT_RRTYPE_MX && reader->place != end))
-        return false;
-    reader->sum += (int64_t)(end - reader->place);
-    reader->place = end;
-    return true;
-}
-
 static bool read_record(struct reader *reader)
 {
     if (!read_name(reader, reader->len) || reader->len - reader->place < 10)
@@ -135,16 +109,14 @@ static bool read_record(struct reader *reader)
     int64_t class_and_ttl = knot_wire_read_u16(numbers + 2) + (int64_t)knot_wire_read_u32(numbers + 4);
     reader->sum += type + class_and_ttl;
     reader->place += 10;
-    if (reader->len - reader->place < octets)
-        return false;
-    return reader->fields ? read_fields(reader, type, octets) : read_data(reader, type, octets);
+    return reader->len - reader->place >= octets && read_data(reader, type, octets);
 }
 
-static int64_t walk(const uint8_t *message, size_t len, bool fields)
+static int64_t walk(const uint8_t *message, size_t len)
 {
     if (len < KNOT_WIRE_HEADER_SIZE)
         return -1;
-    struct reader reader = {message, len, KNOT_WIRE_HEADER_SIZE, fields, header_sum(message)};
+    struct reader reader = {message, len, KNOT_WIRE_HEADER_SIZE, header_sum(message)};
     int questions = knot_wire_get_qdcount(message);
     int records = knot_wire_get_ancount(message) + knot_wire_get_nscount(message);
     records += knot_wire_get_arcount(message);
@@ -197,6 +169,28 @@ static int64_t record_sum(const knot_rrset_t *record, bool fields)
     return sum + (fields ? fields_sum(record->type, data) : data_sum(record->type, data));
 }
 
+/* The fields of each record are read from its data as libknot keeps it, with names uncompressed. */
+static int64_t walk_fields(const uint8_t *message, size_t len)
+{
+    if (len < KNOT_WIRE_HEADER_SIZE)
+        return -1;
+    struct reader reader = {message, len, KNOT_WIRE_HEADER_SIZE, header_sum(message)};
+    int questions = knot_wire_get_qdcount(message);
+    int records = knot_wire_get_ancount(message) + knot_wire_get_nscount(message);
+    records += knot_wire_get_arcount(message);
+    for (; questions > 0; questions--)
+        if (!read_question(&reader))
+            return -1;
+    pool_used = 0;
+    for (; records > 0; records--) {
+        knot_rrset_t record;
+        if (knot_rrset_rr_from_wire(message, &reader.place, len, &record, &memory, false) != KNOT_EOK)
+            return -1;
+        reader.sum += record_sum(&record, true);
+    }
+    return reader.sum;
+}
+
 static int64_t section_sum(const knot_pktsection_t *section, bool fields)
 {
     int64_t sum = 0;
@@ -222,12 +216,12 @@ static int64_t walk_packet(const uint8_t *message, size_t len, bool fields)
 
 int64_t peer_walk(const uint8_t *message, size_t len)
 {
-    return PACKET ? walk_packet(message, len, false) : walk(message, len, false);
+    return PACKET ? walk_packet(message, len, false) : walk(message, len);
 }
 
 int64_t peer_fields(const uint8_t *message, size_t len)
 {
-    return PACKET ? walk_packet(message, len, true) : walk(message, len, true);
+    return PACKET ? walk_packet(message, len, true) : walk_fields(message, len);
 }
 
 /* The content of a message: the numbers of its header, its question and its answers. */
