@@ -1,4 +1,5 @@
-//! Rows of hosts, names and mail. Each is an example of the RFC that it names, or has its form.
+//! Rows of hosts, names and mail. Each is an example of the RFC that it names, or has its
+//! form.
 use crate::rows::{Row, check};
 use std::test::Fail;
 

@@ -10,8 +10,8 @@ use std::test::Fail;
 /// RDATA: its name, its type, its octets, and the values of its fields.
 pub(crate) type Row = (&'static str, u16, &'static [u8], &'static [Expected]);
 
-/// The value of a field: its number, 0 if it is none; and its octets, none if it is a number. Those of
-/// a name are uncompressed.
+/// The value of a field: its number, 0 if it is none; and its octets, none if it is a number. Those
+/// of a name are uncompressed.
 pub(crate) type Expected = (u64, &'static [u8]);
 
 /// Each row is read. What is read is written as it was, also if the row is cut.
@@ -66,8 +66,8 @@ fn has_octets(field: &Field<'_>, octets: &[u8]) -> bool {
     }
 }
 
-/// Whether octets are read and written as they were; or they are `ShortInput`, and the parser doesn't
-/// move.
+/// Whether octets are read and written as they were; or they are `ShortInput`, and the parser
+/// doesn't move.
 fn is_kept(alloc: Global, rtype: u16, octets: &[u8]) -> Result<bool, Fail> {
     let mut parser = Parser::new(octets);
     match FieldData::parse_any_rdata(Rtype::from_int(rtype), &mut parser) {

@@ -1,4 +1,5 @@
-//! Rows of keys, signatures and certificates. Each is an example of the RFC that it names, or has its form.
+//! Rows of keys, signatures and certificates. Each is an example of the RFC that it names, or has its
+//! form.
 use crate::rows::{Row, check};
 use std::test::Fail;
 

@@ -32,7 +32,7 @@ fn print_value<W: Write>(writer: &mut W, value: &Value<'_>) -> io::Result<()> {
     match value {
         Value::Number(number) => write!(writer, "{number}"),
         Value::RecordType(rtype) => write!(writer, "{}", rtype.to_int()),
-        Value::Name(name) => write!(writer, "{name}"),
+        Value::Name(name) => write!(writer, "{name}."),
         Value::Ipv4(octets)
         | Value::Ipv6(octets)
         | Value::String(octets)
