@@ -1,12 +1,12 @@
 //! Reads all of a message, with all fields of the RDATA of each record.
 use crate::walk::{head_sum, header_sum, name_sum, question_sum};
-use dns_fields::{FieldData, Value};
+use dns_fields::{Field, FieldData, Value};
 use dns_item::ParsedRecord;
 use dns_read::{Message, RecordSection};
 
 /// A number is itself, a name its labels and octets, and any other value its number of octets.
-fn value_sum(value: Value<'_>) -> u64 {
-    match value {
+fn field_sum(field: &Field<'_>) -> u64 {
+    match field.value() {
         Value::Number(number) => number,
         Value::RecordType(rtype) => u64::from(rtype.to_int()),
         Value::Name(name) => name_sum(&name),
@@ -22,7 +22,7 @@ fn value_sum(value: Value<'_>) -> u64 {
 fn data_sum(data: &FieldData<'_>) -> u64 {
     let mut sum = 0u64;
     for field in data.fields() {
-        sum = sum.wrapping_add(value_sum(field.value()));
+        sum = sum.wrapping_add(field_sum(&field));
     }
     sum
 }
