@@ -1,12 +1,11 @@
 //! Exports for C code that measures times: names written by the four compressors, whole messages
-//! written by the builder, and a message that is read whole. Each export but `dns_bench_walk` and
-//! `dns_bench_fields` writes the same message `rounds` times.
+//! written by the builder, and a message that is read whole. Each export but `dns_bench_walk`
+//! writes the same message `rounds` times.
 //!
 //! The last message is copied to the beginning of `out`, and its length is returned. The length is
 //! 0 if a name is malformed, an allocation fails, or `out` is too short.
 #![tactic(auto)]
 
-mod fields;
 mod messages;
 mod names;
 mod walk;
@@ -141,20 +140,11 @@ pub extern "C" fn dns_bench_fresh_index(alloc: Global, work: &Work<'_>, out: &mu
     write_fresh(alloc, new_target, work, out)
 }
 
-/// The sum of all fields of a message, or `u64::MAX` if the message can't be read.
+/// The sum of all fields of a message, or `u64::MAX` if the message can't be read. RDATA of A, NS and
+/// CNAME is read; if `fields` isn't 0, instead all RDATA is, as fields of `dns_fields`.
 #[unsafe(no_mangle)]
-pub extern "C" fn dns_bench_walk(octets: &[u8]) -> u64 {
-    match walk::walk(octets) {
-        Some(sum) => sum,
-        None => u64::MAX,
-    }
-}
-
-/// The sum of the header, the questions, and all fields of all records of a message, or `u64::MAX` if
-/// the message can't be read.
-#[unsafe(no_mangle)]
-pub extern "C" fn dns_bench_fields(octets: &[u8]) -> u64 {
-    match fields::walk(octets) {
+pub extern "C" fn dns_bench_walk(octets: &[u8], fields: u32) -> u64 {
+    match walk::walk(octets, fields != 0) {
         Some(sum) => sum,
         None => u64::MAX,
     }

@@ -1,30 +1,24 @@
-//! Reads all of a message: each field, the labels of each name, and the RDATA of each record.
+//! Reads all of a message: each field, the labels of each name, and the RDATA of each record, also
+//! as fields.
 use dns_code::Rtype;
 use dns_data::{A, Cname, Ns};
+use dns_fields::{Field, FieldData, Value};
 use dns_item::{ParsedRecord, Question};
 use dns_read::{Message, RecordSection};
 use dns_wire::ParsedName;
 
 /// The number of labels without the root, plus the octets of the uncompressed name.
-pub(crate) fn name_sum(name: &ParsedName<'_>) -> u64 {
+fn name_sum(name: &ParsedName<'_>) -> u64 {
     let labels = name.label_count() as u64;
     (name.compose_len() as u64)
         .wrapping_add(labels)
         .wrapping_sub(1)
 }
 
-pub(crate) fn question_sum(question: &Question<ParsedName<'_>>) -> u64 {
+fn question_sum(question: &Question<ParsedName<'_>>) -> u64 {
     name_sum(question.qname())
         .wrapping_add(u64::from(question.qtype().to_int()))
         .wrapping_add(u64::from(question.qclass().to_int()))
-}
-
-/// The sum of a record's owner, type, class and TTL.
-pub(crate) fn head_sum(record: &ParsedRecord<'_>) -> u64 {
-    name_sum(&record.owner())
-        .wrapping_add(u64::from(record.rtype().to_int()))
-        .wrapping_add(u64::from(record.class().to_int()))
-        .wrapping_add(u64::from(record.ttl().as_secs()))
 }
 
 /// What RDATA adds to the sum. `None` if it is malformed.
@@ -46,20 +40,54 @@ fn data_sum(record: &ParsedRecord<'_>) -> Option<u64> {
     }
 }
 
-fn record_sum(record: &ParsedRecord<'_>) -> Option<u64> {
-    Some(head_sum(record).wrapping_add(data_sum(record)?))
+/// A number is itself, a name its labels and octets, and any other field its number of octets.
+fn field_sum(field: &Field<'_>) -> u64 {
+    match field.value() {
+        Value::Number(number) => number,
+        Value::RecordType(rtype) => u64::from(rtype.to_int()),
+        Value::Name(name) => name_sum(&name),
+        Value::Ipv4(octets)
+        | Value::Ipv6(octets)
+        | Value::String(octets)
+        | Value::Sized(octets)
+        | Value::Octets(octets) => octets.len() as u64,
+    }
 }
 
-fn section_sum(section: &mut RecordSection<'_>) -> Option<u64> {
+/// What the fields of RDATA add to the sum. `None` if it is malformed.
+#[inline(never)]
+fn fields_sum(record: ParsedRecord<'_>) -> Option<u64> {
+    let read = record.to_any_record::<FieldData<'_>>().ok()?;
+    let mut sum = 0u64;
+    for field in read.data().fields() {
+        sum = sum.wrapping_add(field_sum(&field));
+    }
+    Some(sum)
+}
+
+fn record_sum(record: &ParsedRecord<'_>, fields: bool) -> Option<u64> {
+    let header = name_sum(&record.owner())
+        .wrapping_add(u64::from(record.rtype().to_int()))
+        .wrapping_add(u64::from(record.class().to_int()))
+        .wrapping_add(u64::from(record.ttl().as_secs()));
+    let data = if fields {
+        fields_sum(*record)?
+    } else {
+        data_sum(record)?
+    };
+    Some(header.wrapping_add(data))
+}
+
+fn section_sum(section: &mut RecordSection<'_>, fields: bool) -> Option<u64> {
     let mut sum = 0u64;
     for record in section {
-        sum = sum.wrapping_add(record_sum(&record.ok()?)?);
+        sum = sum.wrapping_add(record_sum(&record.ok()?, fields)?);
     }
     Some(sum)
 }
 
 /// The sum of the header fields and the counts.
-pub(crate) fn header_sum(message: &Message<&[u8]>) -> u64 {
+fn header_sum(message: &Message<&[u8]>) -> u64 {
     let header = message.header();
     let octets = header.as_slice();
     let counts = message.header_counts();
@@ -71,8 +99,9 @@ pub(crate) fn header_sum(message: &Message<&[u8]>) -> u64 {
         .wrapping_add(u64::from(counts.arcount()))
 }
 
-/// The sum of all fields of a message. `None` if something can't be read.
-pub(crate) fn walk(octets: &[u8]) -> Option<u64> {
+/// The sum of all fields of a message, also of those of RDATA if `fields`. `None` if something can't
+/// be read.
+pub(crate) fn walk(octets: &[u8], fields: bool) -> Option<u64> {
     let message = Message::from_slice(octets).ok()?;
     let mut sum = header_sum(&message);
     let mut questions = message.question();
@@ -81,7 +110,7 @@ pub(crate) fn walk(octets: &[u8]) -> Option<u64> {
     }
     let mut section = questions.answer().ok()?;
     for _ in 0..3 {
-        sum = sum.wrapping_add(section_sum(&mut section)?);
+        sum = sum.wrapping_add(section_sum(&mut section, fields)?);
         let Some(next) = section.next_section().ok()? else {
             break;
         };

@@ -1,9 +1,9 @@
 //! What is printed of RDATA: its fields, and its canonical form.
-use dns_message::code::Rtype;
-use dns_message::data::{ComposeRecordData, ParseAnyRecordData};
-use dns_message::fields::{FieldData, Value};
-use dns_message::message::Message;
-use dns_message::wire::Parser;
+use dns_code::Rtype;
+use dns_data::{ComposeRecordData, ParseAnyRecordData};
+use dns_fields::{FieldData, Value};
+use dns_read::Message;
+use dns_wire::Parser;
 use std::alloc::Global;
 use std::io;
 use std::io::Write;

@@ -13,7 +13,7 @@ mod rewriting;
 
 use crate::fields::{print_canonical, print_fields};
 use crate::rewriting::rewritten;
-use dns_message::message::Message;
+use dns_read::Message;
 use std::alloc::Global;
 use std::io;
 use std::io::{BufWriter, Write};

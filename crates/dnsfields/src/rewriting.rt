@@ -1,11 +1,9 @@
 //! Messages written again from the fields of their records.
-use dns_message::builder::{
-    AnswerBuilder, CopyRecordsError, MessageBuilder, PushError, copy_records,
-};
-use dns_message::code::Rcode;
-use dns_message::fields::FieldData;
-use dns_message::message::Message;
-use dns_message::target::TreeCompressor;
+use dns_build::{AnswerBuilder, CopyRecordsError, MessageBuilder, PushError, copy_records};
+use dns_code::Rcode;
+use dns_fields::FieldData;
+use dns_read::Message;
+use dns_target::TreeCompressor;
 use std::alloc::Global;
 
 /// The message with its header, its question and its records. Leaves out records whose RDATA is
