@@ -64,6 +64,7 @@ rows() {
   done <<'ROWS'
 walk:w1:64:192
 walk:w2:64:192
+walk:m40:64:192
 walk:w5a:64:192
 walk:w5b:64:192
 walk:n10:64:192

@@ -67,6 +67,19 @@ class Message:
         struct.pack_into(">H", self.octets, place, len(self.octets) - place - 2)
         self.sum += name_sum(target)
 
+    def mx(self, text, ttl, preference, exchange):
+        self.head(text, 15, ttl)
+        place = len(self.octets)
+        self.octets += struct.pack(">HH", 0, preference)
+        self.name(exchange)
+        struct.pack_into(">H", self.octets, place, len(self.octets) - place - 2)
+        self.sum += preference + name_sum(exchange)
+
+    def rrsig(self, text, ttl, numbers, signer, size):
+        self.head(text, 46, ttl)
+        self.data(struct.pack(">HBBIIIH", *numbers) + name(signer) + bytes(range(size)))
+        self.sum += sum(numbers) + name_sum(signer) + size
+
 
 def response():
     msg = Message(0, 0x81A0, (1, 1, 0, 0))
@@ -103,6 +116,17 @@ def addresses(count):
     msg.question("example.com", 1)
     for i in range(count):
         msg.a("example.com", 60, struct.pack(">I", i))
+    return msg
+
+
+def mail():
+    """20 MX records, and 20 RRSIG records with signatures of 64 octets. The sum is that of all fields."""
+    msg = Message(0x3A11, 0x8580, (1, 40, 0, 0))
+    msg.question("example.com", 15)
+    for i in range(20):
+        msg.mx("example.com", 300, i, f"mail{i}.example.com")
+    for i in range(20):
+        msg.rrsig("example.com", 300, (15, 13, 2, 300, 1893456000 + i, 1890777600, 4660 + i), "example.com", 64)
     return msg
 
 
@@ -161,6 +185,7 @@ def main():
 
     for label, msg in (("w1", response()), ("w2", larger()), ("w3", response()), ("w4", zone(500))):
         line(label, msg.sum, msg.octets)
+    line("m40", mail().sum, mail().octets)
     line("w5a", chain(False).sum, chain(False).octets)
     line("w5b", "-", chain(True).octets)
     for octets in garbage(64):

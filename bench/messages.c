@@ -17,6 +17,7 @@
 #include <string.h>
 #include <time.h>
 
+#pragma weak peer_fields
 #pragma weak peer_variant
 #pragma weak peer_kept
 
@@ -36,7 +37,7 @@ struct input {
     size_t len;
 };
 
-enum kind { WALK, RESPONSE, ZONE };
+enum kind { WALK, FIELDS, RESPONSE, ZONE };
 
 /* Inputs to read, or one message to write. */
 struct task {
@@ -82,11 +83,14 @@ static void load(const char *path)
     fclose(file);
 }
 
-/* w3 is the response, w4 the zone, and z with a number a zone with that number of owners. */
+/* w3 is the response, w4 the zone, and z with a number a zone with that number of owners. Of m40 all fields are
+ * read. */
 static enum kind kind_of(const char *workload)
 {
     if (!strcmp(workload, "w3"))
         return RESPONSE;
+    if (workload[0] == 'm')
+        return FIELDS;
     return !strcmp(workload, "w4") || workload[0] == 'z' ? ZONE : WALK;
 }
 
@@ -106,6 +110,13 @@ static struct task task_of(const char *workload, int32_t variant)
     return task;
 }
 
+static int64_t read_message(const struct task *task, const struct input *input)
+{
+    if (task->kind == FIELDS)
+        return peer_fields(input->octets, input->len);
+    return peer_walk(input->octets, input->len);
+}
+
 static int64_t write_message(const struct task *task)
 {
     if (task->kind == RESPONSE)
@@ -117,11 +128,11 @@ static int64_t write_message(const struct task *task)
 static void run(const struct task *task, uint64_t times)
 {
     for (uint64_t n = 0; n < times; n++)
-        if (task->kind != WALK)
+        if (task->kind > FIELDS)
             kept = write_message(task);
         else
             for (size_t i = 0; i < task->count; i++)
-                kept = peer_walk(task->first[i].octets, task->first[i].len);
+                kept = read_message(task, &task->first[i]);
 }
 
 static void print_row(const char *peer, const char *way, const struct task *task)
@@ -164,13 +175,13 @@ static const char *difference_walked(const struct task *task)
     const struct input *asked = task->first;
     size_t taken = 0;
     for (size_t i = 0; i < task->count; i++)
-        taken += peer_walk(asked[i].octets, asked[i].len) >= 0;
+        taken += read_message(task, &asked[i]) >= 0;
     snprintf(text, sizeof text, "takes %zu of %zu", taken, task->count);
     if (!strcmp(asked->sum, "?"))
         return text;
     if (!strcmp(asked->sum, "-"))
         return taken ? "TAKEN" : "";
-    return peer_walk(asked->octets, asked->len) == strtoll(asked->sum, NULL, 10) ? "" : "FAILED";
+    return read_message(task, asked) == strtoll(asked->sum, NULL, 10) ? "" : "FAILED";
 }
 
 /* The processor time in nanoseconds, which other work on the machine affects less. */
@@ -210,7 +221,7 @@ static void report(const char *peer, const char *way, const struct task *task)
     qsort(ns, RUNS, sizeof *ns, by_value);
     print_row(peer, way, task);
     printf("  %12.1f  %12.1f  %s\n", ns[RUNS / 2], ns[0],
-           task->kind == WALK ? difference_walked(task) : difference_written(task));
+           task->kind <= FIELDS ? difference_walked(task) : difference_written(task));
 }
 
 #endif
@@ -226,7 +237,9 @@ static const char *way_of(int32_t variant)
 static void report_all(const char *peer, const char *workload)
 {
     struct task task = task_of(workload, 0);
-    if (task.kind == WALK) {
+    if (task.kind == FIELDS && !peer_fields)
+        return;
+    if (task.kind <= FIELDS) {
         report(peer, "walk", &task);
         return;
     }

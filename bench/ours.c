@@ -18,7 +18,7 @@ struct work {
 
 typedef size_t writer(uint32_t target, const struct work *work, uint8_t *out, size_t out_len);
 
-uint64_t dns_bench_walk(const uint8_t *octets, size_t octets_len);
+uint64_t dns_bench_walk(const uint8_t *octets, size_t octets_len, uint32_t fields);
 writer dns_bench_response, dns_bench_zone;
 
 enum { BATCH = 64, VARIANTS = 14, OWNERS = 500 };
@@ -62,7 +62,12 @@ const char *peer_variant(int32_t variant)
 
 int64_t peer_walk(const uint8_t *message, size_t len)
 {
-    return (int64_t)dns_bench_walk(message, len);
+    return (int64_t)dns_bench_walk(message, len, 0);
+}
+
+int64_t peer_fields(const uint8_t *message, size_t len)
+{
+    return (int64_t)dns_bench_walk(message, len, 1);
 }
 
 #ifdef COUNT_ALLOCATIONS

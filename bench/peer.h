@@ -1,4 +1,4 @@
-/* What the bench needs of a library: three C calls, made one after the other by one thread.
+/* What the bench needs of a library: three C calls and one more that is optional, made one after the other by one thread.
  *
  * A C file or a static archive with these calls is a peer. README.md says how to measure it beside this
  * library.
@@ -20,6 +20,10 @@
 
 /* Reads a message. Returns the sum, or a negative number if the message is refused. */
 int64_t peer_walk(const uint8_t *message, size_t len);
+
+/* Reads a message with all fields of its RDATA. Returns the same sum, but data is the sum of the fields: of a
+ * number the number, of a name its labels and octets, and of any other field its octets. Optional. */
+int64_t peer_fields(const uint8_t *message, size_t len);
 
 /* Write the response w3, or the zone w4 with the first `owners` of its 500 owners, from scratch. Return
  * the length, or a negative number on failure. Names and data may be prepared beforehand. `variant` is

@@ -27,7 +27,7 @@ done
 compile "$build/messages_allocations" -DCOUNT_ALLOCATIONS "$here/count.c" "$here/ours.c" "$here/messages.c"
 python3 "$here/inputs.py" >"$build/inputs"
 
-workloads=(w1 w2 w5a w5b w5c n10 n100 n1000 n10000 f64 h64 h64b w3 w4)
+workloads=(w1 w2 m40 w5a w5b w5c n10 n100 n1000 n10000 f64 h64 h64b w3 w4)
 printf '%-18s  %-19s  %-6s  %12s  %12s\n' library way work 'ns, median' 'ns, least'
 for _ in $(seq "${ROUNDS:-1}"); do
   for shift in "${shifts[@]}"; do

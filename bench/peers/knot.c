@@ -134,30 +134,72 @@ static int64_t name_sum(const knot_dname_t *name)
     return (int64_t)(knot_dname_labels(name, NULL) + knot_dname_size(name));
 }
 
-static int64_t record_sum(const knot_rrset_t *record)
+static int64_t data_sum(uint16_t type, const knot_rdata_t *data)
 {
-    const knot_rdata_t *data = record->rrs.rdata;
-    int64_t sum = name_sum(record->owner) + record->type + record->rclass + (int64_t)record->ttl;
-    switch (record->type) {
+    switch (type) {
     case KNOT_RRTYPE_A:
-        return sum + knot_wire_read_u32(data->data);
+        return knot_wire_read_u32(data->data);
     case KNOT_RRTYPE_NS:
     case KNOT_RRTYPE_CNAME:
-        return sum + name_sum(data->data);
+        return name_sum(data->data);
     default:
-        return sum + data->len;
+        return data->len;
     }
 }
 
-static int64_t section_sum(const knot_pktsection_t *section)
+static int64_t fields_sum(uint16_t type, const knot_rdata_t *data)
+{
+    switch (type) {
+    case KNOT_RRTYPE_MX:
+        return knot_wire_read_u16(data->data) + name_sum(knot_mx_name(data));
+    case KNOT_RRTYPE_RRSIG:
+        return (int64_t)knot_rrsig_type_covered(data) + knot_rrsig_alg(data) + knot_rrsig_labels(data) +
+               knot_rrsig_original_ttl(data) + (int64_t)knot_rrsig_sig_expiration(data) +
+               knot_rrsig_sig_inception(data) + knot_rrsig_key_tag(data) +
+               name_sum(knot_rrsig_signer_name(data)) + knot_rrsig_signature_len(data);
+    default:
+        return data_sum(type, data);
+    }
+}
+
+static int64_t record_sum(const knot_rrset_t *record, bool fields)
+{
+    const knot_rdata_t *data = record->rrs.rdata;
+    int64_t sum = name_sum(record->owner) + record->type + record->rclass + (int64_t)record->ttl;
+    return sum + (fields ? fields_sum(record->type, data) : data_sum(record->type, data));
+}
+
+/* The fields of each record are read from its data as libknot keeps it, with names uncompressed. */
+static int64_t walk_fields(const uint8_t *message, size_t len)
+{
+    if (len < KNOT_WIRE_HEADER_SIZE)
+        return -1;
+    struct reader reader = {message, len, KNOT_WIRE_HEADER_SIZE, header_sum(message)};
+    int questions = knot_wire_get_qdcount(message);
+    int records = knot_wire_get_ancount(message) + knot_wire_get_nscount(message);
+    records += knot_wire_get_arcount(message);
+    for (; questions > 0; questions--)
+        if (!read_question(&reader))
+            return -1;
+    pool_used = 0;
+    for (; records > 0; records--) {
+        knot_rrset_t record;
+        if (knot_rrset_rr_from_wire(message, &reader.place, len, &record, &memory, false) != KNOT_EOK)
+            return -1;
+        reader.sum += record_sum(&record, true);
+    }
+    return reader.sum;
+}
+
+static int64_t section_sum(const knot_pktsection_t *section, bool fields)
 {
     int64_t sum = 0;
     for (uint16_t i = 0; i < section->count; i++)
-        sum += record_sum(knot_pkt_rr(section, i));
+        sum += record_sum(knot_pkt_rr(section, i), fields);
     return sum;
 }
 
-static int64_t walk_packet(const uint8_t *message, size_t len)
+static int64_t walk_packet(const uint8_t *message, size_t len, bool fields)
 {
     pool_used = 0;
     knot_pkt_t *packet = knot_pkt_new((uint8_t *)message, (uint16_t)len, &memory);
@@ -167,14 +209,19 @@ static int64_t walk_packet(const uint8_t *message, size_t len)
     int64_t sum = header_sum(message);
     if (knot_wire_get_qdcount(message) == 1)
         sum += name_sum(knot_pkt_qname(packet)) + knot_pkt_qtype(packet) + knot_pkt_qclass(packet);
-    return sum + section_sum(knot_pkt_section(packet, KNOT_ANSWER)) +
-           section_sum(knot_pkt_section(packet, KNOT_AUTHORITY)) +
-           section_sum(knot_pkt_section(packet, KNOT_ADDITIONAL));
+    return sum + section_sum(knot_pkt_section(packet, KNOT_ANSWER), fields) +
+           section_sum(knot_pkt_section(packet, KNOT_AUTHORITY), fields) +
+           section_sum(knot_pkt_section(packet, KNOT_ADDITIONAL), fields);
 }
 
 int64_t peer_walk(const uint8_t *message, size_t len)
 {
-    return PACKET ? walk_packet(message, len) : walk(message, len);
+    return PACKET ? walk_packet(message, len, false) : walk(message, len);
+}
+
+int64_t peer_fields(const uint8_t *message, size_t len)
+{
+    return PACKET ? walk_packet(message, len, true) : walk_fields(message, len);
 }
 
 /* The content of a message: the numbers of its header, its question and its answers. */

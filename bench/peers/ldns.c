@@ -46,14 +46,47 @@ static int64_t data_sum(const ldns_rr *record)
     }
 }
 
-/* The sum of a question or of a record, which have one type in ldns. */
-static int64_t item_sum(const ldns_rr *item, bool is_question)
+/* The sum of a field: of a number, of a name, or else of octets. */
+static int64_t field_sum(const ldns_rdf *field)
 {
-    int64_t sum = name_sum(ldns_rr_owner(item)) + ldns_rr_get_type(item) + ldns_rr_get_class(item);
-    return is_question ? sum : sum + ldns_rr_ttl(item) + data_sum(item);
+    switch (ldns_rdf_get_type(field)) {
+    case LDNS_RDF_TYPE_INT8:
+    case LDNS_RDF_TYPE_ALG:
+        return ldns_rdf_data(field)[0];
+    case LDNS_RDF_TYPE_INT16:
+    case LDNS_RDF_TYPE_TYPE:
+        return ldns_read_uint16(ldns_rdf_data(field));
+    case LDNS_RDF_TYPE_INT32:
+    case LDNS_RDF_TYPE_TIME:
+        return ldns_read_uint32(ldns_rdf_data(field));
+    case LDNS_RDF_TYPE_DNAME:
+        return name_sum(field);
+    default:
+        return (int64_t)ldns_rdf_size(field);
+    }
 }
 
-static int64_t walk(const uint8_t *message, size_t len)
+static int64_t fields_sum(const ldns_rr *record)
+{
+    int64_t sum = 0;
+    for (size_t i = 0; i < ldns_rr_rd_count(record); i++)
+        sum += field_sum(ldns_rr_rdf(record, i));
+    return sum;
+}
+
+/* What is read of items: questions, records, or records with all fields of their data. */
+enum part { QUESTIONS, RECORDS, FIELDS };
+
+/* The sum of a question or of a record, which have one type in ldns. */
+static int64_t item_sum(const ldns_rr *item, enum part part)
+{
+    int64_t sum = name_sum(ldns_rr_owner(item)) + ldns_rr_get_type(item) + ldns_rr_get_class(item);
+    if (part == QUESTIONS)
+        return sum;
+    return sum + ldns_rr_ttl(item) + (part == FIELDS ? fields_sum(item) : data_sum(item));
+}
+
+static int64_t walk(const uint8_t *message, size_t len, enum part part)
 {
     if (len < LDNS_HEADER_SIZE)
         return -1;
@@ -66,29 +99,29 @@ static int64_t walk(const uint8_t *message, size_t len)
         ldns_pkt_section section = i < questions ? LDNS_SECTION_QUESTION : LDNS_SECTION_ANSWER;
         if (ldns_wire2rr(&item, message, len, &place, section) != LDNS_STATUS_OK)
             return -1;
-        sum += item_sum(item, i < questions);
+        sum += item_sum(item, i < questions ? QUESTIONS : part);
         ldns_rr_free(item);
     }
     return sum;
 }
 
-static int64_t section_sum(const ldns_rr_list *items, bool is_question)
+static int64_t section_sum(const ldns_rr_list *items, enum part part)
 {
     int64_t sum = 0;
     for (size_t i = 0; i < ldns_rr_list_rr_count(items); i++)
-        sum += item_sum(ldns_rr_list_rr(items, i), is_question);
+        sum += item_sum(ldns_rr_list_rr(items, i), part);
     return sum;
 }
 
-static int64_t walk_packet(const uint8_t *message, size_t len)
+static int64_t walk_packet(const uint8_t *message, size_t len, enum part part)
 {
     ldns_pkt *packet;
     if (ldns_wire2pkt(&packet, message, len) != LDNS_STATUS_OK)
         return -1;
-    int64_t sum = header_sum(message) + section_sum(ldns_pkt_question(packet), true) +
-                  section_sum(ldns_pkt_answer(packet), false) +
-                  section_sum(ldns_pkt_authority(packet), false) +
-                  section_sum(ldns_pkt_additional(packet), false);
+    int64_t sum = header_sum(message) + section_sum(ldns_pkt_question(packet), QUESTIONS) +
+                  section_sum(ldns_pkt_answer(packet), part) +
+                  section_sum(ldns_pkt_authority(packet), part) +
+                  section_sum(ldns_pkt_additional(packet), part);
     ldns_pkt_free(packet);
     return sum;
 }
@@ -96,7 +129,13 @@ static int64_t walk_packet(const uint8_t *message, size_t len)
 int64_t peer_walk(const uint8_t *message, size_t len)
 {
     buffer_used = 0;
-    return PACKET ? walk_packet(message, len) : walk(message, len);
+    return PACKET ? walk_packet(message, len, RECORDS) : walk(message, len, RECORDS);
+}
+
+int64_t peer_fields(const uint8_t *message, size_t len)
+{
+    buffer_used = 0;
+    return PACKET ? walk_packet(message, len, FIELDS) : walk(message, len, FIELDS);
 }
 
 static ldns_rr *item_of(const char *text, bool is_question)

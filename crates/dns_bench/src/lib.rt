@@ -140,10 +140,11 @@ pub extern "C" fn dns_bench_fresh_index(alloc: Global, work: &Work<'_>, out: &mu
     write_fresh(alloc, new_target, work, out)
 }
 
-/// The sum of all fields of a message, or `u64::MAX` if the message can't be read.
+/// The sum of all fields of a message, or `u64::MAX` if the message can't be read. RDATA of A, NS and
+/// CNAME is read; if `fields` isn't 0, instead all RDATA is, as fields of `dns_fields`.
 #[unsafe(no_mangle)]
-pub extern "C" fn dns_bench_walk(octets: &[u8]) -> u64 {
-    match walk::walk(octets) {
+pub extern "C" fn dns_bench_walk(octets: &[u8], fields: u32) -> u64 {
+    match walk::walk(octets, fields != 0) {
         Some(sum) => sum,
         None => u64::MAX,
     }

@@ -1,6 +1,8 @@
-//! Reads all of a message: each field, the labels of each name, and the RDATA of each record.
+//! Reads all of a message: each field, the labels of each name, and the RDATA of each record, also
+//! as fields.
 use dns_code::Rtype;
 use dns_data::{A, Cname, Ns};
+use dns_fields::{Field, FieldData, Value};
 use dns_item::{ParsedRecord, Question};
 use dns_read::{Message, RecordSection};
 use dns_wire::ParsedName;
@@ -38,18 +40,48 @@ fn data_sum(record: &ParsedRecord<'_>) -> Option<u64> {
     }
 }
 
-fn record_sum(record: &ParsedRecord<'_>) -> Option<u64> {
+/// A number is itself, a name its labels and octets, and any other field its number of octets.
+fn field_sum(field: &Field<'_>) -> u64 {
+    match field.value() {
+        Value::Number(number) => number,
+        Value::RecordType(rtype) => u64::from(rtype.to_int()),
+        Value::Name(name) => name_sum(&name),
+        Value::Ipv4(octets)
+        | Value::Ipv6(octets)
+        | Value::String(octets)
+        | Value::Sized(octets)
+        | Value::Octets(octets) => octets.len() as u64,
+    }
+}
+
+/// What the fields of RDATA add to the sum. `None` if it is malformed.
+#[inline(never)]
+fn fields_sum(record: ParsedRecord<'_>) -> Option<u64> {
+    let read = record.to_any_record::<FieldData<'_>>().ok()?;
+    let mut sum = 0u64;
+    for field in read.data().fields() {
+        sum = sum.wrapping_add(field_sum(&field));
+    }
+    Some(sum)
+}
+
+fn record_sum(record: &ParsedRecord<'_>, fields: bool) -> Option<u64> {
     let header = name_sum(&record.owner())
         .wrapping_add(u64::from(record.rtype().to_int()))
         .wrapping_add(u64::from(record.class().to_int()))
         .wrapping_add(u64::from(record.ttl().as_secs()));
-    Some(header.wrapping_add(data_sum(record)?))
+    let data = if fields {
+        fields_sum(*record)?
+    } else {
+        data_sum(record)?
+    };
+    Some(header.wrapping_add(data))
 }
 
-fn section_sum(section: &mut RecordSection<'_>) -> Option<u64> {
+fn section_sum(section: &mut RecordSection<'_>, fields: bool) -> Option<u64> {
     let mut sum = 0u64;
     for record in section {
-        sum = sum.wrapping_add(record_sum(&record.ok()?)?);
+        sum = sum.wrapping_add(record_sum(&record.ok()?, fields)?);
     }
     Some(sum)
 }
@@ -67,8 +99,9 @@ fn header_sum(message: &Message<&[u8]>) -> u64 {
         .wrapping_add(u64::from(counts.arcount()))
 }
 
-/// The sum of all fields of a message. `None` if something can't be read.
-pub(crate) fn walk(octets: &[u8]) -> Option<u64> {
+/// The sum of all fields of a message, also of those of RDATA if `fields`. `None` if something can't
+/// be read.
+pub(crate) fn walk(octets: &[u8], fields: bool) -> Option<u64> {
     let message = Message::from_slice(octets).ok()?;
     let mut sum = header_sum(&message);
     let mut questions = message.question();
@@ -77,7 +110,7 @@ pub(crate) fn walk(octets: &[u8]) -> Option<u64> {
     }
     let mut section = questions.answer().ok()?;
     for _ in 0..3 {
-        sum = sum.wrapping_add(section_sum(&mut section)?);
+        sum = sum.wrapping_add(section_sum(&mut section, fields)?);
         let Some(next) = section.next_section().ok()? else {
             break;
         };

@@ -3,6 +3,8 @@ use dns_code::Rtype;
 use dns_data::{ComposeRecordData, ParseAnyRecordData};
 use dns_fields::FieldData;
 use dns_wire::Parser;
+use std::alloc::Global;
+use std::process::Abort;
 use std::test::Fail;
 
 /// RDATA with names in upper case: its type, its octets, and these in canonical form.
@@ -46,37 +48,34 @@ const LOWERED: &[Row] = &[
 ];
 
 /// The names keep their letter case: types of later RFCs, and NSEC.
-const KEPT: &[(u16, &[u8])] = &[
-    (47, b"\x01A\x00\x00\x01\x40"),
-    (58, b"\x01A\x00\x01B\x00"),
-    (64, b"\x00\x01\x01A\x00"),
-    (65, b"\x00\x01\x01A\x00"),
-    (107, b"\x00\x01\x01A\x00"),
-    (45, b"\x0A\x03\x02\x01A\x00KEY"),
-    (260, b"\x0A\x03\x01A\x00"),
-    (65280, b"\x01A\x00"),
+const KEPT: &[Row] = &[
+    (47, b"\x01A\x00\x00\x01\x40", b"\x01A\x00\x00\x01\x40"),
+    (58, b"\x01A\x00\x01B\x00", b"\x01A\x00\x01B\x00"),
+    (64, b"\x00\x01\x01A\x00", b"\x00\x01\x01A\x00"),
+    (65, b"\x00\x01\x01A\x00", b"\x00\x01\x01A\x00"),
+    (107, b"\x00\x01\x01A\x00", b"\x00\x01\x01A\x00"),
+    (45, b"\x0A\x03\x02\x01A\x00KEY", b"\x0A\x03\x02\x01A\x00KEY"),
+    (260, b"\x0A\x03\x01A\x00", b"\x0A\x03\x01A\x00"),
+    (65280, b"\x01A\x00", b"\x01A\x00"),
 ];
 
 #[test]
 fn lowers_names(rt: HostRuntime) -> Result<(), Fail> {
-    for (rtype, octets, canonical) in LOWERED {
-        let mut parser = Parser::new(octets);
-        let data = FieldData::parse_any_rdata(Rtype::from_int(*rtype), &mut parser)?;
-        let mut target = Vec::new(rt.alloc());
-        data.compose_canonical_rdata(&mut target)?;
-        assert_eq!(rt; target.as_slice(), *canonical, "type {rtype}");
-    }
-    Ok(())
+    check(&rt, rt.alloc(), LOWERED)
 }
 
 #[test]
 fn keeps_the_letter_case(rt: HostRuntime) -> Result<(), Fail> {
-    for (rtype, octets) in KEPT {
+    check(&rt, rt.alloc(), KEPT)
+}
+
+fn check(rt: &impl Abort, alloc: Global, rows: &[Row]) -> Result<(), Fail> {
+    for (rtype, octets, canonical) in rows {
         let mut parser = Parser::new(octets);
         let data = FieldData::parse_any_rdata(Rtype::from_int(*rtype), &mut parser)?;
-        let mut target = Vec::new(rt.alloc());
+        let mut target = Vec::new(alloc);
         data.compose_canonical_rdata(&mut target)?;
-        assert_eq!(rt; target.as_slice(), *octets, "type {rtype}");
+        assert!(rt; target.as_slice() == *canonical, "type {rtype}");
     }
     Ok(())
 }

@@ -1,12 +1,15 @@
 //! Tests of RDATA as fields. The rows are examples of the RFCs, or have their form; the expected
 //! values come from outside this library.
 //!
-//! Nothing is exported. `rows` has well-formed RDATA, `row` compares a row with what is read, and
-//! `malformed` has octets that aren't RDATA. A failure prints the row.
+//! Nothing is exported. `hosts`, `security` and `services` have three rows or more for each type,
+//! which `rows` reads, cuts at each octet, and writes. `malformed` has octets that aren't RDATA. A
+//! failure prints the name of the row.
 #![tactic(auto)]
 
 #[cfg(test)]
 mod canonical;
+#[cfg(test)]
+mod hosts;
 #[cfg(test)]
 mod long;
 #[cfg(test)]
@@ -18,6 +21,8 @@ mod owned;
 #[cfg(test)]
 mod pointers;
 #[cfg(test)]
-mod row;
-#[cfg(test)]
 mod rows;
+#[cfg(test)]
+mod security;
+#[cfg(test)]
+mod services;

@@ -1,5 +1,5 @@
 //! RDATA of 65,535 octets, and of one octet more.
-use crate::row::error_of;
+use crate::rows::error_of;
 use dns_code::Rtype;
 use dns_data::{ComposeRecordData, ParseAnyRecordData};
 use dns_fields::FieldData;

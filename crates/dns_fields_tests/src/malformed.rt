@@ -1,5 +1,5 @@
 //! Octets that aren't RDATA of their type: what is wrong with them, the type, and the octets.
-use crate::row::error_of;
+use crate::rows::error_of;
 use dns_wire::{ParseError, Parser};
 
 const MALFORMED: &[(&str, u16, &[u8])] = &[
@@ -101,6 +101,42 @@ const MALFORMED: &[(&str, u16, &[u8])] = &[
         b"\x0A\x01\xCB\x00\x71\x0F\x00",
     ),
     ("a host identity of three octets", 55, b"\x00\x02\x00"),
+    (
+        "a hash past the end",
+        50,
+        b"\x01\x00\x00\x0C\x01\xAA\x04\x01\x02\x03",
+    ),
+    (
+        "a bit map of NSEC3 with an empty block",
+        50,
+        b"\x01\x00\x00\x0C\x00\x01\xAA\x00\x00",
+    ),
+    (
+        "a bit map of CSYNC with windows out of order",
+        62,
+        b"\x00\x00\x00\x01\x00\x03\x02\x01\x40\x01\x01\x40",
+    ),
+    (
+        "a parameter of HTTPS twice",
+        65,
+        b"\x00\x01\x00\x00\x03\x00\x00\x00\x03\x00\x00",
+    ),
+    ("a string of SPF past the end", 99, b"\x01a\x05abcd"),
+    (
+        "a regexp past the end",
+        35,
+        b"\x00\x01\x00\x02\x01s\x00\x05!a!b",
+    ),
+    (
+        "a mac past the end",
+        250,
+        b"\x00\x00\x00\x00\x00\x00\x00\x00\x00\x00\x03\xAA\xBB",
+    ),
+    (
+        "servers of a host identity without a key",
+        55,
+        b"\x04\x02\x00\x00\xAA",
+    ),
     ("a salt past the end", 51, b"\x01\x00\x00\x0C\x04\xAA\xBB"),
     ("a tag past the end", 257, b"\x00\x05iss"),
     ("a key size past the end", 249, b"\x00AAAAAAAAAAAA\x00\x02A"),

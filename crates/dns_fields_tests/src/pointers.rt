@@ -1,6 +1,6 @@
 //! Names with pointers: read in the types of RFC 1035 section 3.3 and of RFC 3597 section 4, and in
 //! no other type.
-use crate::row::error_of;
+use crate::rows::error_of;
 use dns_code::Rtype;
 use dns_data::{ComposeRecordData, ParseAnyRecordData};
 use dns_fields::FieldData;

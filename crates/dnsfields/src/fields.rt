@@ -1,0 +1,75 @@
+//! What is printed of RDATA: its fields, and its canonical form.
+use dns_code::Rtype;
+use dns_data::{ComposeRecordData, ParseAnyRecordData};
+use dns_fields::{FieldData, Value};
+use dns_read::Message;
+use dns_wire::Parser;
+use std::alloc::Global;
+use std::io;
+use std::io::Write;
+
+/// Prints the fields of RDATA of this type, in a line.
+pub(crate) fn print_fields<W: Write>(writer: &mut W, rtype: u16, octets: &[u8]) -> io::Result<()> {
+    let mut parser = Parser::new(octets);
+    match FieldData::parse_any_rdata(Rtype::from_int(rtype), &mut parser) {
+        Ok(data) => print_values(writer, rtype, &data),
+        Err(error) => writeln!(writer, "{rtype} {error}"),
+    }
+}
+
+/// Prints each field as its name and its value.
+fn print_values<W: Write>(writer: &mut W, rtype: u16, data: &FieldData<'_>) -> io::Result<()> {
+    write!(writer, "{rtype}")?;
+    for field in data.fields() {
+        write!(writer, " {}=", field.name)?;
+        print_value(writer, &field.value())?;
+    }
+    writeln!(writer, "")
+}
+
+/// Prints numbers as decimal digits, and octets as hexadecimal digits.
+fn print_value<W: Write>(writer: &mut W, value: &Value<'_>) -> io::Result<()> {
+    match value {
+        Value::Number(number) => write!(writer, "{number}"),
+        Value::RecordType(rtype) => write!(writer, "{}", rtype.to_int()),
+        Value::Name(name) => write!(writer, "{name}."),
+        Value::Ipv4(octets)
+        | Value::Ipv6(octets)
+        | Value::String(octets)
+        | Value::Sized(octets)
+        | Value::Octets(octets) => print_digits(writer, octets),
+    }
+}
+
+/// Prints octets as hexadecimal digits.
+fn print_digits<W: Write>(writer: &mut W, octets: &[u8]) -> io::Result<()> {
+    for octet in octets {
+        write!(writer, "{octet:02x}")?;
+    }
+    Ok(())
+}
+
+/// Prints the canonical form of the RDATA of each answer, in a line each.
+pub(crate) fn print_canonical<W: Write>(
+    alloc: Global,
+    writer: &mut W,
+    message: &Message<Vec<u8>>,
+) -> io::Result<()> {
+    let Ok(answers) = message.answer() else {
+        return writeln!(writer, "malformed question");
+    };
+    for item in answers.into_records::<FieldData<'_>>() {
+        let Ok(record) = item else {
+            return writeln!(writer, "malformed record");
+        };
+        let mut target = Vec::new(alloc);
+        match record.data().compose_canonical_rdata(&mut target) {
+            Ok(()) => {
+                print_digits(writer, &target)?;
+                writeln!(writer, "")?;
+            }
+            Err(error) => writeln!(writer, "{error}")?,
+        }
+    }
+    Ok(())
+}

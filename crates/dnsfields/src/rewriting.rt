@@ -1,0 +1,31 @@
+//! Messages written again from the fields of their records.
+use dns_build::{AnswerBuilder, CopyRecordsError, MessageBuilder, PushError, copy_records};
+use dns_code::Rcode;
+use dns_fields::FieldData;
+use dns_read::Message;
+use dns_target::TreeCompressor;
+use std::alloc::Global;
+
+/// The message with its header, its question and its records. Leaves out records whose RDATA is
+/// malformed.
+pub(crate) fn rewritten(
+    alloc: Global,
+    message: &Message<Vec<u8>>,
+) -> Result<Message<Vec<u8>>, CopyRecordsError> {
+    let builder = begun(alloc, message)?;
+    let copied = copy_records(message, builder, |record| {
+        record.into_any_record::<FieldData<'_>>().ok()
+    })?;
+    Ok(copied.into_message())
+}
+
+/// A builder with the header of a message and its questions.
+fn begun(
+    alloc: Global,
+    message: &Message<Vec<u8>>,
+) -> Result<AnswerBuilder<TreeCompressor<Vec<u8>>>, PushError> {
+    let target = TreeCompressor::new(alloc, Vec::new(alloc));
+    let mut builder = MessageBuilder::from_target(target)?.start_answer(message, Rcode::NOERROR)?;
+    builder.set_header(message.header());
+    Ok(builder)
+}
