@@ -1,0 +1,148 @@
+-- Fields in presentation format, and record data as a line. RFC 1035 section 5.1; data without a presentation format: RFC 3597 section 5.
+use Rattle.std.specs.Prelude.{ℕ, ◌==◌, ◌^◌, nat_lt, Bool, true, false, if◌then◌else◌, Option, Some, None, option_map, List, [], ◌∷◌, ◌++◌, map, length, codes, decimal}
+use Rattle.std.specs.List.{flat_map}
+use Rattle.std.specs.Option.{option_and_then}
+use Rattle.std.specs.Net.Addr.{segments_of}
+use Rattle.std.specs.Net.Text.{ipv4_text, ipv6_text}
+use Rattle.base64.specs.Engines.{standard}
+use Rattle.base64.specs.GeneralPurpose.{encode_of}
+use Rattle.dns_name.specs.Names.{uncompressed}
+use Rattle.dns_name.specs.NameTexts.{name_text}
+use Rattle.dns_wire.specs.Parts.{Part}
+use Rattle.dns_wire.specs.Parts.Part.{Octets as OctetsPart, CompressibleName, UncompressedName}
+use Rattle.dns_data.specs.Printing.{opaque_text}
+use Rattle.dns_fields.specs.FieldParts.{NamedPart}
+use Rattle.dns_fields_text.specs.ParameterItems.{parameters_of}
+use Rattle.dns_fields_text.specs.PrefixItems.{prefixes_of}
+use Rattle.dns_fields_text.specs.Strings.{strings_of}
+use Rattle.dns_fields.specs.Values.{FieldValue, part_value}
+use Rattle.dns_fields.specs.Values.FieldValue.{Number, RecordType, Ipv4, Ipv6, Name, String, Sized, Octets}
+use Rattle.dns_fields.specs.declared.kind.Kind.{Kind}
+use Rattle.dns_fields.specs.declared.kind.Kind.TheVariants as kinds
+use Rattle.dns_value_text.specs.Addresses.{eui_text, locator_text}
+use Rattle.dns_value_text.specs.Base32.{base32_text}
+use Rattle.dns_value_text.specs.Hex.{hex_text}
+use Rattle.dns_value_text.specs.LocationItems.{location_of, location_text}
+use Rattle.dns_value_text.specs.String.{is_tag, quoted}
+use Rattle.dns_value_text.specs.Time.{time_text}
+use Rattle.dns_fields_text.specs.GatewayTexts.{gateway_text, relay_text, identity_text}
+use Rattle.dns_fields_text.specs.Parameters.{parameter_word}
+use Rattle.dns_fields_text.specs.Prefixes.{prefix_word}
+use Rattle.dns_fields_text.specs.Separated.{all_words, spaced}
+use Rattle.dns_fields_text.specs.TypeMaps.{is_small_map, map_types, octet_types, types_text}
+use Rattle.dns_fields_text.specs.TypeNames.{type_word}
+
+-- the text, if the test holds
+abbrev pub text_if : Bool → List ℕ → Option (List ℕ)
+text_if test text = if test then Some text else None
+
+-- the text of octets, if there are any
+abbrev pub text_of_any : (List ℕ → List ℕ) → List ℕ → Option (List ℕ)
+text_of_any text [] = None
+text_of_any text (x ∷ xs) = Some (text (x ∷ xs))
+
+-- a salt: hexadecimal digits, or a hyphen if there are no octets. RFC 5155 section 3.3
+abbrev pub salt_text : List ℕ → List ℕ
+salt_text [] = codes "-"
+salt_text (x ∷ xs) = hex_text (x ∷ xs)
+
+-- the number of octets, and the octets in base64 if there are any
+abbrev pub sized_text : List ℕ → List ℕ
+sized_text [] = codes "0"
+sized_text (x ∷ xs) = decimal (length (x ∷ xs)) ++ codes " " ++ encode_of standard (x ∷ xs)
+
+-- character strings in quotes, separated by spaces
+abbrev pub strings_text : List ℕ → List ℕ
+strings_text octets = spaced (map quoted (strings_of octets))
+
+-- service parameters, each after a space
+abbrev pub parameters_text : List ℕ → List ℕ
+parameters_text octets = flat_map (λ item. codes " " ++ parameter_word item) (parameters_of octets)
+
+-- address prefixes, separated by spaces; none if one has no presentation format
+abbrev pub prefixes_text : List ℕ → Option (List ℕ)
+prefixes_text octets = option_map spaced (all_words (map prefix_word (prefixes_of octets)))
+
+-- octets of a field of this kind; none if they have no presentation format. Texts of types, parameters, gateways and relays begin with a space
+abbrev pub octets_text : Kind → List ℕ → Option (List ℕ)
+octets_text kinds.Eui48 octets = Some (eui_text octets)
+octets_text kinds.Eui64 octets = Some (eui_text octets)
+octets_text kinds.Locator64 octets = text_if (length octets == 8) (locator_text octets)
+octets_text kinds.Location octets = option_map location_text (location_of octets)
+octets_text kinds.Strings octets = Some (strings_text octets)
+octets_text kinds.Text octets = Some (quoted octets)
+octets_text kinds.Hexadecimal octets = text_of_any hex_text octets
+octets_text kinds.Base64 octets = text_of_any (encode_of standard) octets
+octets_text kinds.TypeBitMap octets = Some (types_text (map_types octets))
+octets_text kinds.SmallTypeBitMap octets = text_if (is_small_map octets) (types_text (octet_types 0 octets))
+octets_text kinds.ServiceParameters octets = Some (parameters_text octets)
+octets_text kinds.AddressPrefixes octets = prefixes_text octets
+octets_text kinds.GatewayAndKey octets = gateway_text octets
+octets_text kinds.Relay octets = relay_text octets
+octets_text kinds.HostIdentity octets = identity_text octets
+octets_text kind octets = None
+
+-- a number, which is a time of 32 bits for some fields. RFC 4034 section 3.2
+abbrev pub number_text : Kind → ℕ → Option (List ℕ)
+number_text kinds.Time n = text_if (nat_lt n (2 ^ 32)) (time_text n)
+number_text kind n = Some (decimal n)
+
+-- a string; strings of some kinds print without quotes
+abbrev pub string_text : Kind → List ℕ → Option (List ℕ)
+string_text kinds.Tag octets = text_if (is_tag octets) octets
+string_text kinds.Salt octets = Some (salt_text octets)
+string_text kinds.Hash octets = text_of_any base32_text octets
+string_text kind octets = Some (quoted octets)
+
+-- addresses of four and of sixteen octets
+abbrev pub ipv4_of : List ℕ → Option (List ℕ)
+ipv4_of octets = text_if (length octets == 4) (ipv4_text octets)
+
+abbrev pub ipv6_of : List ℕ → Option (List ℕ)
+ipv6_of octets = text_if (length octets == 16) (ipv6_text (segments_of octets))
+
+-- a value of a field of this kind; none if it has no presentation format
+abbrev pub value_text : Kind → FieldValue → Option (List ℕ)
+value_text kind (Number n) = number_text kind n
+value_text kind (RecordType rtype) = Some (type_word rtype)
+value_text kind (Ipv4 octets) = ipv4_of octets
+value_text kind (Ipv6 octets) = ipv6_of octets
+value_text kind (Name name) = Some (name_text name ++ codes ".")
+value_text kind (String octets) = string_text kind octets
+value_text kind (Sized octets) = Some (sized_text octets)
+value_text kind (Octets octets) = octets_text kind octets
+
+-- whether the text of a field of this kind begins with a space
+abbrev pub begins_with_space : Kind → Bool
+begins_with_space kinds.TypeBitMap = true
+begins_with_space kinds.SmallTypeBitMap = true
+begins_with_space kinds.ServiceParameters = true
+begins_with_space kinds.GatewayAndKey = true
+begins_with_space kinds.Relay = true
+begins_with_space kind = false
+
+-- the space before a field that follows others, unless its text begins with one
+abbrev pub space_before : Kind → List ℕ → List ℕ
+space_before kind separator = if begins_with_space kind then [] else separator
+
+-- fields, the first after `separator` and each other after a space; none if one has no presentation format
+abbrev pub fields_text : List ℕ → List NamedPart → Option (List ℕ)
+fields_text separator [] = Some []
+fields_text separator (field ∷ fields) =
+    option_and_then (λ text. option_map (λ others. space_before field.kind separator ++ text ++ others) (fields_text (codes " ") fields))
+    (value_text field.kind (part_value field.kind field.part))
+
+-- the octets of a part, uncompressed
+abbrev pub part_octets : Part → List ℕ
+part_octets (OctetsPart octets) = octets
+part_octets (CompressibleName name) = uncompressed name
+part_octets (UncompressedName lowercased name) = uncompressed name
+
+-- the text, else the octets of all parts as of an unknown type
+abbrev pub line_of : Option (List ℕ) → List Part → List ℕ
+line_of (Some text) parts = text
+line_of None parts = opaque_text (flat_map part_octets parts)
+
+-- record data in presentation format
+abbrev pub data_line : List NamedPart → List ℕ
+data_line fields = line_of (fields_text [] fields) (map (λ field. field.part) fields)

@@ -1,0 +1,14 @@
+pub mod Blocks
+pub mod FieldTexts
+pub mod GatewayTexts
+pub mod Items
+pub mod ItemsLeft
+pub mod ParameterItems
+pub mod Parameters
+pub mod PrefixItems
+pub mod Prefixes
+pub mod Separated
+pub mod SmallMaps
+pub mod Strings
+pub mod TypeMaps
+pub mod TypeNames

@@ -1,0 +1,28 @@
+//! Record data of each type of the table of `dns_fields` in presentation format (RFC 1035 section 5.1).
+//! Printing allocates no memory.
+#![tactic(auto)]
+
+mod data_text;
+mod field;
+mod gateway;
+mod parameter;
+mod parameters;
+mod prefix;
+mod prefixes;
+mod record_text;
+mod strings;
+#[cfg(test)]
+mod tests;
+mod type_map;
+mod type_name;
+mod unknown;
+
+pub use data_text::DataText;
+pub use parameter::ParameterText;
+pub use parameters::{Parameter, Parameters};
+pub use prefix::PrefixText;
+pub use prefixes::{AddressPrefix, AddressPrefixes};
+pub use record_text::RecordText;
+pub use strings::Strings;
+pub use type_map::{SmallTypeMap, TypeMap};
+pub use type_name::{TypeName, type_named};

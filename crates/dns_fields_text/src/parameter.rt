@@ -1,0 +1,223 @@
+//! Service parameters (RFC 9460 sections 2.1, 2.2 and 7; dohpath: RFC 9461 section 5; ohttp: RFC 9540
+//! section 4).
+ghost use Rattle.std.specs.Prelude.{◌≡◌, ◌++◌, Some, codes, option_map, true};
+ghost use Rattle.std.specs.Fmt.{WritesOnOk};
+ghost use Rattle.dns_fields_text.specs.Parameters.{are_protocols, has_named_value, ipv4_hints, ipv6_hints, is_bare, key_name, key_word, keys_text, named_value, parameter_word, port_text, protocols};
+ghost use Rattle.dns_fields_text.specs.ItemsLeft.{parameter_item};
+
+use crate::parameters::Parameter;
+use crate::strings::Strings;
+use base64::display::Base64Display;
+use base64::engine::general_purpose::STANDARD;
+use dns_value_text::Quoted;
+use std::fmt;
+use std::net::{Ipv4Addr, Ipv6Addr};
+
+/// A service parameter that prints by the name of its key if the value is well-formed for that key,
+/// else by the number of the key.
+#[derive(Clone, Copy, Debug)]
+pub struct ParameterText<'a>(pub Parameter<'a>);
+
+/// The name of a key.
+pub(crate) fn name_of(key: u16) -> Option<&'static str>
+    ensures { option_map (λ text. text.now) result ≡ key_name key }
+{
+    match key {
+        0 => Some("mandatory"),
+        1 => Some("alpn"),
+        2 => Some("no-default-alpn"),
+        3 => Some("port"),
+        4 => Some("ipv4hint"),
+        5 => Some("ech"),
+        6 => Some("ipv6hint"),
+        7 => Some("dohpath"),
+        8 => Some("ohttp"),
+        _ => None,
+    }
+}
+
+/// Prints a key: its name, else `key` and its number.
+fn write_key<W: fmt::Write>(f: &mut fmt::Formatter<W>, key: u16) -> fmt::Result
+    ensures { WritesOnOk W.write_str_gives f.old result (key_word key) f.new }
+{
+    match name_of(key) {
+        Some(name) => f.write_str(name),
+        None => write!(f, "key{key}"),
+    }
+}
+
+/// Prints keys, separated by commas.
+fn write_keys<W: fmt::Write>(f: &mut fmt::Formatter<W>, value: &[u8]) -> fmt::Result
+    ensures { WritesOnOk W.write_str_gives f.old result (keys_text value.now) f.new }
+{
+    let mut separator = "";
+    let mut left = value;
+    'keys: while let [high, low, after @ ..] = left {
+        f.write_str(separator)?;
+        write_key(f, u16::from(*high) * 256 + u16::from(*low))?;
+        separator = ",";
+        left = after;
+    }
+    Ok(())
+}
+
+/// Prints IPv4 addresses, separated by commas.
+fn write_ipv4_hints<W: fmt::Write>(f: &mut fmt::Formatter<W>, value: &[u8]) -> fmt::Result
+    ensures { WritesOnOk W.write_str_gives f.old result (ipv4_hints value.now) f.new }
+{
+    let mut separator = "";
+    let mut left = value;
+    'addresses: while let [a, b, c, d, after @ ..] = left {
+        f.write_str(separator)?;
+        write!(f, "{}", Ipv4Addr::from([*a, *b, *c, *d]))?;
+        separator = ",";
+        left = after;
+    }
+    Ok(())
+}
+
+/// Prints IPv6 addresses, separated by commas.
+fn write_ipv6_hints<W: fmt::Write>(f: &mut fmt::Formatter<W>, value: &[u8]) -> fmt::Result
+    ensures { WritesOnOk W.write_str_gives f.old result (ipv6_hints value.now) f.new }
+{
+    let mut separator = "";
+    for octets in value.chunks_exact(16) {
+        let Ok(address) = <[u8; 16]>::try_from(octets) else {
+            return Err(fmt::Error);
+        };
+        f.write_str(separator)?;
+        write!(f, "{}", Ipv6Addr::from(address))?;
+        separator = ",";
+    }
+    Ok(())
+}
+
+/// Whether an octet of a protocol name needs no escape in a list in quotes.
+fn is_bare(octet: u8) -> bool
+    ensures { result ≡ is_bare octet }
+{
+    matches!(octet, 0x20..=0x7e) && !matches!(octet, b'"' | b'\\' | b',')
+}
+
+/// Whether the octets are protocol names after their lengths, none of which is empty or needs an
+/// escape.
+fn are_protocols(value: &[u8]) -> bool
+    ensures { result ≡ are_protocols value.now }
+{
+    let mut name_left = 0;
+    for octet in value {
+        if name_left == 0 {
+            name_left = *octet;
+            if *octet == 0 {
+                return false;
+            }
+        } else if is_bare(*octet) {
+            name_left -= 1;
+        } else {
+            return false;
+        }
+    }
+    name_left == 0 && !value.is_empty()
+}
+
+/// Prints octets as they are.
+fn write_plain<W: fmt::Write>(f: &mut fmt::Formatter<W>, octets: &[u8]) -> fmt::Result
+    ensures { WritesOnOk W.write_str_gives f.old result octets.now f.new }
+{
+    for octet in octets {
+        f.write_char(char::from(*octet))?;
+    }
+    Ok(())
+}
+
+/// Prints protocol names, separated by commas.
+fn write_protocols<W: fmt::Write>(f: &mut fmt::Formatter<W>, value: &[u8]) -> fmt::Result
+    requires { are_protocols value.now ≡ true }
+    ensures { WritesOnOk W.write_str_gives f.old result (protocols value.now) f.new }
+{
+    let mut separator = "";
+    for name in Strings::new(value) {
+        f.write_str(separator)?;
+        write_plain(f, name)?;
+        separator = ",";
+    }
+    Ok(())
+}
+
+/// Whether the value is well-formed for the name of its key.
+fn has_named_value(key: u16, value: &[u8]) -> bool
+    ensures { result ≡ has_named_value key value.now }
+{
+    match key {
+        0 => !value.is_empty() && value.len() % 2 == 0,
+        1 => are_protocols(value),
+        2 | 8 => value.is_empty(),
+        3 => value.len() == 2,
+        4 => !value.is_empty() && value.len() % 4 == 0,
+        5 => !value.is_empty(),
+        6 => !value.is_empty() && value.len() % 16 == 0,
+        _ => key == 7,
+    }
+}
+
+/// Prints the value of a key with a name, after an equals sign; nothing if the key has no value.
+fn write_named_value<W: fmt::Write>(
+    f: &mut fmt::Formatter<W>,
+    key: u16,
+    value: &[u8],
+) -> fmt::Result
+    requires { has_named_value key value.now ≡ true }
+    ensures { WritesOnOk W.write_str_gives f.old result (named_value key value.now) f.new }
+{
+    if key == 2 || key == 8 {
+        return Ok(());
+    }
+    f.write_char('=')?;
+    match key {
+        0 => write_keys(f, value),
+        1 => write_alpn(f, value),
+        3 => write_port(f, value),
+        4 => write_ipv4_hints(f, value),
+        5 => write!(f, "{}", Base64Display::new(value, &STANDARD)),
+        6 => write_ipv6_hints(f, value),
+        _ => write!(f, "{}", Quoted(value)),
+    }
+}
+
+/// Prints a number of two octets.
+fn write_port<W: fmt::Write>(f: &mut fmt::Formatter<W>, value: &[u8]) -> fmt::Result
+    ensures { WritesOnOk W.write_str_gives f.old result (port_text value.now) f.new }
+{
+    match value {
+        [high, low] => write!(f, "{}", u16::from(*high) * 256 + u16::from(*low)),
+        _ => Ok(()),
+    }
+}
+
+/// Prints protocol names in quotes.
+fn write_alpn<W: fmt::Write>(f: &mut fmt::Formatter<W>, value: &[u8]) -> fmt::Result
+    requires { are_protocols value.now ≡ true }
+    ensures { WritesOnOk W.write_str_gives f.old result
+        (codes "\"" ++ protocols value.now ++ codes "\"") f.new }
+{
+    f.write_char('"')?;
+    write_protocols(f, value)?;
+    f.write_char('"')
+}
+
+impl fmt::Display for ParameterText<'_> {
+    ghost output = { λ text. Some (parameter_word (parameter_item text.0)) };
+
+    fn fmt<W: fmt::Write>(&self, f: &mut fmt::Formatter<W>) -> fmt::Result {
+        let Parameter { key, value } = self.0;
+        if has_named_value(key, value) {
+            write_key(f, key)?;
+            return write_named_value(f, key, value);
+        }
+        write!(f, "key{key}")?;
+        if value.is_empty() {
+            return Ok(());
+        }
+        write!(f, "={}", Quoted(value))
+    }
+}

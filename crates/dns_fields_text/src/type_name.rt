@@ -1,0 +1,55 @@
+//! Record types as words (RFC 3597 section 5).
+ghost use Rattle.std.specs.Prelude.{Some, ◌≡◌, option_map};
+ghost use Rattle.dns_fields_text.specs.TypeNames.{mnemonic, mnemonic_in, type_word};
+
+use dns_fields::{Kind, TABLE};
+use dns_number::Rtype;
+use std::fmt;
+
+/// A record type that prints as its mnemonic in the table of `dns_fields`, else as `Rtype` does.
+#[derive(Clone, Copy, Debug, PartialEq, Eq)]
+pub struct TypeName(pub Rtype);
+
+/// A record type of the table: its number, its mnemonic and its fields.
+type Row = (u16, &'static str, &'static [(&'static str, Kind)]);
+
+/// The mnemonic of a record type in rows of the table.
+fn mnemonic_in(rows: &[Row], rtype: u16) -> Option<&'static str>
+    ensures { option_map (λ text. text.now) result ≡ mnemonic_in rows.now rtype }
+{
+    for (known, mnemonic, _) in rows {
+        if *known == rtype {
+            return Some(mnemonic);
+        }
+    }
+    None
+}
+
+/// The mnemonic of a record type of the table.
+#[tactic(auto, unfolding(crate::specs::TypeNames::mnemonic))]
+fn mnemonic_of(rtype: u16) -> Option<&'static str>
+    ensures { option_map (λ text. text.now) result ≡ mnemonic rtype }
+{
+    mnemonic_in(TABLE, rtype)
+}
+
+/// The record type of the table with this mnemonic, ignoring ASCII case.
+pub fn type_named(word: &str) -> Option<Rtype> {
+    for (number, mnemonic, _) in TABLE {
+        if mnemonic.eq_ignore_ascii_case(word) {
+            return Some(Rtype::from_int(*number));
+        }
+    }
+    None
+}
+
+impl fmt::Display for TypeName {
+    ghost output = { λ name. Some (type_word name.0) };
+
+    fn fmt<W: fmt::Write>(&self, f: &mut fmt::Formatter<W>) -> fmt::Result {
+        match mnemonic_of(self.0.to_int()) {
+            Some(mnemonic) => f.write_str(mnemonic),
+            None => write!(f, "{}", self.0),
+        }
+    }
+}
