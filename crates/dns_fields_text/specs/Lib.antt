@@ -7,6 +7,7 @@ pub mod ParameterItems
 pub mod Parameters
 pub mod PrefixItems
 pub mod Prefixes
+pub mod RecordTexts
 pub mod Separated
 pub mod SmallMaps
 pub mod Strings

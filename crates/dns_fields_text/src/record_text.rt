@@ -11,6 +11,10 @@ use std::fmt;
 pub struct RecordText<'r, 'a, N>(pub &'r Record<N, FieldData<'a>>);
 
 impl<N: fmt::Display> fmt::Display for RecordText<'_, '_, N> {
+    ghost use Rattle.dns_fields_text.specs.RecordTexts.{fields_record_text};
+
+    ghost output = { λ text. fields_record_text N.output text.0.now };
+
     fn fmt<W: fmt::Write>(&self, f: &mut fmt::Formatter<W>) -> fmt::Result {
         let record = self.0;
         write!(f, "{}. {}", record.owner(), record.ttl().as_secs())?;

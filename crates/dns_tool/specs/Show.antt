@@ -93,7 +93,7 @@ text_with x parts = record_fields_text (name_text x.entry.owner) x.entry.ttl x.e
 abbrev pub shown_record : EncodedRecord → List ℕ
 shown_record x = text_with x (known_parts x)
 
--- the word that begins each line of a section of records
+-- the word for a section of records
 abbrev pub section_word : Section → List ℕ
 section_word Answer = codes "answer"
 section_word Authority = codes "authority"

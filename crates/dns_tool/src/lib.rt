@@ -24,4 +24,4 @@ mod script_data;
 
 pub use print::print_message;
 pub use program::tool;
-pub use record_lines::{RecordLines, print_records};
+pub use record_lines::{RecordLines, print_records, section_word};

@@ -11,7 +11,7 @@ ghost use Rattle.dns_tool.specs.Show.{header_line, counts_line, line, question_l
 ghost use Rattle.dns_tool.specs.Walk.{SameAnswersFollow};
 
 use crate::known_data::KnownData;
-use crate::record_lines::{RecordLines, print_sections};
+use crate::record_lines::{RecordLines, print_sections, section_word};
 use dns_code::{Header, HeaderCounts};
 use dns_data::UnknownRecordData;
 use dns_item::{ParsedRecord, Question};
@@ -101,17 +101,6 @@ fn print_question<W: Write>(
     }
 }
 
-/// The word that begins each line of a section.
-fn word_of(section: Section) -> &'static str
-    ensures { result.now ≡ section_word section }
-{
-    match section {
-        Section::Answer => "answer",
-        Section::Authority => "authority",
-        Section::Additional => "additional",
-    }
-}
-
 /// The lines of `dnsmsg show` for records.
 struct ShownLines;
 
@@ -128,7 +117,7 @@ impl RecordLines for ShownLines {
         section: Section,
         parsed: Result<ParsedRecord<'_>, ParseError>,
     ) -> io::Result<()> {
-        let word = word_of(section);
+        let word = section_word(section);
         match parsed {
             Ok(parsed) => print_parsed(writer, word, &parsed),
             Err(_) => writeln!(writer, "{word} error"),
@@ -136,7 +125,7 @@ impl RecordLines for ShownLines {
     }
 
     fn print_missing<W: Write>(writer: &mut W, section: Section) -> io::Result<()> {
-        let word = word_of(section);
+        let word = section_word(section);
         writeln!(writer, "{word} missing")
     }
 }

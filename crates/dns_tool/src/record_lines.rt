@@ -1,11 +1,11 @@
 //! Prints each record of a message, as a type says.
-ghost use Rattle.std.specs.Prelude.{OnOk, IfOk};
+ghost use Rattle.std.specs.Prelude.{◌≡◌, OnOk, IfOk};
 ghost use Rattle.std.specs.Io.KnownBytes.{Appends};
 ghost use Rattle.std.specs.List.{flat_map};
 ghost use Rattle.dns_read.specs.Message.{message_octets};
 ghost use Rattle.dns_section.specs.RecordSection.{octets_of, records_left, BeginsSection};
 ghost use Rattle.dns_section.specs.declared.section.Section.TheVariants.{Answer};
-ghost use Rattle.dns_tool.specs.Show.{sections_text};
+ghost use Rattle.dns_tool.specs.Show.{section_word, sections_text};
 ghost use Rattle.dns_tool.specs.Walk.{SameNextFollows};
 
 use dns_item::ParsedRecord;
@@ -107,4 +107,15 @@ fn print_section<'a, L: RecordLines, W: Write>(
         L::print_record(writer, section, parsed)?;
     }
     Ok(readable)
+}
+
+/// The word for a section.
+pub fn section_word(section: Section) -> &'static str
+    ensures { result.now ≡ section_word section }
+{
+    match section {
+        Section::Answer => "answer",
+        Section::Authority => "authority",
+        Section::Additional => "additional",
+    }
 }
