@@ -4,5 +4,4 @@ mod KnownText
 mod OutputLemmas
 mod SectionTexts
 mod ShownHeader
-mod ShownRecords
 mod WalkLemmas

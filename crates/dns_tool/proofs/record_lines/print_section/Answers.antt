@@ -1,6 +1,6 @@
 use Rattle.std.proofs.Common.{arith}
 use Rattle.dns_tool.proofs.theory.PrintedLines.{none_printed, more_printed, all_printed}
-use Rattle.dns_tool.proofs.ShownRecords.{given_read, given_short}
+use Rattle.dns_tool.proofs.theory.ShownRecords.{given_read, given_short}
 use Rattle.dns_tool.proofs.WalkLemmas.{no_record_read, record_read}
 use Rattle.dns_tool.proofs.record_lines.print_section.Goals as goal
 use Rattle.dns_tool.proofs.record_lines.print_section.Goals.{then-is_ok, else-is_ok}
