@@ -1,5 +1,5 @@
 -- The lines of records that were read.
-use Rattle.std.proofs.Common.{◌≡◌, ℕ, List, [], ap, true, false}
+use Rattle.std.proofs.Common.{◌≡◌, [], ap, true, false}
 use Rattle.std.specs.Prelude.{◌==◌, if◌then◌else◌, Some}
 use Rattle.dns_name.specs.NameTexts.{name_text}
 use Rattle.dns_name.specs.ParsedName.{labels}

@@ -1,11 +1,9 @@
 -- The lines of records, and what is known of the RDATA of a record that was read.
-use Rattle.std.proofs.Common.{◌≡◌, ◌∙◌, ℕ, ◌≤◌, List, [], ◌∷◌, ◌++◌, length, length-drop, append_assoc, append-nil, ap, sym, refl, subst, arith, codes, le-leb, IfOk, Some, None, Ok, Err, OnOk, Result}
+use Rattle.std.proofs.Common.{[], ◌≡◌, ◌∙◌, ℕ, ◌≤◌, List, ◌∷◌, ◌++◌, length, length-drop, append_assoc, ap, sym, refl, subst, arith, codes, le-leb, IfOk, Some, None, Ok, Err, Result}
 use Rattle.std.proofs.lemmas.List.{length-take-le}
 use Rattle.std.specs.Fmt.{◌++?◌}
 use Rattle.std.specs.Prelude.{Option, option_map, IsOk}
 use Rattle.std.specs.Option.{option_and_then}
-use Rattle.std.specs.Io.KnownBytes.{Appends}
-use Rattle.std.specs.List.{flat_map}
 use Rattle.dns_name.specs.Names.{Fault, fault_of}
 use Rattle.dns_name.specs.NameTexts.{name_text}
 use Rattle.dns_name.specs.ParsedName.{labels}
@@ -18,23 +16,17 @@ use Rattle.dns_item.specs.Items.{ReadsRecord}
 use Rattle.dns_item.specs.ParsedData.{HasSpan}
 use Rattle.dns_item.specs.ParsedData.IsParsedData.{whole, fault}
 use Rattle.dns_item.proofs.theory.TypedLemmas.{data_is_parsed}
-use Rattle.dns_read.specs.SectionStarts.{start_of}
 use Rattle.dns_item.specs.ParsedRecord.{EncodedRecord, encoded_record, parsed_entry}
 use Rattle.dns_item.specs.declared.parsed_record.ParsedRecord.{ParsedRecord}
-use Rattle.dns_section.specs.RecordSection.{BeginsSection, MovesPastRecord, position, records_left}
+use Rattle.dns_section.specs.RecordSection.{MovesPastRecord, position}
 use Rattle.dns_section.specs.declared.record_section.RecordSection.{RecordSection}
 use Rattle.dns_item.specs.RecordPrinting.{record_fields_text}
 use Rattle.dns_item.specs.RecordReading.{up_to_rdata_end, ReturnsLaidOut, HasData, HasDataFault, IsRecordOf, GivesTaken}
 use Rattle.dns_item.specs.RecordReading.WholeDataFaultAt.{first, left_over}
 use Rattle.dns_item.specs.Record.{owner_of, class_of, ttl_of, data_of}
 use Rattle.dns_item.specs.declared.record.Record.{Record}
-use Rattle.dns_section.specs.RecordsFrom.{records_in}
-use Rattle.dns_section.specs.Sections.{record_count}
-use Rattle.dns_section.specs.declared.section.Section.{Section}
-use Rattle.dns_section.specs.declared.section.Section.TheVariants.{Answer, Authority, Additional}
 use Rattle.std.specs.Result.{result_ok}
-use Rattle.dns_tool.specs.Show.{line, record_line, section_word, section_lines, records_text, IsRead, HasShortData, data_parts}
-use Rattle.dns_tool.proofs.theory.AppendedTexts.{prints_both}
+use Rattle.dns_tool.specs.Show.{line, IsRead, HasShortData, data_parts}
 
 -- a word, a space and a text are printed as a line
 pub printed_item : (word text : List ℕ) → Some word ++? (Some (codes " ") ++? (Some text ++? Some (10 ∷ []))) ≡ Some (line (word ++ codes " " ++ text))
