@@ -1,1 +1,7 @@
+mod FieldsLemmas
 mod ItemLemmas
+mod OctetLemmas
+mod Printing
+mod Splits
+mod StringLemmas
+mod TypeMapLemmas

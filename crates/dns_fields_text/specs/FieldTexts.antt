@@ -1,7 +1,7 @@
--- Fields in presentation format, and record data as a line. RFC 1035 section 5.1; data without a presentation format: RFC 3597 section 5.
+-- Fields in presentation format. RFC 1035 section 5.1.
 use Rattle.std.specs.Prelude.{ℕ, ◌==◌, ◌^◌, nat_lt, Bool, true, false, if◌then◌else◌, Option, Some, None, option_map, List, [], ◌∷◌, ◌++◌, map, length, codes, decimal}
 use Rattle.std.specs.List.{flat_map}
-use Rattle.std.specs.Option.{option_and_then}
+use Rattle.std.specs.Fmt.{◌++?◌}
 use Rattle.std.specs.Net.Addr.{segments_of}
 use Rattle.std.specs.Net.Text.{ipv4_text, ipv6_text}
 use Rattle.base64.specs.Engines.{standard}
@@ -10,7 +10,6 @@ use Rattle.dns_name.specs.Names.{uncompressed}
 use Rattle.dns_name.specs.NameTexts.{name_text}
 use Rattle.dns_wire.specs.Parts.{Part}
 use Rattle.dns_wire.specs.Parts.Part.{Octets as OctetsPart, CompressibleName, UncompressedName}
-use Rattle.dns_data.specs.Printing.{opaque_text}
 use Rattle.dns_fields.specs.FieldParts.{NamedPart}
 use Rattle.dns_fields_text.specs.ParameterItems.{parameters_of}
 use Rattle.dns_fields_text.specs.PrefixItems.{prefixes_of}
@@ -28,7 +27,7 @@ use Rattle.dns_value_text.specs.Time.{time_text}
 use Rattle.dns_fields_text.specs.GatewayTexts.{gateway_text, relay_text, identity_text}
 use Rattle.dns_fields_text.specs.Parameters.{parameter_word}
 use Rattle.dns_fields_text.specs.Prefixes.{prefix_word}
-use Rattle.dns_fields_text.specs.Separated.{all_words, spaced}
+use Rattle.dns_fields_text.specs.Separated.{spaced, spaced_if_all}
 use Rattle.dns_fields_text.specs.TypeMaps.{is_small_map, map_types, octet_types, types_text}
 use Rattle.dns_fields_text.specs.TypeNames.{type_word}
 
@@ -61,7 +60,7 @@ parameters_text octets = flat_map (λ item. codes " " ++ parameter_word item) (p
 
 -- address prefixes, separated by spaces; none if one has no presentation format
 abbrev pub prefixes_text : List ℕ → Option (List ℕ)
-prefixes_text octets = option_map spaced (all_words (map prefix_word (prefixes_of octets)))
+prefixes_text octets = spaced_if_all [] (map prefix_word (prefixes_of octets))
 
 -- octets of a field of this kind; none if they have no presentation format. Texts of types, parameters, gateways and relays begin with a space
 abbrev pub octets_text : Kind → List ℕ → Option (List ℕ)
@@ -125,12 +124,14 @@ begins_with_space kind = false
 abbrev pub space_before : Kind → List ℕ → List ℕ
 space_before kind separator = if begins_with_space kind then [] else separator
 
+-- a field after its space
+abbrev pub field_text : List ℕ → NamedPart → Option (List ℕ)
+field_text separator field = Some (space_before field.kind separator) ++? value_text field.kind (part_value field.kind field.part)
+
 -- fields, the first after `separator` and each other after a space; none if one has no presentation format
 abbrev pub fields_text : List ℕ → List NamedPart → Option (List ℕ)
 fields_text separator [] = Some []
-fields_text separator (field ∷ fields) =
-    option_and_then (λ text. option_map (λ others. space_before field.kind separator ++ text ++ others) (fields_text (codes " ") fields))
-    (value_text field.kind (part_value field.kind field.part))
+fields_text separator (field ∷ fields) = field_text separator field ++? fields_text (codes " ") fields
 
 -- the octets of a part, uncompressed
 abbrev pub part_octets : Part → List ℕ
@@ -138,11 +139,6 @@ part_octets (OctetsPart octets) = octets
 part_octets (CompressibleName name) = uncompressed name
 part_octets (UncompressedName lowercased name) = uncompressed name
 
--- the text, else the octets of all parts as of an unknown type
-abbrev pub line_of : Option (List ℕ) → List Part → List ℕ
-line_of (Some text) parts = text
-line_of None parts = opaque_text (flat_map part_octets parts)
-
--- record data in presentation format
-abbrev pub data_line : List NamedPart → List ℕ
-data_line fields = line_of (fields_text [] fields) (map (λ field. field.part) fields)
+-- the octets of fields
+abbrev pub fields_octets : List NamedPart → List ℕ
+fields_octets fields = flat_map (λ field. part_octets field.part) fields

@@ -1,4 +1,5 @@
 pub mod Blocks
+pub mod DataTexts
 pub mod FieldTexts
 pub mod GatewayTexts
 pub mod Items
@@ -7,7 +8,7 @@ pub mod ParameterItems
 pub mod Parameters
 pub mod PrefixItems
 pub mod Prefixes
-pub mod RecordTexts
+pub mod RecordLines
 pub mod Separated
 pub mod SmallMaps
 pub mod Strings

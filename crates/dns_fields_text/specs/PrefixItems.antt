@@ -12,7 +12,7 @@ pub record PrefixItem : Type 0 where
 -- the prefix at the start of octets, and the octets after it: a family, a size, a bit and a length of seven bits, and that number of octets, or as many as there are
 abbrev pub prefix_at : List ℕ → Option (PrefixItem × List ℕ)
 prefix_at (high ∷ low ∷ size ∷ bits ∷ octets) =
-    let item = record { family = high * 256 + low; size = size; negated = nat_le 128 bits; address = take (bits % 128) octets } in
+    let item : PrefixItem = record { family = high * 256 + low; size = size; negated = nat_le 128 bits; address = take (bits % 128) octets } in
     Some (item, drop (bits % 128) octets)
 prefix_at _ = None
 

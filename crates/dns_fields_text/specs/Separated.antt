@@ -1,6 +1,6 @@
 -- Words with separators.
-use Rattle.std.specs.Prelude.{ℕ, List, [], ◌∷◌, ◌++◌, codes, Option, Some, None, option_map}
-use Rattle.std.specs.Option.{option_and_then}
+use Rattle.std.specs.Prelude.{ℕ, List, [], ◌∷◌, ◌++◌, codes, Option, Some}
+use Rattle.std.specs.Fmt.{◌++?◌}
 
 -- words, the first after `first` and each other after `others`
 abbrev pub separated : List ℕ → List ℕ → List (List ℕ) → List ℕ
@@ -15,7 +15,7 @@ comma_text words = separated [] (codes ",") words
 abbrev pub spaced : List (List ℕ) → List ℕ
 spaced words = separated [] (codes " ") words
 
--- all of these words; none if one has no presentation format
-abbrev pub all_words : List (Option (List ℕ)) → Option (List (List ℕ))
-all_words [] = Some []
-all_words (word ∷ words) = option_and_then (λ first. option_map (λ others. first ∷ others) (all_words words)) word
+-- words with a space between them, the first after `first`; none if one has no presentation format
+abbrev pub spaced_if_all : List ℕ → List (Option (List ℕ)) → Option (List ℕ)
+spaced_if_all first [] = Some []
+spaced_if_all first (word ∷ words) = (Some first ++? word) ++? spaced_if_all (codes " ") words

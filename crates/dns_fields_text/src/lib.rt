@@ -11,8 +11,6 @@ mod prefix;
 mod prefixes;
 mod record_text;
 mod strings;
-#[cfg(test)]
-mod tests;
 mod type_map;
 mod type_name;
 mod unknown;
@@ -25,4 +23,4 @@ pub use prefixes::{AddressPrefix, AddressPrefixes};
 pub use record_text::RecordText;
 pub use strings::Strings;
 pub use type_map::{SmallTypeMap, TypeMap};
-pub use type_name::{TypeName, type_named};
+pub use type_name::TypeName;

@@ -11,14 +11,20 @@ use std::fmt;
 pub struct RecordText<'r, 'a, N>(pub &'r Record<N, FieldData<'a>>);
 
 impl<N: fmt::Display> fmt::Display for RecordText<'_, '_, N> {
-    ghost use Rattle.dns_fields_text.specs.RecordTexts.{fields_record_text};
+    ghost use Rattle.dns_fields_text.specs.RecordLines.{record_line};
 
-    ghost output = { λ text. fields_record_text N.output text.0.now };
+    ghost output = { λ text. record_line N.output text.0.now };
 
     fn fmt<W: fmt::Write>(&self, f: &mut fmt::Formatter<W>) -> fmt::Result {
         let record = self.0;
-        write!(f, "{}. {}", record.owner(), record.ttl().as_secs())?;
-        write!(f, " {} {}", record.class(), TypeName(record.rtype()))?;
-        write!(f, " {}", DataText(record.data()))
+        write!(
+            f,
+            "{}. {} {} {} {}",
+            record.owner(),
+            record.ttl().as_secs(),
+            record.class(),
+            TypeName(record.rtype()),
+            DataText(record.data())
+        )
     }
 }

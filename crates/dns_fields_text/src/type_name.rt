@@ -1,6 +1,6 @@
 //! Record types as words (RFC 3597 section 5).
 ghost use Rattle.std.specs.Prelude.{Some, ◌≡◌, option_map};
-ghost use Rattle.dns_fields_text.specs.TypeNames.{mnemonic, mnemonic_in, type_word};
+ghost use Rattle.dns_fields_text.specs.TypeNames.{mnemonic, mnemonic_in, mnemonics, type_word};
 
 use dns_fields::{Kind, TABLE};
 use dns_number::Rtype;
@@ -15,7 +15,7 @@ type Row = (u16, &'static str, &'static [(&'static str, Kind)]);
 
 /// The mnemonic of a record type in rows of the table.
 fn mnemonic_in(rows: &[Row], rtype: u16) -> Option<&'static str>
-    ensures { option_map (λ text. text.now) result ≡ mnemonic_in rows.now rtype }
+    ensures { option_map (λ text. text.now) result ≡ mnemonic_in (mnemonics rows.now) rtype }
 {
     for (known, mnemonic, _) in rows {
         if *known == rtype {
@@ -26,21 +26,10 @@ fn mnemonic_in(rows: &[Row], rtype: u16) -> Option<&'static str>
 }
 
 /// The mnemonic of a record type of the table.
-#[tactic(auto, unfolding(crate::specs::TypeNames::mnemonic))]
 fn mnemonic_of(rtype: u16) -> Option<&'static str>
     ensures { option_map (λ text. text.now) result ≡ mnemonic rtype }
 {
     mnemonic_in(TABLE, rtype)
-}
-
-/// The record type of the table with this mnemonic, ignoring ASCII case.
-pub fn type_named(word: &str) -> Option<Rtype> {
-    for (number, mnemonic, _) in TABLE {
-        if mnemonic.eq_ignore_ascii_case(word) {
-            return Some(Rtype::from_int(*number));
-        }
-    }
-    None
 }
 
 impl fmt::Display for TypeName {

@@ -13,8 +13,8 @@ use Rattle.dns_fields.specs.FieldData.{type_layout}
 use Rattle.dns_fields.specs.FieldParts.{named_parts}
 use Rattle.dns_fields.specs.Table.{definitions_of}
 use Rattle.dns_fields.specs.declared.field_data.FieldData.{FieldData}
-use Rattle.dns_fields_text.specs.FieldTexts.{data_line}
-use Rattle.dns_fields_text.specs.RecordTexts.{record_text}
+use Rattle.dns_fields_text.specs.DataTexts.{data_text}
+use Rattle.dns_fields_text.specs.RecordLines.{record_text}
 use Rattle.dns_tool.specs.Show.{data_parts}
 use Rattle.dns_lines.specs.ZoneLines.{line_with, rdata_text, record_lines}
 
@@ -29,6 +29,6 @@ module _ (x : EncodedRecord) where
 
   -- the text of a record, by the fields that were read
   pub text_of_fields : (r : Record ParsedName FieldData) → IsRecordOf rtype_of parts_of x.octets x.entry (parts_of (data_of r)) r
-      → record_text (name_text (labels (owner_of r))) (ttl_of r) (class_of r) (rtype_of (data_of r)) (data_line (named_parts (definitions_of (rtype_of (data_of r))) (parts_of (data_of r))))
+      → record_text (name_text (labels (owner_of r))) (ttl_of r) (class_of r) (rtype_of (data_of r)) (data_text (named_parts (definitions_of (rtype_of (data_of r))) (parts_of (data_of r))))
       ≡ record_text (name_text x.entry.owner) x.entry.ttl x.entry.class x.entry.rtype (rdata_text x (Some (parts_of (data_of r))))
-  text_of_fields r is = λ i. record_text (name_text (is i).owner) (is i).ttl (is i).class (is i).rtype (data_line (named_parts (definitions_of (is i).rtype) (parts_of (data_of r))))
+  text_of_fields r is = λ i. record_text (name_text (is i).owner) (is i).ttl (is i).class (is i).rtype (data_text (named_parts (definitions_of (is i).rtype) (parts_of (data_of r))))

@@ -10,13 +10,13 @@ use Rattle.dns_section.specs.declared.section.Section.{Section}
 use Rattle.dns_fields.specs.FieldData.{type_layout}
 use Rattle.dns_fields.specs.FieldParts.{named_parts}
 use Rattle.dns_fields.specs.Table.{definitions_of}
-use Rattle.dns_fields_text.specs.FieldTexts.{data_line}
-use Rattle.dns_fields_text.specs.RecordTexts.{record_text}
+use Rattle.dns_fields_text.specs.DataTexts.{data_text}
+use Rattle.dns_fields_text.specs.RecordLines.{record_text}
 use Rattle.dns_tool.specs.Show.{line, data_parts, section_word, sections_text}
 
 -- RDATA: the fields of its record type if it has these parts, else its octets
 abbrev pub rdata_text : EncodedRecord → Option (List Part) → List ℕ
-rdata_text x (Some parts) = data_line (named_parts (definitions_of x.entry.rtype) parts)
+rdata_text x (Some parts) = data_text (named_parts (definitions_of x.entry.rtype) parts)
 rdata_text x None = opaque_text (drop x.entry.rdata_start (up_to_rdata_end x.octets x.entry))
 
 -- the line of a record, by the parts of its RDATA

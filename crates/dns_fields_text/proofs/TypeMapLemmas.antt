@@ -1,0 +1,58 @@
+-- The types of bit maps.
+use Rattle.std.proofs.Common.{◌≡◌, ◌∙◌, ℕ, zero, suc, ◌+◌, ◌-◌, ◌*◌, ◌%◌, ◌<◌, ◌≤◌, ◌++◌, Bool, true, false, cond, List, [], ◌∷◌, length, take, drop, get_or, ap, sym, refl, arith, leb, eqb, length-drop, Option, Some, None}
+use Rattle.std.proofs.lemmas.Grind.{flat_map-append}
+use Rattle.std.specs.List.{flat_map}
+use Rattle.std.specs.Option.{option_map_or}
+use Rattle.std.specs.Prelude.{not, ◌&&◌}
+use Rattle.dns_fields_text.proofs.ItemLemmas.{IsShrinking, items_of_first, items_of_none}
+use Rattle.dns_fields_text.specs.TypeMaps.{Block, bit_types, block_at, ends_nonzero, map_types, octet_types, types_text}
+use Rattle.dns_fields_text.specs.TypeNames.{type_word}
+
+-- the text of types, and then of others
+pub text_of_types : (xs ys : List ℕ) → types_text (xs ++ ys) ≡ types_text xs ++ types_text ys
+text_of_types xs ys = flat_map-append (λ rtype. 32 ∷ type_word rtype) xs ys
+
+-- the highest bit is set
+pub bit_set : (count first octet : ℕ) → 0 < count → leb 128 octet ≡ true → types_text (bit_types count first octet) ≡ (32 ∷ type_word first) ++ types_text (bit_types (count - 1) (first + 1) (octet % 128 * 2))
+bit_set zero first octet some set = absurd (omega arith)
+bit_set (suc count) first octet some set =
+    let same : count ≡ suc count - 1 = omega arith in
+    rw set (ap (λ n. (32 ∷ type_word first) ++ types_text (bit_types n (first + 1) (octet % 128 * 2))) same)
+
+-- it isn't
+pub bit_clear : (count first octet : ℕ) → 0 < count → leb 128 octet ≡ false → types_text (bit_types count first octet) ≡ types_text (bit_types (count - 1) (first + 1) (octet % 128 * 2))
+bit_clear zero first octet some clear = absurd (omega arith)
+bit_clear (suc count) first octet some clear =
+    let same : count ≡ suc count - 1 = omega arith in
+    rw clear (ap (λ n. types_text (bit_types n (first + 1) (octet % 128 * 2))) same)
+
+-- the octets after a block are fewer
+pub block_shrinks : IsShrinking block_at
+block_shrinks [] after block e = cc
+block_shrinks (window ∷ []) after block e = cc
+block_shrinks (window ∷ size ∷ octets) after block e =
+    let size_of = length-drop size octets in
+    let found : Option (Block × List ℕ) = Some (record { first = window * 256; octets = take size octets }, drop size octets) in
+    elim (leb size 32 && leb size (length octets)) as (λ b. cond b found None ≡ Some (block, after) → length after < suc (suc (length octets))) [
+      | true ↦ λ same. let left : drop size octets ≡ after = ap (λ (o : Option (Block × List ℕ)). option_map_or (λ split. split.1) o []) same in let n = ap length left in omega arith
+      | false ↦ λ none. cc
+    ] e
+
+-- octets that begin with a block: the types of that block, and then those of the octets after it
+pub block_step : (octets : List ℕ) (first : ℕ) (block after : List ℕ) → block_at octets ≡ Some (record { first = first; octets = block }, after)
+    → types_text (map_types octets) ≡ types_text (octet_types first block) ++ types_text (map_types after)
+block_step octets first block after e =
+    ap (λ (bs : List Block). types_text (flat_map (λ b. octet_types b.first b.octets) bs)) (items_of_first block_at block_shrinks octets after (record { first = first; octets = block }) e)
+    ∙ text_of_types (octet_types first block) (map_types after)
+
+-- octets that begin with no block have no types
+pub block_none : (octets : List ℕ) → block_at octets ≡ None → types_text (map_types octets) ≡ []
+block_none octets e = ap (λ (bs : List Block). types_text (flat_map (λ b. octet_types b.first b.octets) bs)) (items_of_none block_at octets e)
+
+-- whether the last octet isn't zero
+pub ends_last : (octets : List ℕ) → 0 < length octets → ends_nonzero octets ≡ not (eqb (get_or octets (length octets - 1) 0) 0)
+ends_last [] some = absurd (omega arith)
+ends_last (x ∷ []) some = refl
+ends_last (x ∷ y ∷ ys) some =
+    let same : suc (length (y ∷ ys) - 1) ≡ length (x ∷ y ∷ ys) - 1 = omega arith in
+    ends_last (y ∷ ys) (omega arith) ∙ ap (λ k. not (eqb (get_or (x ∷ y ∷ ys) k 0) 0)) same

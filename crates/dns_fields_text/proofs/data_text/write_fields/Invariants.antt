@@ -1,0 +1,17 @@
+use Rattle.std.proofs.Common.{[]}
+use Rattle.std.specs.Fmt.{IsPlainFormatter}
+use Rattle.dns_fields.specs.FieldParts.{fields_left}
+use Rattle.dns_fields_text.proofs.Printing.{PrintingIfAll}
+use Rattle.dns_fields_text.specs.DataTexts.{data_fields}
+use Rattle.dns_fields_text.specs.FieldTexts.{fields_text}
+use Rattle.dns_fields_text.proofs.data_text.write_fields.Given as goal
+use denote.Shadow.{shadow}
+use denote.Text.{Utf8}
+
+abbrev pub invariant-loop-field : goal.invariant-loop-field
+invariant-loop-field g l = record {
+  can : (goal.iterator-loop-field g).can_next l.field-iterator;
+  finite : (goal.iterator-loop-field g).is_finite l.field-iterator;
+  utf8 : shadow (Utf8 l.separator);
+  printing : IsPlainFormatter l.fn.f → PrintingIfAll g.W.Write.write_str_gives l.fn.f l.f (fields_text l.separator (fields_left l.field-iterator)) (fields_text [] (data_fields l.fn.«data»));
+}

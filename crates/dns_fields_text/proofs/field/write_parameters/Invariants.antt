@@ -1,0 +1,16 @@
+use Rattle.std.proofs.Common.{codes, ◌++◌}
+use Rattle.std.specs.Fmt.{IsPlainFormatter}
+use Rattle.std.specs.List.{flat_map}
+use Rattle.dns_fields_text.proofs.Printing.{Printing}
+use Rattle.dns_fields_text.specs.FieldTexts.{parameters_text}
+use Rattle.dns_fields_text.specs.ItemsLeft.{parameters_left}
+use Rattle.dns_fields_text.specs.Parameters.{parameter_word}
+use Rattle.dns_fields_text.proofs.field.write_parameters.Given as goal
+
+abbrev pub invariant-loop-parameter : goal.invariant-loop-parameter
+invariant-loop-parameter g l = record {
+  can : (goal.iterator-loop-parameter g).can_next l.parameter-iterator;
+  finite : (goal.iterator-loop-parameter g).is_finite l.parameter-iterator;
+  printing : IsPlainFormatter l.fn.f
+      → Printing g.W.Write.write_str_gives l.fn.f l.f (flat_map (λ item. codes " " ++ parameter_word item) (parameters_left l.parameter-iterator)) (parameters_text l.fn.octets);
+}

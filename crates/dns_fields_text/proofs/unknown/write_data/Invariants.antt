@@ -1,0 +1,16 @@
+use Rattle.std.specs.Fmt.{IsPlainFormatter}
+use Rattle.std.specs.List.{flat_map}
+use Rattle.dns_data.specs.Printing.{hex_octet}
+use Rattle.dns_fields.specs.FieldParts.{fields_left}
+use Rattle.dns_fields_text.proofs.Printing.{Printing}
+use Rattle.dns_fields_text.specs.DataTexts.{data_fields}
+use Rattle.dns_fields_text.specs.FieldTexts.{fields_octets}
+use Rattle.dns_fields_text.proofs.unknown.write_data.Given as goal
+
+abbrev pub invariant-loop-field : goal.invariant-loop-field
+invariant-loop-field g l = record {
+  can : (goal.iterator-loop-field g).can_next l.field-iterator;
+  finite : (goal.iterator-loop-field g).is_finite l.field-iterator;
+  printing : IsPlainFormatter l.fn.f
+      → Printing g.W.Write.write_str_gives l.fn.f l.f (flat_map hex_octet (fields_octets (fields_left l.field-iterator))) (flat_map hex_octet (fields_octets (data_fields l.fn.«data»)));
+}
