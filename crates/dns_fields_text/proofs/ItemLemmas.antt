@@ -20,8 +20,8 @@ same_first item_at n m octets (Some (item, after)) e later = ap (λ items. item 
 none_first : {A : Type 0} (item_at : List ℕ → Option (A × List ℕ)) (n : ℕ) (octets : List ℕ) (o : Option (A × List ℕ)) → item_at octets ≡ o
     → ((item : A) (after : List ℕ) → item_at octets ≡ Some (item, after) → ⊥)
     → by_first item_at n o ≡ []
-none_first item_at n octets None e no = refl
-none_first item_at n octets (Some (item, after)) e no = absurd (no item after e)
+none_first item_at n octets None e never = refl
+none_first item_at n octets (Some (item, after)) e never = absurd (never item after e)
 
 more_count : {A : Type 0} (item_at : List ℕ → Option (A × List ℕ)) → IsShrinking item_at → (n m : ℕ) (octets : List ℕ) → length octets ≤ n → length octets ≤ m
     → items_in item_at n octets ≡ items_in item_at m octets

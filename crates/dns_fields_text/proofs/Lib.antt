@@ -1,7 +1,11 @@
 mod FieldsLemmas
+mod ItemKinds
 mod ItemLemmas
 mod OctetLemmas
+mod PrefixLemmas
 mod Printing
+mod ProtocolLemmas
 mod Splits
 mod StringLemmas
 mod TypeMapLemmas
+mod WordSteps

@@ -5,7 +5,7 @@ use Rattle.std.proofs.lemmas.List.{take_min, drop_min, take_all}
 -- the octets after the first one, as a slice
 pub after_one : (octets : List ℕ) → take (length octets - 1) (drop 1 octets) ≡ drop 1 octets
 after_one [] = refl
-after_one (x ∷ xs) = take_all xs (length (x ∷ xs) - 1) (omega arith)
+after_one (x ∷ xs) = take_all (length (x ∷ xs) - 1) xs (omega arith)
 
 -- at most n octets, and those after them
 pub split_off : (xs ys part left : List ℕ) (n cut : ℕ) → ys ≡ xs → cut ≡ min n (length ys) → part ≡ take cut ys → left ≡ drop cut ys

@@ -2,6 +2,7 @@ pub mod Blocks
 pub mod DataTexts
 pub mod FieldTexts
 pub mod GatewayTexts
+pub mod Groups
 pub mod Items
 pub mod ItemsLeft
 pub mod ParameterItems

@@ -1,11 +1,12 @@
 -- Service parameters. RFC 9460 sections 2.1, 2.2 and 7 and appendix A; dohpath: RFC 9461 section 5; ohttp: RFC 9540 section 4.
 use Rattle.std.specs.Prelude.{ℕ, zero, suc, ◌+◌, ◌*◌, ◌%◌, ◌==◌, ◌&&◌, ◌||◌, not, Bool, true, false, if◌then◌else◌, List, [], ◌∷◌, ◌++◌, map, length, codes, decimal, Option, Some, None, unwrap_or}
-use Rattle.std.specs.Int.{is_in_range}
+use Rattle.std.specs.Int.{from_be_bytes, is_in_range, w16}
 use Rattle.std.specs.Net.Addr.{segments_of}
-use Rattle.std.specs.Net.Text.{dotted_text, ipv6_text}
+use Rattle.std.specs.Net.Text.{ipv4_text, ipv6_text}
 use Rattle.base64.specs.Engines.{standard}
 use Rattle.base64.specs.GeneralPurpose.{encode_of}
 use Rattle.dns_fields_text.specs.Separated.{comma_text}
+use Rattle.dns_fields_text.specs.Groups.{groups}
 use Rattle.dns_fields_text.specs.ParameterItems.{ParameterItem}
 use Rattle.dns_fields_text.specs.Strings.{strings_of}
 use Rattle.dns_value_text.specs.String.{quote, backslash, quoted}
@@ -28,31 +29,16 @@ key_name key =
 abbrev pub key_word : ℕ → List ℕ
 key_word key = unwrap_or (key_name key) (codes "key" ++ decimal key)
 
--- the keys of pairs of octets
-abbrev pub keys_of : List ℕ → List ℕ
-keys_of (high ∷ low ∷ octets) = high * 256 + low ∷ keys_of octets
-keys_of _ = []
-
--- keys, separated by commas
+-- keys of two octets, separated by commas
 abbrev pub keys_text : List ℕ → List ℕ
-keys_text value = comma_text (map key_word (keys_of value))
+keys_text value = comma_text (map (λ key. key_word (from_be_bytes w16 key)) (groups 2 value))
 
--- IPv4 addresses as words: each is four octets
-abbrev pub ipv4_words : List ℕ → List (List ℕ)
-ipv4_words (a ∷ b ∷ c ∷ d ∷ octets) = dotted_text a b c d ∷ ipv4_words octets
-ipv4_words _ = []
-
--- IPv6 addresses as words: each is eight numbers of two octets
-abbrev pub ipv6_words : List ℕ → List (List ℕ)
-ipv6_words (a ∷ b ∷ c ∷ d ∷ e ∷ f ∷ g ∷ h ∷ numbers) = ipv6_text (a ∷ b ∷ c ∷ d ∷ e ∷ f ∷ g ∷ h ∷ []) ∷ ipv6_words numbers
-ipv6_words _ = []
-
--- addresses, separated by commas
+-- addresses of four and of sixteen octets, separated by commas
 abbrev pub ipv4_hints : List ℕ → List ℕ
-ipv4_hints value = comma_text (ipv4_words value)
+ipv4_hints value = comma_text (map ipv4_text (groups 4 value))
 
 abbrev pub ipv6_hints : List ℕ → List ℕ
-ipv6_hints value = comma_text (ipv6_words (segments_of value))
+ipv6_hints value = comma_text (map (λ address. ipv6_text (segments_of address)) (groups 16 value))
 
 -- an octet of a protocol name that needs no escape in a list in quotes
 abbrev pub is_bare : ℕ → Bool
@@ -74,8 +60,7 @@ protocols value = comma_text (strings_of value)
 
 -- a port
 abbrev pub port_text : List ℕ → List ℕ
-port_text (high ∷ low ∷ []) = decimal (high * 256 + low)
-port_text _ = []
+port_text value = decimal (from_be_bytes w16 value)
 
 -- whether the octets are groups of this size, one at least
 abbrev pub are_groups : ℕ → List ℕ → Bool

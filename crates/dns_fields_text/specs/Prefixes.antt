@@ -27,9 +27,14 @@ address_text item =
 abbrev pub has_word : PrefixItem → Bool
 has_word item = if item.family == 1 then fits 4 item else if item.family == 2 then fits 16 item else false
 
+-- an exclamation mark if the prefix is negated
+abbrev pub sign : PrefixItem → List ℕ
+sign item = if item.negated then codes "!" else []
+
+-- the sign, the family, a colon, the address, a slash and the size
+abbrev pub prefix_text : PrefixItem → List ℕ
+prefix_text item = sign item ++ decimal item.family ++ codes ":" ++ address_text item ++ codes "/" ++ decimal item.size
+
 -- the prefix as a word
 abbrev pub prefix_word : PrefixItem → Option (List ℕ)
-prefix_word item =
-    if has_word item
-    then Some ((if item.negated then codes "!" else []) ++ decimal item.family ++ codes ":" ++ address_text item ++ codes "/" ++ decimal item.size)
-    else None
+prefix_word item = if has_word item then Some (prefix_text item) else None

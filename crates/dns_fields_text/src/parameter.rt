@@ -1,14 +1,14 @@
 //! Service parameters (RFC 9460 sections 2.1, 2.2 and 7; dohpath: RFC 9461 section 5; ohttp: RFC 9540
 //! section 4).
-ghost use Rattle.std.specs.Prelude.{◌≡◌, ◌++◌, Some, codes, option_map, true};
+ghost use Rattle.std.specs.Prelude.{◌≡◌, ◌++◌, Some, codes, length, option_map, true};
 ghost use Rattle.std.specs.Fmt.{WritesOnOk};
-ghost use Rattle.dns_fields_text.specs.Parameters.{are_protocols, has_named_value, ipv4_hints, ipv6_hints, is_bare, key_name, key_word, keys_text, named_value, parameter_word, port_text, protocols};
+ghost use Rattle.std.specs.List.{list_all};
+ghost use Rattle.dns_fields_text.specs.Parameters.{are_protocols, has_named_value, ipv4_hints, ipv6_hints, is_bare, key_name, key_word, keys_text, named_value, other_value, parameter_word, port_text, protocols};
 ghost use Rattle.dns_fields_text.specs.ItemsLeft.{parameter_item};
 
+use crate::base64_text::write_base64;
 use crate::parameters::Parameter;
 use crate::strings::Strings;
-use base64::display::Base64Display;
-use base64::engine::general_purpose::STANDARD;
 use dns_value_text::Quoted;
 use std::fmt;
 use std::net::{Ipv4Addr, Ipv6Addr};
@@ -52,9 +52,9 @@ fn write_keys<W: fmt::Write>(f: &mut fmt::Formatter<W>, value: &[u8]) -> fmt::Re
 {
     let mut separator = "";
     let mut left = value;
-    'keys: while let [high, low, after @ ..] = left {
+    'keys: while let Some((key, after)) = left.split_first_chunk::<2>() {
         f.write_str(separator)?;
-        write_key(f, u16::from(*high) * 256 + u16::from(*low))?;
+        write_key(f, u16::from_be_bytes(*key))?;
         separator = ",";
         left = after;
     }
@@ -67,9 +67,9 @@ fn write_ipv4_hints<W: fmt::Write>(f: &mut fmt::Formatter<W>, value: &[u8]) -> f
 {
     let mut separator = "";
     let mut left = value;
-    'addresses: while let [a, b, c, d, after @ ..] = left {
+    'addresses: while let Some((octets, after)) = left.split_first_chunk::<4>() {
         f.write_str(separator)?;
-        write!(f, "{}", Ipv4Addr::from([*a, *b, *c, *d]))?;
+        write!(f, "{}", Ipv4Addr::from(*octets))?;
         separator = ",";
         left = after;
     }
@@ -81,13 +81,12 @@ fn write_ipv6_hints<W: fmt::Write>(f: &mut fmt::Formatter<W>, value: &[u8]) -> f
     ensures { WritesOnOk W.write_str_gives f.old result (ipv6_hints value.now) f.new }
 {
     let mut separator = "";
-    for octets in value.chunks_exact(16) {
-        let Ok(address) = <[u8; 16]>::try_from(octets) else {
-            return Err(fmt::Error);
-        };
+    let mut left = value;
+    'addresses: while let Some((octets, after)) = left.split_first_chunk::<16>() {
         f.write_str(separator)?;
-        write!(f, "{}", Ipv6Addr::from(address))?;
+        write!(f, "{}", Ipv6Addr::from(*octets))?;
         separator = ",";
+        left = after;
     }
     Ok(())
 }
@@ -122,6 +121,7 @@ fn are_protocols(value: &[u8]) -> bool
 
 /// Prints octets as they are.
 fn write_plain<W: fmt::Write>(f: &mut fmt::Formatter<W>, octets: &[u8]) -> fmt::Result
+    requires { list_all is_bare octets.now ≡ true }
     ensures { WritesOnOk W.write_str_gives f.old result octets.now f.new }
 {
     for octet in octets {
@@ -178,7 +178,7 @@ fn write_named_value<W: fmt::Write>(
         1 => write_alpn(f, value),
         3 => write_port(f, value),
         4 => write_ipv4_hints(f, value),
-        5 => write!(f, "{}", Base64Display::new(value, &STANDARD)),
+        5 => write_base64(f, value),
         6 => write_ipv6_hints(f, value),
         _ => write!(f, "{}", Quoted(value)),
     }
@@ -186,12 +186,10 @@ fn write_named_value<W: fmt::Write>(
 
 /// Prints a number of two octets.
 fn write_port<W: fmt::Write>(f: &mut fmt::Formatter<W>, value: &[u8]) -> fmt::Result
+    requires { length value.now ≡ 2 }
     ensures { WritesOnOk W.write_str_gives f.old result (port_text value.now) f.new }
 {
-    match value {
-        [high, low] => write!(f, "{}", u16::from(*high) * 256 + u16::from(*low)),
-        _ => Ok(()),
-    }
+    write!(f, "{}", u16::from_be_bytes([value[0], value[1]]))
 }
 
 /// Prints protocol names in quotes.
@@ -205,6 +203,17 @@ fn write_alpn<W: fmt::Write>(f: &mut fmt::Formatter<W>, value: &[u8]) -> fmt::Re
     f.write_char('"')
 }
 
+/// Prints the value of a parameter by the number of its key, after an equals sign; nothing if it is
+/// empty.
+fn write_other_value<W: fmt::Write>(f: &mut fmt::Formatter<W>, value: &[u8]) -> fmt::Result
+    ensures { WritesOnOk W.write_str_gives f.old result (other_value value.now) f.new }
+{
+    if value.is_empty() {
+        return Ok(());
+    }
+    write!(f, "={}", Quoted(value))
+}
+
 impl fmt::Display for ParameterText<'_> {
     ghost output = { λ text. Some (parameter_word (parameter_item text.0)) };
 
@@ -215,9 +224,6 @@ impl fmt::Display for ParameterText<'_> {
             return write_named_value(f, key, value);
         }
         write!(f, "key{key}")?;
-        if value.is_empty() {
-            return Ok(());
-        }
-        write!(f, "={}", Quoted(value))
+        write_other_value(f, value)
     }
 }

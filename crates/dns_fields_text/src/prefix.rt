@@ -1,6 +1,7 @@
-//! Address prefixes (RFC 3123 sections 4 and 5).
-ghost use Rattle.std.specs.Prelude.{◌≡◌, ◌≤◌, length};
-ghost use Rattle.dns_fields_text.specs.Prefixes.{fits, is_trimmed, padded};
+//! Address prefixes in presentation format (RFC 3123 section 5).
+ghost use Rattle.std.specs.Prelude.{◌≡◌, ◌≤◌, length, true};
+ghost use Rattle.std.specs.Fmt.{WritesOnOk};
+ghost use Rattle.dns_fields_text.specs.Prefixes.{address_text, fits, has_word, is_trimmed, padded, prefix_text, sign};
 ghost use Rattle.dns_fields_text.specs.ItemsLeft.{prefix_item};
 
 use crate::prefixes::AddressPrefix;
@@ -23,9 +24,9 @@ pub struct PrefixText<'a>(pub AddressPrefix<'a>);
 fn is_trimmed(octets: &[u8]) -> bool
     ensures { result ≡ is_trimmed octets.now }
 {
-    match octets.last() {
-        Some(octet) => *octet != 0,
-        None => true,
+    match octets {
+        [] => true,
+        [.., octet] => *octet != 0,
     }
 }
 
@@ -39,14 +40,63 @@ fn fits(prefix: &AddressPrefix<'_>, width: usize) -> bool
         && is_trimmed(prefix.address)
 }
 
-/// Octets, and zeros after them.
-fn padded(octets: &[u8]) -> [u8; 16]
-    requires { length octets.now ≤ 16 }
-    ensures { result ≡ padded 16 octets.now }
+/// Whether the prefix has a presentation format.
+fn has_word(prefix: &AddressPrefix<'_>) -> bool
+    ensures { result ≡ has_word (prefix_item prefix.now) }
 {
-    let mut address = [0; 16];
+    match prefix.family {
+        IPV4 => fits(prefix, 4),
+        IPV6 => fits(prefix, 16),
+        _ => false,
+    }
+}
+
+/// Octets, and zeros after them.
+fn padded<const N: usize>(octets: &[u8]) -> [u8; N]
+    requires { length octets.now ≤ N }
+    ensures { result ≡ padded N octets.now }
+{
+    let mut address = [0; N];
     address[..octets.len()].copy_from_slice(octets);
     address
+}
+
+/// Prints the address.
+fn write_address<W: fmt::Write>(
+    f: &mut fmt::Formatter<W>,
+    prefix: &AddressPrefix<'_>,
+) -> fmt::Result
+    requires { has_word (prefix_item prefix.now) ≡ true }
+    ensures { WritesOnOk W.write_str_gives f.old result (address_text (prefix_item prefix.now))
+        f.new }
+{
+    if prefix.family == IPV4 {
+        write!(f, "{}", Ipv4Addr::from(padded::<4>(prefix.address)))
+    } else {
+        write!(f, "{}", Ipv6Addr::from(padded::<16>(prefix.address)))
+    }
+}
+
+/// An exclamation mark if the prefix is negated.
+fn sign(prefix: &AddressPrefix<'_>) -> &'static str
+    ensures { result.now ≡ sign (prefix_item prefix.now) }
+{
+    if prefix.negated { "!" } else { "" }
+}
+
+/// Prints a prefix that has a presentation format.
+fn write_prefix<W: fmt::Write>(
+    f: &mut fmt::Formatter<W>,
+    prefix: &AddressPrefix<'_>,
+) -> fmt::Result
+    requires { has_word (prefix_item prefix.now) ≡ true }
+    ensures { WritesOnOk W.write_str_gives f.old result (prefix_text (prefix_item prefix.now))
+        f.new }
+{
+    f.write_str(sign(prefix))?;
+    write!(f, "{}:", prefix.family)?;
+    write_address(f, prefix)?;
+    write!(f, "/{}", prefix.size)
 }
 
 impl PrefixText<'_> {
@@ -57,11 +107,7 @@ impl PrefixText<'_> {
     pub fn is_printable(&self) -> bool
         ensures { result ≡ is_some (prefix_word (prefix_item self.now.0)) }
     {
-        match self.0.family {
-            IPV4 => fits(&self.0, 4),
-            IPV6 => fits(&self.0, 16),
-            _ => false,
-        }
+        has_word(&self.0)
     }
 }
 
@@ -71,21 +117,10 @@ impl fmt::Display for PrefixText<'_> {
     ghost output = { λ text. prefix_word (prefix_item text.0) };
 
     fn fmt<W: fmt::Write>(&self, f: &mut fmt::Formatter<W>) -> fmt::Result {
-        if !self.is_printable() {
-            return Err(fmt::Error);
-        }
-        let prefix = &self.0;
-        if prefix.negated {
-            f.write_char('!')?;
-        }
-        write!(f, "{}:", prefix.family)?;
-        let address = padded(prefix.address);
-        if prefix.family == IPV4 {
-            let [a, b, c, d, ..] = address;
-            write!(f, "{}", Ipv4Addr::from([a, b, c, d]))?;
+        if has_word(&self.0) {
+            write_prefix(f, &self.0)
         } else {
-            write!(f, "{}", Ipv6Addr::from(address))?;
+            Err(fmt::Error)
         }
-        write!(f, "/{}", prefix.size)
     }
 }

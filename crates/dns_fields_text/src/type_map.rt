@@ -65,7 +65,7 @@ impl fmt::Display for TypeMap<'_> {
 
     fn fmt<W: fmt::Write>(&self, f: &mut fmt::Formatter<W>) -> fmt::Result {
         let mut left = self.0;
-        'blocks: while let Some((first, block, after)) = split_block(left) {
+        'windows: while let Some((first, block, after)) = split_block(left) {
             write_octets(f, first, block)?;
             left = after;
         }

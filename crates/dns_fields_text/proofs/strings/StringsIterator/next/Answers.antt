@@ -1,11 +1,11 @@
-use Rattle.std.proofs.Common.{ap, length, refl, arith, rules}
-use Rattle.dns_fields_text.proofs.StringLemmas.{string_step}
+use Rattle.std.proofs.Common.{ap, length, arith, rules}
+use Rattle.dns_fields_text.proofs.ItemKinds.{strings_first, cut_at}
 use Rattle.dns_fields_text.proofs.strings.StringsIterator.next.Goals as goal
 
 pub returns-clause-steps : goal.returns-clause-steps
 returns-clause-steps c =
-    string_step c.args.self.now.left.now _ c.split_at.result.0.now c.split_at.result.1.now c.from.result c.min.result c.in-len1-up.len_at_least refl c.from.ensures c.min.ensures c.split_at.ensures.front
-    c.split_at.ensures.back
+    let octets = c.args.self.now.left.now in
+    strings_first octets _ _ _ c.in-len1-up.len_at_least c.from.ensures (cut_at 1 octets _ _ _ _ c.min.ensures c.split_at.ensures.front c.split_at.ensures.back)
 
 pub returns-clause-goes : goal.returns-clause-goes
 returns-clause-goes c =

@@ -4,8 +4,8 @@ use Rattle.dns_fields_text.proofs.Printing.{Printing}
 use Rattle.dns_fields_text.specs.TypeMaps.{map_types, types_text}
 use Rattle.dns_fields_text.proofs.type_map.TypeMapDisplay.fmt.Given as goal
 
-abbrev pub invariant-blocks : goal.invariant-blocks
-invariant-blocks g l = IsPlainFormatter l.fn.f → Printing g.W.Write.write_str_gives l.fn.f l.f (types_text (map_types l.left)) (types_text (map_types l.fn.self.0.now))
+abbrev pub invariant-windows : goal.invariant-windows
+invariant-windows g l = IsPlainFormatter l.fn.f → Printing g.W.Write.write_str_gives l.fn.f l.f (types_text (map_types l.left)) (types_text (map_types l.fn.self.0.now))
 
-abbrev pub decreases-blocks : goal.decreases-blocks
-decreases-blocks g l = length l.left
+abbrev pub decreases-windows : goal.decreases-windows
+decreases-windows g l = length l.left

@@ -1,0 +1,18 @@
+use Rattle.std.proofs.Common.{length, List, ℕ}
+use Rattle.std.specs.Prelude.{codes, map}
+use Rattle.std.specs.Fmt.{IsPlainFormatter}
+use Rattle.std.specs.Net.Text.{ipv4_text}
+use Rattle.dns_fields_text.specs.Groups.{groups}
+use Rattle.dns_fields_text.specs.Parameters.{ipv4_hints}
+use Rattle.dns_fields_text.proofs.WordSteps.{Prints}
+use Rattle.dns_fields_text.proofs.parameter.write_ipv4_hints.Given as goal
+use denote.Shadow.{shadow}
+use denote.Text.{Utf8}
+
+abbrev pub invariant-addresses : goal.invariant-addresses
+invariant-addresses g l =
+    shadow (Utf8 l.separator)
+    × (IsPlainFormatter l.fn.f → Prints g.W.Write.write_str_gives l.fn.f (ipv4_hints l.value) (codes ",") l.separator (map ipv4_text (groups 4 l.left)) l.f)
+
+abbrev pub decreases-addresses : goal.decreases-addresses
+decreases-addresses g l = length l.left
