@@ -2,6 +2,7 @@
 //! Printing allocates no memory.
 #![tactic(auto)]
 
+mod base64_text;
 mod data_text;
 mod field;
 mod gateway;

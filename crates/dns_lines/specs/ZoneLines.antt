@@ -27,14 +27,18 @@ line_with x parts = line (record_text (name_text x.entry.owner) x.entry.ttl x.en
 abbrev pub record_lines : EncodedRecord → List ℕ
 record_lines x = if x.entry.rtype == 41 then [] else line_with x (data_parts x (type_layout x.entry.rtype))
 
+-- the line for a malformed record
+abbrev pub malformed_line : Section → List ℕ
+malformed_line section = codes ";; malformed record in the " ++ section_word section ++ codes " section\n"
+
 -- what is printed for a record of a section, or for its error
 abbrev pub item_lines : Section → Result EncodedRecord Fault → List ℕ
 item_lines section (Ok x) = record_lines x
-item_lines section (Err f) = line (codes ";; malformed record in the " ++ section_word section ++ codes " section")
+item_lines section (Err f) = malformed_line section
 
--- what is printed for a section that has no start
+-- the line for a section that has no start
 abbrev pub missing_line : Section → List ℕ
-missing_line section = line (codes ";; the " ++ section_word section ++ codes " section has no start")
+missing_line section = codes ";; the " ++ section_word section ++ codes " section has no start\n"
 
 -- the lines of all records of a message, whose octets are b
 abbrev pub zone_lines : List ℕ → List ℕ

@@ -4,7 +4,7 @@ ghost use Rattle.std.specs.Io.KnownBytes.{Appends};
 ghost use Rattle.dns_item.specs.ParsedRecord.{encoded_record};
 ghost use Rattle.dns_read.specs.Message.{message_octets};
 ghost use Rattle.dns_tool.specs.Show.{HasShortData, IsRead};
-ghost use Rattle.dns_lines.specs.ZoneLines.{line_with, record_lines, zone_lines};
+ghost use Rattle.dns_lines.specs.ZoneLines.{line_with, malformed_line, record_lines, zone_lines};
 
 use dns_code::Rtype;
 use dns_data::UnknownRecordData;
@@ -48,20 +48,13 @@ impl RecordLines for ZoneLines {
     ) -> io::Result<()> {
         match parsed {
             Ok(parsed) => print_parsed(writer, &parsed),
-            Err(_) => writeln!(
-                writer,
-                ";; malformed record in the {} section",
-                section_word(section)
-            ),
+            Err(_) => print_malformed(writer, section),
         }
     }
 
     fn print_missing<W: Write>(writer: &mut W, section: Section) -> io::Result<()> {
-        writeln!(
-            writer,
-            ";; the {} section has no start",
-            section_word(section)
-        )
+        let word = section_word(section);
+        writeln!(writer, ";; the {word} section has no start")
     }
 }
 
@@ -89,13 +82,19 @@ fn print_opaque<W: Write>(writer: &mut W, parsed: &ParsedRecord<'_>) -> io::Resu
         (line_with (encoded_record parsed.now) None)) }
 {
     let found = parsed.to_any_record::<UnknownRecordData<&[u8]>>().unwrap();
+    let owner = found.owner();
     let ttl = found.ttl().as_secs();
+    let class = found.class();
     let rtype = TypeName(found.rtype());
-    writeln!(
-        writer,
-        "{}. {ttl} {} {rtype} {}",
-        found.owner(),
-        found.class(),
-        found.data()
-    )
+    let octets = found.data();
+    writeln!(writer, "{owner}. {ttl} {class} {rtype} {octets}")
+}
+
+/// Prints that a record is malformed.
+fn print_malformed<W: Write>(writer: &mut W, section: Section) -> io::Result<()>
+    ensures { OnOk result (Appends (W.contents writer.old) (W.contents writer.new)
+        (malformed_line section)) }
+{
+    let word = section_word(section);
+    writeln!(writer, ";; malformed record in the {word} section")
 }
