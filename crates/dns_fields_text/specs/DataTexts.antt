@@ -11,6 +11,10 @@ use Rattle.dns_fields_text.specs.FieldTexts.{fields_octets, fields_text}
 abbrev pub data_fields : FieldData → List NamedPart
 data_fields fields = named_parts (definitions_of (rtype_of fields)) (parts_of fields)
 
--- record data: the words of its fields, else its octets as of an unknown type
+-- fields: their words, else their octets as those of an unknown type
+abbrev pub data_text : List NamedPart → List ℕ
+data_text fields = unwrap_or (fields_text [] fields) (opaque_text (fields_octets fields))
+
+-- record data: the text of its fields
 abbrev pub data_line : FieldData → List ℕ
-data_line fields = unwrap_or (fields_text [] (data_fields fields)) (opaque_text (fields_octets (data_fields fields)))
+data_line fields = data_text (data_fields fields)

@@ -26,6 +26,12 @@ pub mod builder {
 }
 
 /// Record types, classes and codes.
+///
+/// The name of an rcode that IANA has registered, such as `NXDomain`:
+///
+/// ```rust
+/// rcode.registered_name().unwrap_or("unassigned")
+/// ```
 pub mod code {
     pub use dns_code::{Class, Opcode, OptRcode, OptionCode, Rcode, Rtype, class, rtype};
 }
@@ -224,6 +230,14 @@ pub mod target {
 
 /// The parser, buffers of octets, the errors of both, canonical order, and theorems on names
 /// and targets.
+///
+/// The first message on a stream, which is after its length of 16 bits:
+///
+/// ```rust
+/// let mut parser = Parser::new(stream);
+/// let len = parser.parse_u16_be()?;
+/// parser.peek(usize::from(len))
+/// ```
 pub mod wire {
     pub use dns_wire::{
         AppendError, BufferFrom, CanonicalOrd, FlattenInto, FormError, Octets, OctetsFrom,
@@ -231,5 +245,19 @@ pub mod wire {
     };
 }
 
-pub use dns_item::question;
+/// Questions, and their texts.
+///
+/// Whether a question asks for addresses:
+///
+/// ```rust
+/// let qtype = question.qtype();
+/// question.qclass() == Class::IN && (qtype == Rtype::A || qtype == Rtype::AAAA)
+/// ```
+pub mod question {
+    pub use dns_question::question::{
+        ComposeQuestion, FromStrError, PresentationError, PresentationErrorEnum, Question,
+    };
+}
+
+pub use dns_lines::print_zone_lines;
 pub use dns_tool::{print_message, tool};

@@ -1,7 +1,11 @@
 //! The examples of the modules of `dns_message`.
-ghost use Rattle.std.specs.Prelude.{◌≡◌, ◌↔◌, IsTrue, IfOk, IfSome, ◌∷◌, []};
+ghost use Rattle.std.specs.Prelude.{◌≡◌, ◌↔◌, ◌+◌, ◌==◌, ◌&&◌, ◌||◌, IsTrue, IfOk, IfSome, ◌∷◌, [], codes, slice_range, unwrap_or};
+ghost use Rattle.std.specs.Int.{w16};
 ghost use Rattle.std.specs.String.{string_bytes};
 ghost use Rattle.dns_message.specs.Names.{name_labels, Labels, lowered, NameAt, name_text};
+ghost use Rattle.dns_message.specs.Codes.{mnemonic, registered_rcodes};
+ghost use Rattle.dns_message.specs.Wire.{number_at};
+ghost use Rattle.dns_message.specs.Questions.{qtype_of, qclass_of};
 ghost use Rattle.dns_message.specs.Targets.{Tree};
 ghost use Rattle.dns_message.specs.Data.{address_text};
 ghost use Rattle.dns_message.specs.Records.{record_fields_text};
@@ -16,9 +20,10 @@ use dns_message::code::{Class, Rcode, Rtype};
 use dns_message::data::A;
 use dns_message::message::Message;
 use dns_message::name::{Name, ParsedName, ToName, ToNameExt};
+use dns_message::question::Question;
 use dns_message::record::{ComposeRecord, Record, Ttl};
 use dns_message::target::{StaticCompressor, TreeCompressor};
-use dns_message::wire::{Octets, Parser};
+use dns_message::wire::{Octets, ParseError, Parser};
 use std::alloc::{AllocError, Global};
 use std::test::Fail;
 
@@ -147,4 +152,50 @@ fn prints_a_record(rt: HostRuntime) -> Result<(), Fail> {
     let line = address_line(rt.alloc(), owner, A::from_octets(192, 0, 2, 1))?;
     assert_eq!(rt; line.as_str(), "example.com. 3600 IN A 192.0.2.1");
     Ok(())
+}
+
+/// The first message on a stream: the octets after its length, which has 16 bits (RFC 1035 section
+/// 4.2.2).
+fn first_message(stream: &[u8]) -> Result<&[u8], ParseError>
+    ensures { IfOk result (λ message. message.now
+        ≡ slice_range stream.now 2 (2 + number_at w16 stream.now 0)) }
+{
+    let mut parser = Parser::new(stream);
+    let len = parser.parse_u16_be()?;
+    parser.peek(usize::from(len))
+}
+
+#[test]
+fn takes_a_message_off_a_stream(rt: HostRuntime) -> Result<(), Fail> {
+    assert!(rt; first_message(b"\x00\x03abcd")? == b"abc".as_slice());
+    assert_eq!(rt;
+        first_message(b"\x00\x03ab").err(),
+        Some(ParseError::ShortInput)
+    );
+    Ok(())
+}
+
+/// Whether a question asks for addresses: IPv4 or IPv6, of the class IN.
+fn asks_for_addresses<N>(question: &Question<N>) -> bool
+    ensures { result ≡ ((qclass_of question.now == 1)
+        && ((qtype_of question.now == 1) || (qtype_of question.now == 28))) }
+{
+    let qtype = question.qtype();
+    question.qclass() == Class::IN && (qtype == Rtype::A || qtype == Rtype::AAAA)
+}
+
+/// The name of an rcode that IANA has registered, such as `NXDomain`, or else `unassigned`.
+fn rcode_name(rcode: Rcode) -> &'static str
+    ensures { result.now ≡ unwrap_or (mnemonic registered_rcodes rcode) (codes "unassigned") }
+{
+    rcode.registered_name().unwrap_or("unassigned")
+}
+
+#[test]
+fn names_questions_and_codes(rt: HostRuntime) {
+    let name = Name::root_slice();
+    assert!(rt; asks_for_addresses(&Question::new(name, Rtype::AAAA, Class::IN)));
+    assert!(rt; !asks_for_addresses(&Question::new(name, Rtype::A, Class::CH)));
+    assert_eq!(rt; rcode_name(Rcode::NXDOMAIN), "NXDomain");
+    assert_eq!(rt; rcode_name(Rcode::masked_from_int(15)), "unassigned");
 }

@@ -2,6 +2,6 @@ pub mod theory
 mod HexLemmas
 mod KnownText
 mod OutputLemmas
+mod SectionTexts
 mod ShownHeader
-mod ShownRecords
 mod WalkLemmas

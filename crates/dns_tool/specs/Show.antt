@@ -93,7 +93,7 @@ text_with x parts = record_fields_text (name_text x.entry.owner) x.entry.ttl x.e
 abbrev pub shown_record : EncodedRecord → List ℕ
 shown_record x = text_with x (known_parts x)
 
--- the word that begins each line of a section of records
+-- the word for a section of records
 abbrev pub section_word : Section → List ℕ
 section_word Answer = codes "answer"
 section_word Authority = codes "authority"
@@ -112,15 +112,24 @@ abbrev pub record_line : List ℕ → Result EncodedRecord Fault → List ℕ
 record_line word (Ok x) = line (word ++ codes " " ++ shown_record x)
 record_line word (Err f) = line (word ++ codes " error")
 
--- what is printed from a section on: a line for each of its items, then `after`; if it has no start, a line that says it is missing, and nothing more
-abbrev pub section_lines : List ℕ → Section → Option ℕ → List ℕ → List ℕ
-section_lines b section (Some start) after = flat_map (record_line (section_word section)) (records_in b (record_count section b) start) ++ after
-section_lines b section None after = line (section_word section ++ codes " missing")
+-- the line of a section that has no start
+abbrev pub missing_line : Section → List ℕ
+missing_line section = line (section_word section ++ codes " missing")
+
+module _ (item_text : Section → Result EncodedRecord Fault → List ℕ) (missing_text : Section → List ℕ) where
+  -- what is printed from a section on: a text for each of its items, then `after`; if it has no start, a text that says so, and nothing more
+  abbrev pub section_text : List ℕ → Section → Option ℕ → List ℕ → List ℕ
+  section_text b section (Some start) after = flat_map (item_text section) (records_in b (record_count section b) start) ++ after
+  section_text b section None after = missing_text section
+
+  -- the texts of the sections of records, up to the first that has no start
+  abbrev pub sections_text : List ℕ → List ℕ
+  sections_text b =
+      section_text b Answer (start_of Answer b) (section_text b Authority (start_of Authority b) (section_text b Additional (start_of Additional b) []))
 
 -- the lines of the sections of records, up to the first that has no start
 abbrev pub records_text : List ℕ → List ℕ
-records_text b =
-    section_lines b Answer (start_of Answer b) (section_lines b Authority (start_of Authority b) (section_lines b Additional (start_of Additional b) []))
+records_text b = sections_text (λ section. record_line (section_word section)) missing_line b
 
 -- the counts of a message
 abbrev pub counts_of : List ℕ → Counts

@@ -19,7 +19,9 @@ mod output;
 mod print;
 mod program;
 mod record_line;
+mod record_lines;
 mod script_data;
 
 pub use print::print_message;
 pub use program::tool;
+pub use record_lines::{RecordLines, print_records, section_word};

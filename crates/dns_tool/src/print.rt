@@ -7,17 +7,15 @@ ghost use Rattle.dns_code.specs.HeaderCounts.{counts as count_fields};
 ghost use Rattle.dns_item.specs.ParsedRecord.{encoded_record};
 ghost use Rattle.dns_read.specs.Message.{message_octets};
 ghost use Rattle.dns_section.specs.QuestionSection.{question_result, questions_left};
-ghost use Rattle.dns_section.specs.RecordSection.{octets_of, record_result, records_left, BeginsSection};
-ghost use Rattle.dns_section.specs.declared.section.Section.TheVariants.{Answer};
-ghost use Rattle.dns_tool.specs.Show.{header_line, counts_line, line, question_line, record_line, section_word, IsRead, HasShortData, text_with, records_text, message_text};
-ghost use Rattle.dns_tool.specs.Walk.{SameAnswersFollow, SameNextFollows};
+ghost use Rattle.dns_tool.specs.Show.{header_line, counts_line, line, question_line, record_line, section_word, IsRead, HasShortData, text_with, message_text};
+ghost use Rattle.dns_tool.specs.Walk.{SameAnswersFollow};
 
 use crate::known_data::KnownData;
+use crate::record_lines::{RecordLines, print_sections, section_word};
 use dns_code::{Header, HeaderCounts};
 use dns_data::UnknownRecordData;
 use dns_item::{ParsedRecord, Question};
-use dns_read::{Message, QuestionSection, RecordSection, Section};
-use dns_section::following;
+use dns_read::{Message, QuestionSection, Section};
 use dns_wire::{ParseError, ParsedName};
 use std::io;
 use std::io::Write;
@@ -35,8 +33,8 @@ pub fn print_message<W: Write>(writer: &mut W, message: &Message<&[u8]>) -> io::
     print_counts(writer, message.header_counts())?;
     let questions = print_questions(writer, message.question())?;
     match questions.answer() {
-        Ok(answer) => print_sections(writer, answer),
-        Err(_) => print_missing(writer, Section::Answer),
+        Ok(answer) => print_sections::<ShownLines, W>(writer, answer),
+        Err(_) => ShownLines::print_missing(writer, Section::Answer),
     }
 }
 
@@ -103,81 +101,32 @@ fn print_question<W: Write>(
     }
 }
 
-/// Prints the sections of records from the answer section on, up to the first that has no start.
-fn print_sections<W: Write>(writer: &mut W, answer: RecordSection<'_>) -> io::Result<()>
-    requires { BeginsSection Answer (octets_of answer) answer }
-    ensures { OnOk result (Appends (W.contents writer.old) (W.contents writer.new)
-        (records_text (octets_of answer.entry))) }
-{
-    let answer = print_records(writer, Section::Answer, answer)?;
-    let Ok(authority) = following(answer) else {
-        return print_missing(writer, Section::Authority);
-    };
-    let authority = print_records(writer, Section::Authority, authority)?;
-    let Ok(additional) = following(authority) else {
-        return print_missing(writer, Section::Additional);
-    };
-    print_records(writer, Section::Additional, additional)?;
-    Ok(())
-}
+/// The lines of `dnsmsg show` for records.
+struct ShownLines;
 
-/// The word that begins each line of a section.
-fn word_of(section: Section) -> &'static str
-    ensures { result.now ≡ section_word section }
-{
-    match section {
-        Section::Answer => "answer",
-        Section::Authority => "authority",
-        Section::Additional => "additional",
-    }
-}
+impl RecordLines for ShownLines {
+    ghost use Rattle.std.specs.Prelude.{OnOk, IfOk};
+    ghost use Rattle.dns_tool.specs.Show.{record_line, section_word, missing_line};
 
-/// Prints that a section has no start.
-fn print_missing<W: Write>(writer: &mut W, section: Section) -> io::Result<()>
-    ensures { OnOk result (Appends (W.contents writer.old) (W.contents writer.new)
-        (line (section_word section ++ codes " missing"))) }
-{
-    let word = word_of(section);
-    writeln!(writer, "{word} missing")
-}
+    ghost item_text = { λ section. record_line (section_word section) };
 
-/// Prints a line for each record, and one for the error of the first that can't be read. Returns the
-/// cursor after the records that can be read, from which the next section follows.
-fn print_records<'a, W: Write>(
-    writer: &mut W,
-    section: Section,
-    records: RecordSection<'a>,
-) -> io::Result<RecordSection<'a>>
-    ensures printed { OnOk result (Appends (W.contents writer.old) (W.contents writer.new)
-        (flat_map (record_line (section_word section)) (records_left records.entry))) }
-    ensures follows { IfOk result (SameNextFollows records.entry) }
-{
-    let word = word_of(section);
-    let mut records = records;
-    let mut readable = records;
-    while let Some(record) = records.next() {
-        if record.is_ok() {
-            readable = records;
+    ghost missing_text = { missing_line };
+
+    fn print_record<W: Write>(
+        writer: &mut W,
+        section: Section,
+        parsed: Result<ParsedRecord<'_>, ParseError>,
+    ) -> io::Result<()> {
+        let word = section_word(section);
+        match parsed {
+            Ok(parsed) => print_parsed(writer, word, &parsed),
+            Err(_) => writeln!(writer, "{word} error"),
         }
-        print_record(writer, word, record)?;
     }
-    Ok(readable)
-}
 
-/// Prints a line for a record, or for the error of one that can't be read.
-fn print_record<W: Write>(
-    writer: &mut W,
-    word: &str,
-    record: Result<ParsedRecord<'_>, ParseError>,
-) -> io::Result<()>
-    requires read { IfOk «record» (λ r. IsRead (encoded_record r)) }
-    requires short { IfOk «record» (λ r. HasShortData (encoded_record r)) }
-    ensures { OnOk result (Appends (W.contents writer.old) (W.contents writer.new)
-        (record_line word.now (record_result «record».entry))) }
-{
-    match record {
-        Ok(record) => print_parsed(writer, word, &record),
-        Err(_) => writeln!(writer, "{word} error"),
+    fn print_missing<W: Write>(writer: &mut W, section: Section) -> io::Result<()> {
+        let word = section_word(section);
+        writeln!(writer, "{word} missing")
     }
 }
 

@@ -17,11 +17,11 @@ use Rattle.dns_view.specs.Pages.{IsPage}
 use Rattle.dns_view.specs.Printed.{Prints, PrintsEach}
 use Rattle.dns_view.specs.Texts.{IsRowText}
 use Rattle.dns_view.specs.Requests.{asked, Words}
-use Rattle.dns_view.specs.Viewing.{is_digits, AreRowsOf, CanEnd, Gives, HasAsked, IsOdd, IsPrinted, IsViewed, PrintsRows, Reports}
+use Rattle.dns_view.specs.Viewing.{is_digits, AreRowsOf, CanEnd, Gives, HasAsked, IsOdd, IsPrinted, IsViewed, PrintsForm, Reports}
 use Rattle.dns_view.specs.Viewing.IsPrinted.{shown, bad_hex, empty}
 use Rattle.dns_view.specs.Viewing.IsViewed.{help, version, wrong, view}
 use Rattle.dns_view.specs.declared.request.Form.{Form}
-use Rattle.dns_view.specs.declared.request.Form.TheVariants.{Text, Page}
+use Rattle.dns_view.specs.declared.request.Form.TheVariants.{Text, Page, Lines}
 use Rattle.dns_view.specs.declared.request.Request.{Request}
 use Rattle.dns_view.specs.declared.request.Request.TheVariants.{Help, Version, View, Wrong}
 
@@ -32,9 +32,10 @@ appends_kept (Some front) None c xs h k = absurd h
 appends_kept (Some front) (Some bs) None xs h k = absurd k
 appends_kept (Some front) (Some bs) (Some cs) xs h k = k ∙ h
 
-pub rows_kept : (form : Form) (octets : List ℕ) (a b c : Option (List ℕ)) → PrintsRows form octets a b → Keeps b c → PrintsRows form octets a c
-rows_kept Text octets a b c p k = (p.0, p.1, (p.2.0, p.2.1, appends_kept a b c _ p.2.2 k))
-rows_kept Page octets a b c p k = (p.0, p.1, (p.2.0, p.2.1, appends_kept a b c _ p.2.2 k))
+pub form_kept : (form : Form) (octets : List ℕ) (a b c : Option (List ℕ)) → PrintsForm form octets a b → Keeps b c → PrintsForm form octets a c
+form_kept Text octets a b c p k = (p.0, p.1, (p.2.0, p.2.1, appends_kept a b c _ p.2.2 k))
+form_kept Page octets a b c p k = (p.0, p.1, (p.2.0, p.2.1, appends_kept a b c _ p.2.2 k))
+form_kept Lines octets a b c p k = appends_kept a b c _ p k
 
 -- what isn't written to keeps its octets
 pub keeps_same : (a : Option (List ℕ)) → Keeps a a
@@ -43,14 +44,14 @@ keeps_same (Some xs) = refl
 
 module _ {X E : Type 0} (r : Result X E) (octets : List ℕ) {rows given : List Row} (a b : Option (List ℕ)) (are : AreRowsOf octets rows) (same : given ≡ rows) where
   -- rows are printed as text
-  pub text_printed : (form : Form) → form ≡ Text → OnOk r (PrintsEach (IsRowText octets) given a b) → OnOk r (PrintsRows form octets a b)
+  pub text_printed : (form : Form) → form ≡ Text → OnOk r (PrintsEach (IsRowText octets) given a b) → OnOk r (PrintsForm form octets a b)
   text_printed form is h =
-      subst (λ (f : Form). OnOk r (PrintsRows f octets a b)) (sym is) (on_ok r (λ p. (rows, are, subst (λ (xs : List Row). PrintsEach (IsRowText octets) xs a b) same p)) h)
+      subst (λ (f : Form). OnOk r (PrintsForm f octets a b)) (sym is) (on_ok r (λ p. (rows, are, subst (λ (xs : List Row). PrintsEach (IsRowText octets) xs a b) same p)) h)
 
   -- rows are printed as a page
-  pub page_printed_of : (form : Form) → form ≡ Page → OnOk r (Prints (IsPage octets given) a b) → OnOk r (PrintsRows form octets a b)
+  pub page_printed_of : (form : Form) → form ≡ Page → OnOk r (Prints (IsPage octets given) a b) → OnOk r (PrintsForm form octets a b)
   page_printed_of form is h =
-      subst (λ (f : Form). OnOk r (PrintsRows f octets a b)) (sym is) (on_ok r (λ p. (rows, are, subst (λ (xs : List Row). Prints (IsPage octets xs) a b) same p)) h)
+      subst (λ (f : Form). OnOk r (PrintsForm f octets a b)) (sym is) (on_ok r (λ p. (rows, are, subst (λ (xs : List Row). Prints (IsPage octets xs) a b) same p)) h)
 
 -- a message of no octets
 pub given_empty : (input octets : List ℕ) (n : ℕ) → n ≡ length octets → Gives input octets → nat_eq n 0 ≡ true → Gives input []

@@ -4,7 +4,7 @@ use Rattle.std.specs.List.{list_any}
 use Rattle.std.specs.declared.string.String.{String}
 use Rattle.std.specs.declared.alloc.Global.{Global}
 use Rattle.dns_view.specs.declared.request.Form.{Form}
-use Rattle.dns_view.specs.declared.request.Form.TheVariants.{Text, Page}
+use Rattle.dns_view.specs.declared.request.Form.TheVariants.{Text, Page, Lines}
 use Rattle.dns_view.specs.declared.request.Request.{Request}
 use Rattle.dns_view.specs.declared.request.Request.TheVariants as requests
 
@@ -17,6 +17,9 @@ is_version word = bytes_eq word (codes "--version")
 abbrev pub is_html : List ℕ → Bool
 is_html word = bytes_eq word (codes "--html")
 
+abbrev pub is_short : List ℕ → Bool
+is_short word = bytes_eq word (codes "--short")
+
 -- a word that begins with `-` (45) and isn't `-` alone
 abbrev pub is_option : List ℕ → Bool
 is_option word = nat_lt 1 (length word) && (slice_index word 0 == 45)
@@ -27,7 +30,7 @@ is_file word = not (is_option word)
 
 -- an option that the program doesn't know
 abbrev pub is_unknown : List ℕ → Bool
-is_unknown word = is_option word && not (is_help word) && not (is_version word) && not (is_html word)
+is_unknown word = is_option word && not (is_help word) && not (is_version word) && not (is_html word) && not (is_short word)
 
 -- the arguments
 abbrev pub Words : Type 0
@@ -55,13 +58,20 @@ file_after words (Some index) = first_file (drop (index + 1) words)
 abbrev pub second_file : Words → Option (String Global)
 second_file words = file_after words (file_index words)
 
--- the argument that is wrong: the first unknown option, else the second file
+-- `--short` if `--html` is given too
+abbrev pub contrary_option : Words → Option (String Global)
+contrary_option words = if has is_html words then find (λ word. is_short (string_bytes word)) words else None
+
+-- the argument that is wrong: the first unknown option, else the second file, else `--short` beside `--html`
 abbrev pub wrong_word : Words → Option (String Global)
-wrong_word words = if is_some (unknown_option words) then unknown_option words else second_file words
+wrong_word words =
+    if is_some (unknown_option words) then unknown_option words
+    else if is_some (second_file words) then second_file words
+    else contrary_option words
 
 -- what is printed of a message
 abbrev pub form_of : Words → Form
-form_of words = if has is_html words then Page else Text
+form_of words = if has is_html words then Page else if has is_short words then Lines else Text
 
 -- What the arguments ask for: help if one of them does, else the version if one does, else a view if none is wrong.
 abbrev pub asked : Words → Request

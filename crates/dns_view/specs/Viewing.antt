@@ -1,11 +1,12 @@
 -- What `dnsview` does with its arguments and its input.
-use Rattle.std.specs.Prelude.{◌≡◌, ℕ, ◌<◌, ◌≤◌, ◌%◌, ◌||◌, ◌⊎◌, ⊤, Bool, true, List, [], ◌∷◌, ◌++◌, length, MatchBool, Option, Some, None, Ok, codes, string_bytes}
+use Rattle.std.specs.Prelude.{◌≡◌, ℕ, ◌<◌, ◌≤◌, ◌%◌, ◌||◌, ◌⊎◌, ⊤, Bool, true, if◌then◌else◌, nat_lt, List, [], ◌∷◌, ◌++◌, length, MatchBool, Option, Some, None, Ok, codes, string_bytes}
 use Rattle.std.specs.Char.{is_ascii_hexdigit, is_ascii_whitespace}
 use Rattle.std.specs.Io.KnownBytes.{Appends, Keeps}
 use Rattle.std.specs.List.{list_all}
 use Rattle.hex.specs.Hex.{decode_of}
 use Rattle.dns_message.specs.Headers.{header_size}
 use Rattle.dns_tool.specs.Hex.{unspaced}
+use Rattle.dns_lines.specs.ZoneLines.{zone_lines}
 use Rattle.dns_rows.specs.Shown.{short_header, ShowsMessage}
 use Rattle.dns_rows.specs.Tiles.{Tiles}
 use Rattle.dns_rows.specs.declared.row.Row.{Row}
@@ -15,7 +16,7 @@ use Rattle.dns_view.specs.Texts.{IsRowText}
 use Rattle.dns_view.specs.Requests.{asked, wrong_word, Words}
 use Rattle.dns_view.specs.declared.program.TheConstants.{USAGE, HELP, VERSION}
 use Rattle.dns_view.specs.declared.request.Form.{Form}
-use Rattle.dns_view.specs.declared.request.Form.TheVariants.{Text, Page}
+use Rattle.dns_view.specs.declared.request.Form.TheVariants.{Text, Page, Lines}
 use Rattle.dns_view.specs.declared.request.Request.{Request}
 use Rattle.dns_view.specs.declared.request.Request.TheVariants.{Help, Version, View, Wrong}
 use Rattle.std.specs.declared.string.String.{String}
@@ -39,14 +40,19 @@ pub record AreRowsOf (octets : List ℕ) (rows : List Row) : Type 0 where
   pub short : length octets < header_size → rows ≡ short_header (length octets) ∷ []
   pub shows : header_size ≤ length octets → ShowsMessage octets rows
 
--- the rows of octets are printed, all of them and in order, as text or a page
-abbrev pub PrintsRows : Form → List ℕ → Option (List ℕ) → Option (List ℕ) → Type 0
-PrintsRows Text octets old new = (rows : List Row) × AreRowsOf octets rows × PrintsEach (IsRowText octets) rows old new
-PrintsRows Page octets old new = (rows : List Row) × AreRowsOf octets rows × Prints (IsPage octets rows) old new
+-- the lines of a message's records; if the octets are fewer than a header section, a line that says so
+abbrev pub lines_text : List ℕ → List ℕ
+lines_text octets = if nat_lt (length octets) header_size then codes ";; the message has fewer than 12 octets\n" else zone_lines octets
 
--- What is printed for an input to standard output and to standard error, and the exit status: the rows of its message, or else that the number of digits is odd, or that there is no octet.
+-- a message is printed: all of its rows and in order, as text or a page; or the lines of its records
+abbrev pub PrintsForm : Form → List ℕ → Option (List ℕ) → Option (List ℕ) → Type 0
+PrintsForm Text octets old new = (rows : List Row) × AreRowsOf octets rows × PrintsEach (IsRowText octets) rows old new
+PrintsForm Page octets old new = (rows : List Row) × AreRowsOf octets rows × Prints (IsPage octets rows) old new
+PrintsForm Lines octets old new = Appends old new (lines_text octets)
+
+-- What is printed for an input to standard output and to standard error, and the exit status: its message, or else that the number of digits is odd, or that there is no octet.
 pub data IsPrinted (form : Form) (input : List ℕ) (old new errors_old errors_new : Option (List ℕ)) : ℕ → Type 0 where
-  shown : (octets : List ℕ) → Gives input octets → 0 < length octets → PrintsRows form octets old new → Keeps errors_old errors_new → IsPrinted form input old new errors_old errors_new 0
+  shown : (octets : List ℕ) → Gives input octets → 0 < length octets → PrintsForm form octets old new → Keeps errors_old errors_new → IsPrinted form input old new errors_old errors_new 0
   bad_hex : IsOdd input → Keeps old new → Appends errors_old errors_new (codes "dnsview: the number of hexadecimal digits is odd\n") → IsPrinted form input old new errors_old errors_new 1
   empty : Gives input [] → Keeps old new → Appends errors_old errors_new (codes "dnsview: the input is empty\n") → IsPrinted form input old new errors_old errors_new 4
 

@@ -4,11 +4,13 @@ ghost use Rattle.std.specs.Char.{is_ascii_hexdigit, is_ascii_whitespace};
 ghost use Rattle.std.specs.Io.KnownBytes.{Appends};
 ghost use Rattle.dns_tool.specs.Hex.{unspaced};
 ghost use Rattle.dns_view.specs.Requests.{asked};
-ghost use Rattle.dns_view.specs.Viewing.{is_digits, wrong_text, CanEnd, Gives, IsOdd, IsPrinted, IsViewed, PrintsRows, Reports};
+ghost use Rattle.dns_view.specs.Viewing.{is_digits, lines_text, wrong_text, CanEnd, Gives, IsOdd, IsPrinted, IsViewed, PrintsForm, Reports};
 
 use crate::html::print_page;
 use crate::request::{Form, Request, wrong_word};
 use crate::text::print_text;
+use dns_lines::print_zone_lines;
+use dns_message::message::Message;
 use dns_rows::rows;
 use std::alloc::{AllocError, Global};
 use std::io::{Read, Write};
@@ -27,16 +29,17 @@ const FAILED: u8 = 3;
 const EMPTY: u8 = 4;
 
 /// How the program is called.
-pub const USAGE: &str = "usage: dnsview [--html] [FILE]\n";
+pub const USAGE: &str = "usage: dnsview [--html | --short] [FILE]\n";
 
 /// What `--help` prints.
-const HELP: &str = "usage: dnsview [--html] [FILE]
+const HELP: &str = "usage: dnsview [--html | --short] [FILE]
 
 Prints a DNS message (RFC 1035) field by field: the offset, the octets and
 what they mean. Reads FILE, or standard input if there is none or it is -.
 The message is hexadecimal digits with any white space, or octets.
 
       --html     print a page of HTML
+      --short    print each record as a line, as dig does
   -h, --help     print this text
       --version  print the name and the version
 
@@ -68,7 +71,8 @@ impl fmt::Display for Failure {
 /// Reads a message, as octets or in hexadecimal digits, prints it, and returns the exit status of
 /// the program. Only what is wrong is printed to `errors`.
 ///
-/// Prints text, or with `--html` a page. `reader` is the file that `file_of` returns. If the input
+/// Prints the rows of the message as text; with `--html` as a page. With `--short` it prints each
+/// record of the answer, authority and additional section as a line. `reader` is the file that `file_of` returns. If the input
 /// is hexadecimal digits and ASCII white space alone, it is read as digits. The exit status is 0;
 /// 1 if the number of digits is odd; 2 for a wrong argument; 3 if reading, writing or an
 /// allocation fails; and 4 if the input has no octets.
@@ -200,20 +204,31 @@ fn print_input<W: Write, E: Write>(
         errors.write_all(b"dnsview: the input is empty\n")?;
         return Ok(EMPTY);
     }
-    print_rows(alloc, form, &message, writer)?;
+    print_form(alloc, form, &message, writer)?;
     writer.flush()?;
     Ok(0)
 }
 
-/// Prints the rows of a message.
-fn print_rows<W: Write>(alloc: Global, form: Form, message: &[u8], writer: &mut W) -> io::Result<()>
-    ensures { OnOk result (PrintsRows form message.now
+/// Prints a message in a form.
+fn print_form<W: Write>(alloc: Global, form: Form, message: &[u8], writer: &mut W) -> io::Result<()>
+    ensures { OnOk result (PrintsForm form message.now
         (W.contents writer.old) (W.contents writer.new)) }
 {
-    let rows = rows(alloc, message)?;
     match form {
-        Form::Text => print_text(alloc, writer, message, &rows),
-        Form::Page => print_page(alloc, writer, message, &rows),
+        Form::Text => print_text(alloc, writer, message, &rows(alloc, message)?),
+        Form::Page => print_page(alloc, writer, message, &rows(alloc, message)?),
+        Form::Lines => print_lines(message, writer),
+    }
+}
+
+/// Prints the lines of a message's records.
+fn print_lines<W: Write>(message: &[u8], writer: &mut W) -> io::Result<()>
+    ensures { OnOk result (Appends (W.contents writer.old) (W.contents writer.new)
+        (lines_text message.now)) }
+{
+    match Message::from_slice(message) {
+        Ok(message) => print_zone_lines(writer, &message),
+        Err(_) => writer.write_all(b";; the message has fewer than 12 octets\n"),
     }
 }
 

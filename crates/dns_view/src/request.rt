@@ -1,13 +1,17 @@
 //! The arguments of the program `dnsview`, and what they ask for.
 ghost use Rattle.std.specs.Prelude.{◌≡◌, ◌<◌, length, IfSome};
 ghost use Rattle.std.specs.Option.{option_copied};
-ghost use Rattle.dns_view.specs.Requests.{asked, file_index, file_of, first_file, form_of, has, is_file, is_help, is_html, is_option, is_unknown, is_version, second_file, unknown_option, wrong_word};
+ghost use Rattle.dns_view.specs.Requests.{asked, contrary_option, file_index, file_of, first_file, form_of, has, is_file, is_help, is_html, is_option, is_short, is_unknown, is_version, second_file, unknown_option, wrong_word};
 
 /// What the program prints of a message.
 #[derive(Clone, Copy)]
 pub(crate) enum Form {
+    /// Its rows as text.
     Text,
+    /// Its rows as a page of HTML.
     Page,
+    /// Its records as lines of a zone file.
+    Lines,
 }
 
 /// What the arguments ask for.
@@ -43,13 +47,16 @@ impl Form {
     {
         if asks_html(words) {
             Form::Page
+        } else if asks_short(words) {
+            Form::Lines
         } else {
             Form::Text
         }
     }
 }
 
-/// The first argument that the program doesn't know, or else the second file.
+/// The first argument that the program doesn't know, or else the second file, or else `--short`
+/// beside `--html`.
 pub(crate) fn wrong_word(words: &[String]) -> Option<&String>
     ensures { option_copied result ≡ wrong_word words.now }
 {
@@ -57,7 +64,11 @@ pub(crate) fn wrong_word(words: &[String]) -> Option<&String>
     if unknown.is_some() {
         return unknown;
     }
-    second_file(words)
+    let second = second_file(words);
+    if second.is_some() {
+        return second;
+    }
+    contrary_option(words)
 }
 
 /// The file that a view is asked of, if the arguments name one. It may be `-`, which is standard
@@ -87,6 +98,23 @@ fn asks_html(words: &[String]) -> bool
     ensures { result ≡ has is_html words.now }
 {
     words.iter().any(|word| is_html(word.as_str()))
+}
+
+fn asks_short(words: &[String]) -> bool
+    ensures { result ≡ has is_short words.now }
+{
+    words.iter().any(|word| is_short(word.as_str()))
+}
+
+/// The option `--short`, if `--html` is given too.
+fn contrary_option(words: &[String]) -> Option<&String>
+    ensures { option_copied result ≡ contrary_option words.now }
+{
+    if asks_html(words) {
+        words.iter().find(|word| is_short(word.as_str()))
+    } else {
+        None
+    }
 }
 
 /// The first option that the program doesn't know.
@@ -137,6 +165,12 @@ fn is_html(word: &str) -> bool
     word == "--html"
 }
 
+fn is_short(word: &str) -> bool
+    ensures { result ≡ is_short word.now }
+{
+    word == "--short"
+}
+
 /// Whether a word is an option: it begins with `-` and isn't `-` alone.
 fn is_option(word: &str) -> bool
     ensures { result ≡ is_option word.now }
@@ -155,5 +189,5 @@ fn is_file(word: &str) -> bool
 fn is_unknown(word: &str) -> bool
     ensures { result ≡ is_unknown word.now }
 {
-    is_option(word) && !is_help(word) && !is_version(word) && !is_html(word)
+    is_option(word) && !is_help(word) && !is_version(word) && !is_html(word) && !is_short(word)
 }

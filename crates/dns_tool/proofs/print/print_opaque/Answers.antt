@@ -9,7 +9,7 @@ use Rattle.dns_item.specs.ParsedRecord.{encoded_record}
 use Rattle.dns_item.specs.Record.{data_of}
 use Rattle.dns_tool.specs.Show.{line}
 use Rattle.dns_tool.proofs.theory.PrintedLines.{printed_as}
-use Rattle.dns_tool.proofs.ShownRecords.{there, opaque_is_ok, same_text, printed_item}
+use Rattle.dns_tool.proofs.theory.ShownRecords.{there, opaque_is_ok, same_text, printed_item}
 use Rattle.dns_tool.proofs.print.print_opaque.Goals as goal
 
 pub unwrap-record-requires : goal.unwrap-record-requires

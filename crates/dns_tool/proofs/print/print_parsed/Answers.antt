@@ -11,7 +11,7 @@ use Rattle.dns_item.specs.RecordPrinting.{record_fields_text}
 use Rattle.dns_tool.specs.Show.{line, text_with, known_parts, data_parts, parts_text}
 use Rattle.dns_tool.specs.KnownData.{rtype_of, parts_of, known_layout}
 use Rattle.dns_tool.proofs.theory.PrintedLines.{printed_as}
-use Rattle.dns_tool.proofs.ShownRecords.{there, same_text, taken_data, none_taken, fault_taken, parts_there, printed_made}
+use Rattle.dns_tool.proofs.theory.ShownRecords.{there, same_text, taken_data, none_taken, fault_taken, parts_there, printed_made}
 use Rattle.dns_tool.proofs.KnownText.{known_shown}
 use Rattle.dns_tool.proofs.print.print_parsed.Goals as goal
 

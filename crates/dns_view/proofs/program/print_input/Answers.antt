@@ -1,7 +1,7 @@
 use Rattle.std.proofs.Common.{◌∙◌, List, ℕ, subst, sym}
-use Rattle.dns_view.specs.Viewing.{PrintsRows}
+use Rattle.dns_view.specs.Viewing.{PrintsForm}
 use Rattle.dns_view.specs.Viewing.IsPrinted.{shown, bad_hex, empty}
-use Rattle.dns_view.proofs.Viewed.{given_empty, given_some, keeps_same, rows_kept}
+use Rattle.dns_view.proofs.Viewed.{given_empty, given_some, keeps_same, form_kept}
 use Rattle.dns_view.proofs.program.print_input.Goals as goal
 
 pub returns-in_default : goal.returns-in_default
@@ -13,5 +13,5 @@ returns-then-is_empty g c =
 
 pub returns : goal.returns
 returns g c =
-    let rows = subst (λ (octets : List ℕ). PrintsRows c.args.form octets (g.W.Write.contents c.args.writer.now) (g.W.Write.contents c.print_rows.new.writer)) c.deref.ensures.value c.in_ok-print_rows.ensures in
-    shown c.in-Some.message.items (rw c.in-Some.is at c.in_ok-message.ensures) (given_some c.in-Some.message.items _ c.in-Some.message.ok.0 (sym c.is_empty.ensures ∙ c.if-is_empty.false)) (rows_kept c.args.form c.in-Some.message.items _ _ _ rows c.in_ok-flush.ensures.bytes) (keeps_same _)
+    let rows = subst (λ (octets : List ℕ). PrintsForm c.args.form octets (g.W.Write.contents c.args.writer.now) (g.W.Write.contents c.print_form.new.writer)) c.deref.ensures.value c.in_ok-print_form.ensures in
+    shown c.in-Some.message.items (rw c.in-Some.is at c.in_ok-message.ensures) (given_some c.in-Some.message.items _ c.in-Some.message.ok.0 (sym c.is_empty.ensures ∙ c.if-is_empty.false)) (form_kept c.args.form c.in-Some.message.items _ _ _ rows c.in_ok-flush.ensures.bytes) (keeps_same _)

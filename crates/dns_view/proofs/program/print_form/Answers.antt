@@ -1,5 +1,5 @@
 use Rattle.dns_view.proofs.Viewed.{page_printed_of, text_printed}
-use Rattle.dns_view.proofs.program.print_rows.Goals as goal
+use Rattle.dns_view.proofs.program.print_form.Goals as goal
 
 pub returns-in-Text : goal.returns-in-Text
 returns-in-Text g c =

@@ -1,11 +1,9 @@
 -- The lines of records, and what is known of the RDATA of a record that was read.
-use Rattle.std.proofs.Common.{◌≡◌, ◌∙◌, ℕ, ◌≤◌, List, [], ◌∷◌, ◌++◌, length, length-drop, append_assoc, append-nil, ap, sym, refl, subst, arith, codes, le-leb, IfOk, Some, None, Ok, Err, OnOk, Result}
+use Rattle.std.proofs.Common.{[], ◌≡◌, ◌∙◌, ℕ, ◌≤◌, List, ◌∷◌, ◌++◌, length, length-drop, append_assoc, ap, sym, refl, subst, arith, codes, le-leb, IfOk, Some, None, Ok, Err, Result}
 use Rattle.std.proofs.lemmas.List.{length-take-le}
 use Rattle.std.specs.Fmt.{◌++?◌}
 use Rattle.std.specs.Prelude.{Option, option_map, IsOk}
 use Rattle.std.specs.Option.{option_and_then}
-use Rattle.std.specs.Io.KnownBytes.{Appends}
-use Rattle.std.specs.List.{flat_map}
 use Rattle.dns_name.specs.Names.{Fault, fault_of}
 use Rattle.dns_name.specs.NameTexts.{name_text}
 use Rattle.dns_name.specs.ParsedName.{labels}
@@ -18,44 +16,21 @@ use Rattle.dns_item.specs.Items.{ReadsRecord}
 use Rattle.dns_item.specs.ParsedData.{HasSpan}
 use Rattle.dns_item.specs.ParsedData.IsParsedData.{whole, fault}
 use Rattle.dns_item.proofs.theory.TypedLemmas.{data_is_parsed}
-use Rattle.dns_read.specs.SectionStarts.{start_of}
 use Rattle.dns_item.specs.ParsedRecord.{EncodedRecord, encoded_record, parsed_entry}
 use Rattle.dns_item.specs.declared.parsed_record.ParsedRecord.{ParsedRecord}
-use Rattle.dns_section.specs.RecordSection.{BeginsSection, MovesPastRecord, position, records_left}
+use Rattle.dns_section.specs.RecordSection.{MovesPastRecord, position}
 use Rattle.dns_section.specs.declared.record_section.RecordSection.{RecordSection}
 use Rattle.dns_item.specs.RecordPrinting.{record_fields_text}
 use Rattle.dns_item.specs.RecordReading.{up_to_rdata_end, ReturnsLaidOut, HasData, HasDataFault, IsRecordOf, GivesTaken}
 use Rattle.dns_item.specs.RecordReading.WholeDataFaultAt.{first, left_over}
 use Rattle.dns_item.specs.Record.{owner_of, class_of, ttl_of, data_of}
 use Rattle.dns_item.specs.declared.record.Record.{Record}
-use Rattle.dns_section.specs.RecordsFrom.{records_in}
-use Rattle.dns_section.specs.Sections.{record_count}
-use Rattle.dns_section.specs.declared.section.Section.{Section}
-use Rattle.dns_section.specs.declared.section.Section.TheVariants.{Answer, Authority, Additional}
 use Rattle.std.specs.Result.{result_ok}
-use Rattle.dns_tool.specs.Show.{line, record_line, section_word, section_lines, records_text, IsRead, HasShortData, data_parts}
-use Rattle.dns_tool.proofs.theory.AppendedTexts.{prints_both}
+use Rattle.dns_tool.specs.Show.{line, IsRead, HasShortData, data_parts}
 
 -- a word, a space and a text are printed as a line
 pub printed_item : (word text : List ℕ) → Some word ++? (Some (codes " ") ++? (Some text ++? Some (10 ∷ []))) ≡ Some (line (word ++ codes " " ++ text))
 printed_item word text = ap Some (simp append_assoc)
-
-module _ (b : List ℕ) (section : Section) (cursor : RecordSection) (begins : BeginsSection section b cursor) where
-  -- the lines of a section are those of its reading
-  lines_are : flat_map (record_line (section_word section)) (records_left cursor) ≡ flat_map (record_line (section_word section)) (records_in b (record_count section b) (position cursor))
-  lines_are = ap (flat_map (record_line (section_word section))) begins.fresh.records
-
-  -- a section is printed, and then what follows it
-  pub section_printed : {E X : Type 0} (old mid new : Option (List ℕ)) (r : Result X E) (after : List ℕ)
-      → Appends old mid (flat_map (record_line (section_word section)) (records_left cursor)) → OnOk r (Appends mid new after)
-      → OnOk r (Appends old new (section_lines b section (Some (position cursor)) after))
-  section_printed old mid new r after h k = prints_both old mid new _ _ after r lines_are h k
-
-  -- a section is printed, and nothing after it
-  pub last_printed : {E X : Type 0} (old new : Option (List ℕ)) (r : Result X E)
-      → OnOk r (Appends old new (flat_map (record_line (section_word section)) (records_left cursor)))
-      → OnOk r (Appends old new (section_lines b section (Some (position cursor)) []))
-  last_printed old new r h = subst (λ (l : List ℕ). OnOk r (Appends old new l)) (lines_are ∙ sym (append-nil _)) h
 
 module _ (x : EncodedRecord) (read : IsRead x) where
   pub there : x.entry.rdata_end ≤ length x.octets
@@ -83,14 +58,6 @@ module _ (x : EncodedRecord) (read : IsRead x) where
   pub no_fault : HasShortData x → (f : Fault) → HasDataFault x.octets x.entry opaque_layout f → ⊥
   no_fault short f (first h) = h.1 (le-leb _ _ (let l = length-drop x.entry.rdata_start (up_to_rdata_end x.octets x.entry) in let s = seen_length in omega arith))
   no_fault short f (left_over q parts encoded l) = let e = encoded.0 in omega arith
-
--- the sections of records are printed, by where they start
-pub sections_printed : {E X : Type 0} (b : List ℕ) (old new : Option (List ℕ)) (r : Result X E) (answers authorities additionals : Option ℕ)
-    → start_of Answer b ≡ answers → start_of Authority b ≡ authorities → start_of Additional b ≡ additionals
-    → OnOk r (Appends old new (section_lines b Answer answers (section_lines b Authority authorities (section_lines b Additional additionals []))))
-    → OnOk r (Appends old new (records_text b))
-sections_printed b old new r answers authorities additionals a c d h =
-    subst (λ (text : List ℕ). OnOk r (Appends old new text)) (sym (λ i. section_lines b Answer (a i) (section_lines b Authority (c i) (section_lines b Additional (d i) [])))) h
 
 module _ {D : Type 0} (rtype_of : D → ℕ) (parts_of : D → List Part) (x : EncodedRecord) (read : IsRead x) where
   pub opaque_is_ok : HasShortData x → (r : Result (Record ParsedName D) ParseError) → ReturnsLaidOut rtype_of parts_of x.octets x.entry opaque_layout r → IsOk r

@@ -1,0 +1,45 @@
+-- The lines that a message's records have in a zone file. RFC 1035 section 5.1, RFC 3597 section 5.
+use Rattle.std.specs.Prelude.{ℕ, ◌==◌, if◌then◌else◌, List, [], ◌++◌, drop, Option, Some, None, Result, Ok, Err, codes}
+use Rattle.dns_name.specs.Names.{Fault}
+use Rattle.dns_name.specs.NameTexts.{name_text}
+use Rattle.dns_wire.specs.Parts.{Part}
+use Rattle.dns_data.specs.Printing.{opaque_text}
+use Rattle.dns_item.specs.ParsedRecord.{EncodedRecord}
+use Rattle.dns_item.specs.RecordReading.{up_to_rdata_end}
+use Rattle.dns_section.specs.declared.section.Section.{Section}
+use Rattle.dns_fields.specs.FieldData.{type_layout}
+use Rattle.dns_fields.specs.FieldParts.{named_parts}
+use Rattle.dns_fields.specs.Table.{definitions_of}
+use Rattle.dns_fields_text.specs.DataTexts.{data_text}
+use Rattle.dns_fields_text.specs.RecordLines.{record_text}
+use Rattle.dns_tool.specs.Show.{line, data_parts, section_word, sections_text}
+
+-- RDATA: the fields of its record type if it has these parts, else its octets
+abbrev pub rdata_text : EncodedRecord → Option (List Part) → List ℕ
+rdata_text x (Some parts) = data_text (named_parts (definitions_of x.entry.rtype) parts)
+rdata_text x None = opaque_text (drop x.entry.rdata_start (up_to_rdata_end x.octets x.entry))
+
+-- the line of a record, by the parts of its RDATA
+abbrev pub line_with : EncodedRecord → Option (List Part) → List ℕ
+line_with x parts = line (record_text (name_text x.entry.owner) x.entry.ttl x.entry.class x.entry.rtype (rdata_text x parts))
+
+-- The line of a record; its RDATA has no parts if it is malformed. An OPT record has none, as it isn't data of a zone (RFC 6891 section 6.1.1).
+abbrev pub record_lines : EncodedRecord → List ℕ
+record_lines x = if x.entry.rtype == 41 then [] else line_with x (data_parts x (type_layout x.entry.rtype))
+
+-- the line for a malformed record
+abbrev pub malformed_line : Section → List ℕ
+malformed_line section = codes ";; malformed record in the " ++ section_word section ++ codes " section\n"
+
+-- what is printed for a record of a section, or for its error
+abbrev pub item_lines : Section → Result EncodedRecord Fault → List ℕ
+item_lines section (Ok x) = record_lines x
+item_lines section (Err f) = malformed_line section
+
+-- the line for a section that has no start
+abbrev pub missing_line : Section → List ℕ
+missing_line section = codes ";; the " ++ section_word section ++ codes " section has no start\n"
+
+-- the lines of all records of a message, whose octets are b
+abbrev pub zone_lines : List ℕ → List ℕ
+zone_lines b = sections_text item_lines missing_line b

@@ -1,0 +1,100 @@
+//! Prints the records of a message as lines of a zone file.
+ghost use Rattle.std.specs.Prelude.{None, Ok, OnOk};
+ghost use Rattle.std.specs.Io.KnownBytes.{Appends};
+ghost use Rattle.dns_item.specs.ParsedRecord.{encoded_record};
+ghost use Rattle.dns_read.specs.Message.{message_octets};
+ghost use Rattle.dns_tool.specs.Show.{HasShortData, IsRead};
+ghost use Rattle.dns_lines.specs.ZoneLines.{line_with, malformed_line, record_lines, zone_lines};
+
+use dns_code::Rtype;
+use dns_data::UnknownRecordData;
+use dns_fields::FieldData;
+use dns_fields_text::{RecordText, TypeName};
+use dns_item::ParsedRecord;
+use dns_read::{Message, Section};
+use dns_tool::{RecordLines, print_records, section_word};
+use dns_wire::ParseError;
+use std::io;
+use std::io::Write;
+
+/// Prints each record of the message as a line, in order: the owner with a final dot, the TTL in
+/// seconds, the class, the type and the RDATA, separated by spaces.
+///
+/// An OPT record has no line, as it isn't data of a zone (RFC 6891 section 6.1.1). A line that
+/// begins with `;;` says that a record is malformed, and ends its section; or that a section has no
+/// start, and ends the output. Returns the error of `writer` if it fails.
+pub fn print_zone_lines<W: Write>(writer: &mut W, message: &Message<&[u8]>) -> io::Result<()>
+    ensures { OnOk result (Appends (W.contents writer.old) (W.contents writer.new)
+        (zone_lines (message_octets message.now))) }
+{
+    print_records::<ZoneLines, W>(writer, message)
+}
+
+/// The lines of a zone file for records.
+struct ZoneLines;
+
+impl RecordLines for ZoneLines {
+    ghost use Rattle.std.specs.Prelude.{IfOk, OnOk};
+    ghost use Rattle.dns_lines.specs.ZoneLines.{item_lines, missing_line};
+
+    ghost item_text = { item_lines };
+
+    ghost missing_text = { missing_line };
+
+    fn print_record<W: Write>(
+        writer: &mut W,
+        section: Section,
+        parsed: Result<ParsedRecord<'_>, ParseError>,
+    ) -> io::Result<()> {
+        match parsed {
+            Ok(parsed) => print_parsed(writer, &parsed),
+            Err(_) => print_malformed(writer, section),
+        }
+    }
+
+    fn print_missing<W: Write>(writer: &mut W, section: Section) -> io::Result<()> {
+        let word = section_word(section);
+        writeln!(writer, ";; the {word} section has no start")
+    }
+}
+
+/// Prints the line of a record, but none for an OPT record.
+fn print_parsed<W: Write>(writer: &mut W, parsed: &ParsedRecord<'_>) -> io::Result<()>
+    requires read { IsRead (encoded_record parsed.now) }
+    requires short { HasShortData (encoded_record parsed.now) }
+    ensures { OnOk result (Appends (W.contents writer.old) (W.contents writer.new)
+        (record_lines (encoded_record parsed.now))) }
+{
+    if parsed.rtype() == Rtype::OPT {
+        return Ok(());
+    }
+    match parsed.to_any_record::<FieldData<'_>>() {
+        Ok(found) => writeln!(writer, "{}", RecordText(&found)),
+        Err(_) => print_opaque(writer, parsed),
+    }
+}
+
+/// Prints the line of a record with its RDATA as octets.
+fn print_opaque<W: Write>(writer: &mut W, parsed: &ParsedRecord<'_>) -> io::Result<()>
+    requires read { IsRead (encoded_record parsed.now) }
+    requires short { HasShortData (encoded_record parsed.now) }
+    ensures { OnOk result (Appends (W.contents writer.old) (W.contents writer.new)
+        (line_with (encoded_record parsed.now) None)) }
+{
+    let found = parsed.to_any_record::<UnknownRecordData<&[u8]>>().unwrap();
+    let owner = found.owner();
+    let ttl = found.ttl().as_secs();
+    let class = found.class();
+    let rtype = TypeName(found.rtype());
+    let octets = found.data();
+    writeln!(writer, "{owner}. {ttl} {class} {rtype} {octets}")
+}
+
+/// Prints that a record is malformed.
+fn print_malformed<W: Write>(writer: &mut W, section: Section) -> io::Result<()>
+    ensures { OnOk result (Appends (W.contents writer.old) (W.contents writer.new)
+        (malformed_line section)) }
+{
+    let word = section_word(section);
+    writeln!(writer, ";; malformed record in the {word} section")
+}
