@@ -16,9 +16,10 @@ pub use Rattle.dns_build.specs.CopyRecords.CopiesSections.{none, stopped, copied
 pub use Rattle.dns_build.specs.KeptRecords.{with_copies, Keeps, KeepsSection, KeepsAll}
 pub use Rattle.dns_build.specs.KeptRecords.Keeps.{none, dropped, kept}
 -- OPT records
-pub use Rattle.dns_build.specs.Opt.{opt_record, with_opt, with_rcode, Gathers, OptReturns, PushesOpt}
+pub use Rattle.dns_build.specs.Opt.{opt_record, with_opt, with_rcode, PushesOptRecord, Gathers, OptReturns, PushesOpt}
+pub use Rattle.dns_build.specs.ReservedOpt.{Reservation, reservation, limit_without, limit_left}
 pub use Rattle.dns_build.specs.OptReading.{said, HasNoOpt}
-pub use Rattle.dns_opt_builder.specs.Gathered.{Gathered, gathered, nothing_gathered, option_octets, with_extended_rcode}
+pub use Rattle.dns_opt_builder.specs.Gathered.{Gathered, gathered, nothing_gathered, option_octets, opt_size, with_extended_rcode}
 pub use Rattle.dns_opt_builder.specs.Additions.{Adds}
 pub use Rattle.dns_opt.specs.KnownOptions.{nsid_option, dau_option, dhu_option, n3u_option, client_subnet_option, expire_option, cookie_option, IsServerCookie, tcp_keepalive_option, padding_option, chain_option, key_tag_option, extended_error_option}
 -- the statements of the theorems on builders
@@ -26,3 +27,4 @@ pub use Rattle.dns_build.specs.MessageOf.{EncodingsReadBack, EncodingsAreTargets
 pub use Rattle.dns_build.specs.KnownByState.{BuildersAreKnown, RewindsLeaveNothing}
 pub use Rattle.dns_build.specs.TypedReading.{PushedRecordsAreEncoded, TypedRecordsReadBack, TypedRecordsInReadBack, AnyRecordsReadBack, ToRecordReadsBack, ToAnyRecordReadsBack}
 pub use Rattle.dns_build.specs.OptReading.{OptsReadBack}
+pub use Rattle.dns_build.specs.ReservedOpt.{OptsAddTheirSize}

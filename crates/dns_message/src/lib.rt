@@ -21,7 +21,7 @@ pub mod builder {
         AdditionalBuilder, AnswerBuilder, AtAdditional, AtAnswer, AtAuthority, AtBuilder,
         AtQuestion, AuthorityBuilder, Builder, BuilderStage, CopyRecords, CopyRecordsError,
         MessageBuilder, OptBuilder, PushError, QuestionBuilder, RecordSectionBuilder, RecordStage,
-        copy_records, laws,
+        ReservedOpt, copy_records, laws,
     };
 }
 

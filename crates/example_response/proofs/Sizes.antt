@@ -58,6 +58,11 @@ pub size_entered : (s : State) (n : ℕ) → size (with_limit n (move_to InAddit
 unfolding encode
 size_entered s n = refl
 
+-- changing the limit writes no octets
+pub size_limited : (s : State) (n : ℕ) → size (with_limit n s) ≡ size s
+unfolding encode
+size_limited s n = refl
+
 -- further questions don't shorten the message
 pub longer_questions : (s : State) (xs ys : List QuestionItem) → size (record (up_to InQuestion s) { questions = xs }) ≤ size (record (up_to InQuestion s) { questions = xs ++ ys })
 longer_questions s xs ys =

@@ -6,13 +6,16 @@
 //! contract of `response` says which response.
 #![tactic(auto)]
 
-ghost use Rattle.std.specs.Prelude.{IfErr, IfOk, map};
+ghost use Rattle.std.specs.Prelude.{◌≡◌, IfErr, IfOk, map};
+ghost use Rattle.dns_message.specs.Builders.{gathered};
+ghost use Rattle.dns_message.specs.Headers.{fields};
 ghost use Rattle.dns_message.specs.Messages.{message_octets};
-ghost use Rattle.example_response.specs.Response.{IsReason, IsResponse};
+ghost use Rattle.example_response.specs.Response.{IsReason, IsResponse, own_opt};
 
-use dns_message::builder::{MessageBuilder, PushError};
+use dns_message::builder::{MessageBuilder, OptBuilder, PushError};
 use dns_message::code::Rcode;
 use dns_message::data::A;
+use dns_message::header::Header;
 use dns_message::message::Message;
 use dns_message::record::ComposeRecord;
 use dns_message::target::TreeCompressor;
@@ -39,11 +42,13 @@ fn response<R: ComposeRecord>(
         (map R.item answers.now) (message_octets response)) }
     ensures err { IfErr result (IsReason (message_octets query.now)) }
 {
-    let has_opt = query.opt().is_some();
     let mut builder = MessageBuilder::from_target(TreeCompressor::new(alloc, Vec::new(alloc)))?;
-    // An OPT record without options takes 11 octets.
-    builder.set_push_limit(if has_opt { 512 - 11 } else { 512 });
+    builder.set_push_limit(512);
     let mut builder = builder.start_answer(query, Rcode::NOERROR)?;
+    let reserved = match query.opt() {
+        Some(_) => Some(builder.reserve_opt(own_opt(alloc, builder.header()))?),
+        None => None,
+    };
     for answer in answers {
         match builder.push_ref(answer) {
             Ok(()) => {}
@@ -55,12 +60,17 @@ fn response<R: ComposeRecord>(
         }
     }
     let mut builder = builder.additional();
-    builder.set_push_limit(512);
-    if has_opt {
-        builder.opt(alloc, |opt| {
-            opt.set_udp_payload_size(1232);
-            Ok(())
-        })?;
+    if let Some(reserved) = reserved {
+        builder.push_reserved(reserved)?;
     }
     Ok(builder.into_message())
+}
+
+/// The OPT record of a response: its sender can receive 1,232 octets.
+fn own_opt(alloc: Global, header: Header) -> OptBuilder
+    ensures { gathered result ≡ own_opt (fields header) }
+{
+    let mut opt = OptBuilder::new(alloc, header);
+    opt.set_udp_payload_size(1232);
+    opt
 }
