@@ -1,3 +1,4 @@
+mod AllParts
 mod FieldsLemmas
 mod HostLemmas
 mod ItemKinds
@@ -8,6 +9,6 @@ mod OctetLemmas
 mod PrefixLemmas
 mod Printing
 mod ProtocolLemmas
-mod TypeMapLemmas
 mod RecordLines
+mod TypeMapLemmas
 mod WordSteps

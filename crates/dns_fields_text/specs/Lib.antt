@@ -8,6 +8,7 @@ pub mod HostIdentities
 pub mod IdentityValues
 pub mod Items
 pub mod ItemsLeft
+pub mod Laws
 pub mod ParameterItems
 pub mod Parameters
 pub mod PrefixItems

@@ -7,6 +7,7 @@ mod data_text;
 mod field;
 mod gateway;
 mod host_identity;
+pub mod laws;
 mod parameter;
 mod parameters;
 mod prefix;

@@ -1,6 +1,6 @@
 use Rattle.std.proofs.Common.{rules}
-use Rattle.dns_fields_text.proofs.Printing.{all_printed, word_printed}
-use Rattle.dns_fields_text.proofs.TypeMapLemmas.{block_none, block_shrinks, block_step}
+use Rattle.dns_fields_text.proofs.Printing.{word_printed}
+use Rattle.dns_fields_text.proofs.TypeMapLemmas.{block_shrinks, block_step}
 use Rattle.dns_fields_text.proofs.type_map.TypeMapDisplay.fmt.Goals as goal
 
 pub windows-preserved : goal.windows-preserved
