@@ -1,5 +1,5 @@
 -- The texts of fields.
-use Rattle.std.proofs.Common.{◌≡◌, ◌∙◌, ℕ, List, [], ◌∷◌, ◌++◌, Option, Some, None, Bool, true, false, ap, sym, refl, codes, is_some, map}
+use Rattle.std.proofs.Common.{◌≡◌, ◌∙◌, ℕ, List, [], ◌∷◌, Option, Some, None, true, false, ap, sym, refl, codes, is_some, map}
 use Rattle.std.specs.Fmt.{◌++?◌}
 use Rattle.dns_fields.specs.FieldParts.{NamedPart}
 use Rattle.dns_fields.specs.Values.{part_value}

@@ -1,11 +1,14 @@
+mod AllParts
 mod FieldsLemmas
+mod HostLemmas
 mod ItemKinds
 mod ItemLemmas
+mod KeyLemmas
+mod NameAtLemmas
 mod OctetLemmas
 mod PrefixLemmas
 mod Printing
 mod ProtocolLemmas
-mod Splits
-mod StringLemmas
+mod RecordLines
 mod TypeMapLemmas
 mod WordSteps

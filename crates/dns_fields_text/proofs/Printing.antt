@@ -1,5 +1,5 @@
 -- Texts that are printed part by part.
-use Rattle.std.proofs.Common.{◌≡◌, ◌∙◌, ℕ, List, [], ◌∷◌, ◌++◌, Option, Some, None, ap, sym, refl, subst, append_assoc, append-nil, map}
+use Rattle.std.proofs.Common.{◌≡◌, ◌∙◌, ℕ, List, [], ◌++◌, Option, Some, None, ap, sym, refl, subst, append_assoc, append-nil}
 use Rattle.std.proofs.lemmas.Grind.{put_two}
 use Rattle.std.specs.declared.fmt.Error.{Error}
 use Rattle.std.specs.declared.fmt.Formatter.{Formatter}

@@ -1,6 +1,6 @@
 -- Protocol names need no escape.
-use Rattle.std.proofs.Common.{◌≡◌, ◌∙◌, ℕ, zero, suc, ◌≤◌, Bool, true, false, List, [], ◌∷◌, length, take, drop, length-drop, refl, sym, ap, arith}
-use Rattle.std.specs.Prelude.{not, ◌==◌, ◌&&◌}
+use Rattle.std.proofs.Common.{◌≡◌, ◌∙◌, ℕ, zero, suc, ◌≤◌, Bool, true, List, [], ◌∷◌, length, take, drop, length-drop, refl, ap, arith}
+use Rattle.std.specs.Prelude.{not, ◌==◌}
 use Rattle.std.specs.List.{list_all}
 use Rattle.std.proofs.lemmas.Bool.{and_parts, and_from, eqb-true}
 use Rattle.dns_fields_text.specs.Parameters.{are_protocols, are_protocols_from, is_bare}
@@ -26,7 +26,7 @@ names_bare (suc n) (size ∷ octets) h e =
     let parts = and_parts (not (size == 0)) (are_protocols_from size octets) e in
     let name = name_bare size octets parts.1 in
     let first : strings_of (size ∷ octets) ≡ take size octets ∷ strings_of (drop size octets) =
-        strings_first (size ∷ octets) (take size octets) (drop size octets) size (omega arith) refl (record { value_is = refl; left_is = refl }) in
+    strings_first (size ∷ octets) (take size octets) (drop size octets) size (omega arith) refl (record { value_is = refl; left_is = refl }) in
     ap are_bare first
     ∙ and_from (list_all is_bare (take size octets)) (are_bare (strings_of (drop size octets))) name.0
     (names_bare n (drop size octets) (omega (arith, length-drop size octets)) name.1)

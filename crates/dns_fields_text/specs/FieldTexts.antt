@@ -24,7 +24,8 @@ use Rattle.dns_value_text.specs.Hex.{hex_text}
 use Rattle.dns_value_text.specs.LocationItems.{location_of, location_text}
 use Rattle.dns_value_text.specs.String.{is_tag, quoted}
 use Rattle.dns_value_text.specs.Time.{time_text}
-use Rattle.dns_fields_text.specs.GatewayTexts.{gateway_text, relay_text, identity_text}
+use Rattle.dns_fields_text.specs.GatewayTexts.{gateway_text, key_text, relay_text}
+use Rattle.dns_fields_text.specs.HostIdentities.{identity_text}
 use Rattle.dns_fields_text.specs.Parameters.{parameter_word}
 use Rattle.dns_fields_text.specs.Prefixes.{prefix_word}
 use Rattle.dns_fields_text.specs.Separated.{spaced, spaced_if_all}
@@ -47,8 +48,7 @@ salt_text (x ∷ xs) = hex_text (x ∷ xs)
 
 -- the number of octets, and the octets in base64 if there are any
 abbrev pub sized_text : List ℕ → List ℕ
-sized_text [] = codes "0"
-sized_text (x ∷ xs) = decimal (length (x ∷ xs)) ++ codes " " ++ encode_of standard (x ∷ xs)
+sized_text octets = decimal (length octets) ++ key_text octets
 
 -- character strings in quotes, separated by spaces
 abbrev pub strings_text : List ℕ → List ℕ

@@ -1,5 +1,5 @@
--- Gateways, relays and host identities as words. RFC 4025 section 3.1, RFC 8777 section 4.3.1, RFC 8005 section 6.
-use Rattle.std.specs.Prelude.{ℕ, zero, suc, ◌+◌, ◌*◌, ◌/◌, ◌%◌, ◌==◌, nat_le, ◌&&◌, not, if◌then◌else◌, List, [], ◌∷◌, ◌++◌, take, drop, length, codes, decimal, Option, Some, None, option_map}
+-- Gateways and relays as words. RFC 4025 section 3.1, RFC 8777 section 4.3.1.
+use Rattle.std.specs.Prelude.{ℕ, zero, suc, ◌+◌, ◌/◌, ◌%◌, ◌==◌, nat_le, ◌&&◌, if◌then◌else◌, List, [], ◌∷◌, ◌++◌, take, drop, length, codes, decimal, Option, Some, None, option_map}
 use Rattle.std.specs.Option.{option_and_then}
 use Rattle.std.specs.Net.Addr.{segments_of}
 use Rattle.std.specs.Net.Text.{ipv4_text, ipv6_text}
@@ -8,7 +8,6 @@ use Rattle.base64.specs.GeneralPurpose.{encode_of}
 use Rattle.dns_fields.specs.PlainNames.{can_follow}
 use Rattle.dns_name.specs.Names.{Labels}
 use Rattle.dns_name.specs.NameTexts.{name_text}
-use Rattle.dns_value_text.specs.Hex.{hex_text}
 
 -- at most `count` labels after labels of `size` octets, up to the root label, and the octets after it
 abbrev pub labels_at : ℕ → ℕ → List ℕ → Option (Labels × List ℕ)
@@ -46,41 +45,25 @@ abbrev pub key_text : List ℕ → List ℕ
 key_text [] = []
 key_text (x ∷ xs) = codes " " ++ encode_of standard (x ∷ xs)
 
--- a gateway type, an algorithm, a gateway and a public key, each after a space
+-- a gateway type, an algorithm, the word of a gateway and a public key, each after a space
+abbrev pub gateway_words : ℕ → ℕ → List ℕ → List ℕ → List ℕ
+gateway_words gateway_type algorithm word key = codes " " ++ decimal gateway_type ++ codes " " ++ decimal algorithm ++ codes " " ++ word ++ key_text key
+
+-- these words of a gateway type, an algorithm, a gateway and a public key
 abbrev pub gateway_text : List ℕ → Option (List ℕ)
 gateway_text (gateway_type ∷ algorithm ∷ octets) =
-    option_map
-    (λ gateway. codes " " ++ decimal gateway_type ++ codes " " ++ decimal algorithm ++ codes " " ++ gateway.0 ++ key_text gateway.1)
-    (gateway_at gateway_type octets)
+    option_map (λ gateway. gateway_words gateway_type algorithm gateway.0 gateway.1) (gateway_at gateway_type octets)
 gateway_text _ = None
 
--- a bit, a relay type and a relay, each after a space
+-- a bit, a relay type and the word of a relay, each after a space
+abbrev pub relay_words : ℕ → ℕ → List ℕ → List ℕ
+relay_words discovery relay_type word = codes " " ++ decimal discovery ++ codes " " ++ decimal relay_type ++ codes " " ++ word
+
+-- the words, if no octets follow a gateway
+abbrev pub last_relay : ℕ → List ℕ × List ℕ → Option (List ℕ)
+last_relay first relay = if length relay.1 == 0 then Some (relay_words (first / 128) (first % 128) relay.0) else None
+
+-- these words of a bit and a relay type in one octet, and a relay
 abbrev pub relay_text : List ℕ → Option (List ℕ)
 relay_text [] = None
-relay_text (first ∷ octets) =
-    option_and_then
-    (λ relay. if length relay.1 == 0 then Some (codes " " ++ decimal (first / 128) ++ codes " " ++ decimal (first % 128) ++ codes " " ++ relay.0) else None)
-    (gateway_at (first % 128) octets)
-
--- at most `count` names that fill octets, each after a space
-abbrev pub servers_text : ℕ → List ℕ → Option (List ℕ)
-servers_text count [] = Some []
-servers_text zero (x ∷ xs) = None
-servers_text (suc count) (x ∷ xs) =
-    option_and_then (λ server. option_map (λ others. codes " " ++ server.0 ++ others) (servers_text count server.1)) (name_word_at (x ∷ xs))
-
--- an algorithm, a host identity tag, a public key and the names of servers, separated by spaces; a tag or a key of no octets has no word
-abbrev pub identity_words : ℕ → List ℕ → List ℕ → List ℕ → Option (List ℕ)
-identity_words algorithm (t ∷ tag) (k ∷ key) servers =
-    option_map
-    (λ names. decimal algorithm ++ codes " " ++ hex_text (t ∷ tag) ++ codes " " ++ encode_of standard (k ∷ key) ++ names)
-    (servers_text (length servers) servers)
-identity_words algorithm tag key servers = None
-
-abbrev pub identity_text : List ℕ → Option (List ℕ)
-identity_text (tag_size ∷ algorithm ∷ high ∷ low ∷ octets) =
-    let key_size = high * 256 + low in
-    if nat_le (tag_size + key_size) (length octets)
-    then identity_words algorithm (take tag_size octets) (take key_size (drop tag_size octets)) (drop key_size (drop tag_size octets))
-    else None
-identity_text _ = None
+relay_text (first ∷ octets) = option_and_then (last_relay first) (gateway_at (first % 128) octets)

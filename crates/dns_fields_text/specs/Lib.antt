@@ -2,9 +2,13 @@ pub mod Blocks
 pub mod DataTexts
 pub mod FieldTexts
 pub mod GatewayTexts
+pub mod GatewayValues
 pub mod Groups
+pub mod HostIdentities
+pub mod IdentityValues
 pub mod Items
 pub mod ItemsLeft
+pub mod Laws
 pub mod ParameterItems
 pub mod Parameters
 pub mod PrefixItems

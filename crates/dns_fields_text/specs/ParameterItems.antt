@@ -1,5 +1,5 @@
 -- Service parameters as octets. RFC 9460 section 2.2.
-use Rattle.std.specs.Prelude.{ℕ, ◌+◌, ◌*◌, List, [], ◌∷◌, take, drop, Option, Some, None}
+use Rattle.std.specs.Prelude.{ℕ, ◌+◌, ◌*◌, List, ◌∷◌, take, drop, Option, Some, None}
 use Rattle.dns_fields_text.specs.Items.{items_of}
 
 -- a service parameter: its key and its value

@@ -1,5 +1,5 @@
 -- Service parameters. RFC 9460 sections 2.1, 2.2 and 7 and appendix A; dohpath: RFC 9461 section 5; ohttp: RFC 9540 section 4.
-use Rattle.std.specs.Prelude.{ℕ, zero, suc, ◌+◌, ◌*◌, ◌%◌, ◌==◌, ◌&&◌, ◌||◌, not, Bool, true, false, if◌then◌else◌, List, [], ◌∷◌, ◌++◌, map, length, codes, decimal, Option, Some, None, unwrap_or}
+use Rattle.std.specs.Prelude.{ℕ, zero, suc, ◌+◌, ◌*◌, ◌%◌, nat_lt, ◌==◌, ◌&&◌, ◌||◌, not, Bool, true, false, if◌then◌else◌, List, [], ◌∷◌, ◌++◌, map, length, codes, decimal, Option, Some, None, unwrap_or}
 use Rattle.std.specs.Int.{from_be_bytes, is_in_range, w16}
 use Rattle.std.specs.Net.Addr.{segments_of}
 use Rattle.std.specs.Net.Text.{ipv4_text, ipv6_text}
@@ -66,10 +66,20 @@ port_text value = decimal (from_be_bytes w16 value)
 abbrev pub are_groups : ℕ → List ℕ → Bool
 are_groups size octets = not (length octets == 0) && (length octets % size == 0)
 
+-- keys of two octets, each above the one before, and the first above `least`
+abbrev pub are_keys_above : ℕ → List ℕ → Bool
+are_keys_above least [] = true
+are_keys_above least (high ∷ []) = false
+are_keys_above least (high ∷ low ∷ octets) = let key = high * 256 + low in nat_lt least key && are_keys_above key octets
+
+-- whether the octets are increasing keys, one at least, without the key of `mandatory` itself
+abbrev pub are_keys : List ℕ → Bool
+are_keys value = are_keys_above 0 value && not (length value == 0)
+
 -- whether the value is well-formed for the name of its key
 abbrev pub has_named_value : ℕ → List ℕ → Bool
 has_named_value key value =
-    if key == 0 then are_groups 2 value
+    if key == 0 then are_keys value
     else if key == 1 then are_protocols value
     else if (key == 2) || (key == 8) then length value == 0
     else if key == 3 then length value == 2

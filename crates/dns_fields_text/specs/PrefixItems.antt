@@ -1,5 +1,5 @@
 -- Address prefixes as octets. RFC 3123 section 4.
-use Rattle.std.specs.Prelude.{ℕ, ◌+◌, ◌*◌, ◌%◌, nat_le, Bool, List, [], ◌∷◌, take, drop, Option, Some, None}
+use Rattle.std.specs.Prelude.{ℕ, ◌+◌, ◌*◌, ◌%◌, nat_le, Bool, List, ◌∷◌, take, drop, Option, Some, None}
 use Rattle.dns_fields_text.specs.Items.{items_of}
 
 -- an address prefix: its family, its size in bits, whether it is negated, and the octets of the address up to the last one that isn't zero

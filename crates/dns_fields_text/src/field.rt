@@ -4,7 +4,9 @@ ghost use Rattle.std.specs.Fmt.{DisplaysOnOk, WritesOnOk};
 ghost use Rattle.dns_fields.specs.Values.{value_shown};
 ghost use Rattle.dns_fields_text.specs.FieldTexts.{begins_with_space, ipv4_of, ipv6_of, number_text, octets_text, parameters_text, prefixes_text, salt_text, sized_text, string_text, strings_text, value_text};
 
-use crate::gateway::{GatewayAndKey, HostIdentity, Relay};
+use crate::base64_text::write_base64;
+use crate::gateway::{GatewayAndKey, Relay, write_key};
+use crate::host_identity::HostIdentity;
 use crate::parameter::ParameterText;
 use crate::parameters::Parameters;
 use crate::prefix::PrefixText;
@@ -12,8 +14,6 @@ use crate::prefixes::AddressPrefixes;
 use crate::strings::Strings;
 use crate::type_map::{SmallTypeMap, TypeMap};
 use crate::type_name::TypeName;
-use base64::display::Base64Display;
-use base64::engine::general_purpose::STANDARD;
 use dns_fields::{Kind, Value};
 use dns_value_text::{Base32, Eui, Hex, Location, Locator64, Quoted, Tag, Timestamp};
 use std::fmt;
@@ -54,11 +54,22 @@ fn octets_have_text(kind: Kind, octets: &[u8]) -> bool
     }
 }
 
+/// Whether a number of a field of this kind has a presentation format.
+fn number_has_text(kind: Kind, number: u64) -> bool
+    ensures { result ≡ is_some (number_text kind number) }
+{
+    match kind {
+        Kind::Time => number < 1 << 32,
+        _ => true,
+    }
+}
+
 /// Whether a value of a field of this kind has a presentation format.
 pub(crate) fn has_text(kind: Kind, value: &Value<'_>) -> bool
     ensures { result ≡ is_some (value_text kind (value_shown value.now)) }
 {
     match value {
+        Value::Number(number) => number_has_text(kind, *number),
         Value::String(octets) => match kind {
             Kind::Tag => Tag::from_octets(octets).is_some(),
             Kind::Hash => !octets.is_empty(),
@@ -136,10 +147,7 @@ fn write_sized<W: fmt::Write>(f: &mut fmt::Formatter<W>, octets: &[u8]) -> fmt::
     ensures { WritesOnOk W.write_str_gives f.old result (sized_text octets.now) f.new }
 {
     write!(f, "{}", octets.len())?;
-    if octets.is_empty() {
-        return Ok(());
-    }
-    write!(f, " {}", Base64Display::new(octets, &STANDARD))
+    write_key(f, octets)
 }
 
 /// Prints a string by the kind of its field.
@@ -182,7 +190,7 @@ fn write_octets<W: fmt::Write>(f: &mut fmt::Formatter<W>, kind: Kind, octets: &[
         Kind::Strings => write_strings(f, octets),
         Kind::Text => write!(f, "{}", Quoted(octets)),
         Kind::Hexadecimal => write!(f, "{}", Hex(octets)),
-        Kind::Base64 => write!(f, "{}", Base64Display::new(octets, &STANDARD)),
+        Kind::Base64 => write_base64(f, octets),
         Kind::TypeBitMap => write!(f, "{}", TypeMap(octets)),
         Kind::SmallTypeBitMap => write_known(f, SmallTypeMap::from_octets(octets)),
         Kind::ServiceParameters => write_parameters(f, octets),

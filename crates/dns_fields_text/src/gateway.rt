@@ -1,51 +1,89 @@
-//! Gateways, relays and host identities (RFC 4025 section 3.1, RFC 8777 section 4.3.1, RFC 8005 section
-//! 6).
-use base64::display::Base64Display;
-use base64::engine::general_purpose::STANDARD;
-use dns_value_text::Hex;
-use dns_wire::{ParsedName, Parser};
+//! Gateways and relays (RFC 4025 section 3.1, RFC 8777 section 4.3.1).
+ghost use Rattle.std.specs.Prelude.{◌≡◌, IfSome, MatchOption, None, Some, is_some};
+ghost use Rattle.std.specs.Fmt.{WritesOnOk};
+ghost use Rattle.std.specs.Net.Addr.{segments_of};
+ghost use Rattle.std.specs.Net.Text.{ipv4_text, ipv6_text};
+ghost use Rattle.dns_name.specs.NameReading.{name_labels};
+ghost use Rattle.dns_fields_text.specs.GatewayTexts.{gateway_at, gateway_text, key_text, name_at, relay_text, word_at};
+ghost use Rattle.dns_fields_text.specs.GatewayValues.{SplitsGateway, gateway_shown, gateway_word, relay_shown};
+
+use crate::base64_text::write_base64;
+use dns_name::{Name, ParsedName, Parser};
 use std::fmt;
 use std::net::{Ipv4Addr, Ipv6Addr};
 
 /// A gateway: nothing, an address or a name.
-#[derive(Clone, Copy, Debug)]
+#[derive(Debug, Drop)]
 pub(crate) enum Gateway<'a> {
-    None,
+    Nothing,
     Ipv4(Ipv4Addr),
     Ipv6(Ipv6Addr),
-    Name(ParsedName<'a>),
+    Name(Name<&'a [u8]>),
+}
+
+/// The uncompressed name at the start of octets, and the octets after it.
+pub(crate) fn split_name(octets: &[u8]) -> Option<(Name<&[u8]>, &[u8])>
+    ensures { MatchOption result (name_at octets.now ≡ None)
+        (λ split. name_at octets.now ≡ Some (name_labels split.0, split.1.now)) }
+{
+    let mut parser = Parser::new(octets);
+    let Ok(()) = ParsedName::skip(&mut parser) else {
+        return None;
+    };
+    let Some((front, after)) = octets.split_at_checked(parser.pos()) else {
+        return None;
+    };
+    let Ok(name) = Name::from_octets(front) else {
+        return None;
+    };
+    Some((name, after))
+}
+
+/// The IPv4 address at the start of octets, and the octets after it.
+fn split_ipv4(octets: &[u8]) -> Option<(Gateway<'_>, &[u8])>
+    ensures { SplitsGateway (word_at 4 ipv4_text octets.now) result }
+{
+    let Some((address, after)) = octets.split_first_chunk::<4>() else {
+        return None;
+    };
+    Some((Gateway::Ipv4(Ipv4Addr::from(*address)), after))
+}
+
+/// The IPv6 address at the start of octets, and the octets after it.
+fn split_ipv6(octets: &[u8]) -> Option<(Gateway<'_>, &[u8])>
+    ensures { SplitsGateway (word_at 16 (λ address. ipv6_text (segments_of address)) octets.now)
+        result }
+{
+    let Some((address, after)) = octets.split_first_chunk::<16>() else {
+        return None;
+    };
+    Some((Gateway::Ipv6(Ipv6Addr::from(*address)), after))
 }
 
 /// The gateway of this type at the start of octets, and the octets after it. `None` for another type
 /// than 0 to 3, and if the octets don't begin with such a gateway.
-fn split_gateway(gateway_type: u8, octets: &[u8]) -> Option<(Gateway<'_>, &[u8])> {
+fn split_gateway(gateway_type: u8, octets: &[u8]) -> Option<(Gateway<'_>, &[u8])>
+    ensures { SplitsGateway (gateway_at gateway_type octets.now) result }
+{
     match gateway_type {
-        0 => Some((Gateway::None, octets)),
-        1 => {
-            let (address, after) = octets.split_at_checked(4)?;
-            let address = <[u8; 4]>::try_from(address).ok()?;
-            Some((Gateway::Ipv4(Ipv4Addr::from(address)), after))
-        }
-        2 => {
-            let (address, after) = octets.split_at_checked(16)?;
-            let address = <[u8; 16]>::try_from(address).ok()?;
-            Some((Gateway::Ipv6(Ipv6Addr::from(address)), after))
-        }
-        3 => {
-            let mut parser = Parser::new(octets);
-            let name = ParsedName::parse(&mut parser).ok()?;
-            let after = octets.get(parser.pos()..)?;
-            Some((Gateway::Name(name), after))
-        }
+        0 => Some((Gateway::Nothing, octets)),
+        1 => split_ipv4(octets),
+        2 => split_ipv6(octets),
+        3 => match split_name(octets) {
+            Some((name, after)) => Some((Gateway::Name(name), after)),
+            None => None,
+        },
         _ => None,
     }
 }
 
 /// A dot, an address, or a name and a dot.
 impl fmt::Display for Gateway<'_> {
+    ghost output = { λ gateway. Some (gateway_word gateway) };
+
     fn fmt<W: fmt::Write>(&self, f: &mut fmt::Formatter<W>) -> fmt::Result {
         match self {
-            Gateway::None => f.write_char('.'),
+            Gateway::Nothing => f.write_char('.'),
             Gateway::Ipv4(address) => write!(f, "{address}"),
             Gateway::Ipv6(address) => write!(f, "{address}"),
             Gateway::Name(name) => write!(f, "{name}."),
@@ -54,7 +92,7 @@ impl fmt::Display for Gateway<'_> {
 }
 
 /// A gateway type, an algorithm, a gateway and a public key.
-#[derive(Clone, Copy, Debug)]
+#[derive(Debug, Drop)]
 pub(crate) struct GatewayAndKey<'a> {
     gateway_type: u8,
     algorithm: u8,
@@ -64,120 +102,83 @@ pub(crate) struct GatewayAndKey<'a> {
 
 impl<'a> GatewayAndKey<'a> {
     /// The value of these octets. `None` if they have no presentation format.
-    pub(crate) fn from_octets(octets: &'a [u8]) -> Option<Self> {
+    pub(crate) fn from_octets(octets: &'a [u8]) -> Option<Self>
+        ensures found { is_some result ≡ is_some (gateway_text octets.now) }
+        ensures text { IfSome result (λ value.
+            Some (gateway_shown value) ≡ gateway_text octets.now) }
+    {
         let [gateway_type, algorithm, after @ ..] = octets else {
             return None;
         };
-        let (gateway, key) = split_gateway(*gateway_type, after)?;
-        Some(GatewayAndKey {
-            gateway_type: *gateway_type,
-            algorithm: *algorithm,
-            gateway,
-            key,
-        })
+        match split_gateway(*gateway_type, after) {
+            Some((gateway, key)) => Some(GatewayAndKey {
+                gateway_type: *gateway_type,
+                algorithm: *algorithm,
+                gateway,
+                key,
+            }),
+            None => None,
+        }
     }
+}
+
+/// Prints a public key in base64 after a space; nothing if there are no octets.
+pub(crate) fn write_key<W: fmt::Write>(f: &mut fmt::Formatter<W>, key: &[u8]) -> fmt::Result
+    ensures { WritesOnOk W.write_str_gives f.old result (key_text key.now) f.new }
+{
+    if key.is_empty() {
+        return Ok(());
+    }
+    f.write_char(' ')?;
+    write_base64(f, key)
 }
 
 /// The words, each after a space. A key of no octets has no word.
 impl fmt::Display for GatewayAndKey<'_> {
+    ghost output = { λ value. Some (gateway_shown value) };
+
     fn fmt<W: fmt::Write>(&self, f: &mut fmt::Formatter<W>) -> fmt::Result {
         write!(f, " {} {}", self.gateway_type, self.algorithm)?;
         write!(f, " {}", self.gateway)?;
-        if self.key.is_empty() {
-            return Ok(());
-        }
-        write!(f, " {}", Base64Display::new(self.key, &STANDARD))
+        write_key(f, self.key)
     }
 }
 
-/// A bit, a relay type and a relay.
-#[derive(Clone, Copy, Debug)]
+/// A bit that says whether discovery is optional, a relay type and a relay.
+#[derive(Debug, Drop)]
 pub(crate) struct Relay<'a> {
-    is_discovery_optional: bool,
+    discovery: u8,
     relay_type: u8,
     relay: Gateway<'a>,
 }
 
 impl<'a> Relay<'a> {
     /// The value of these octets. `None` if they have no presentation format.
-    pub(crate) fn from_octets(octets: &'a [u8]) -> Option<Self> {
+    pub(crate) fn from_octets(octets: &'a [u8]) -> Option<Self>
+        ensures found { is_some result ≡ is_some (relay_text octets.now) }
+        ensures text { IfSome result (λ value. Some (relay_shown value) ≡ relay_text octets.now) }
+    {
         let [first, after @ ..] = octets else {
             return None;
         };
         let relay_type = *first % 128;
-        let (relay, left) = split_gateway(relay_type, after)?;
-        if !left.is_empty() {
-            return None;
+        match split_gateway(relay_type, after) {
+            Some((relay, [])) => Some(Relay {
+                discovery: *first / 128,
+                relay_type,
+                relay,
+            }),
+            _ => None,
         }
-        Some(Relay {
-            is_discovery_optional: *first >= 128,
-            relay_type,
-            relay,
-        })
     }
 }
 
 /// The words, each after a space.
 impl fmt::Display for Relay<'_> {
+    ghost output = { λ value. Some (relay_shown value) };
+
     fn fmt<W: fmt::Write>(&self, f: &mut fmt::Formatter<W>) -> fmt::Result {
-        f.write_str(if self.is_discovery_optional {
-            " 1"
-        } else {
-            " 0"
-        })?;
-        write!(f, " {} {}", self.relay_type, self.relay)
-    }
-}
-
-/// An algorithm, a host identity tag, a public key and the names of rendezvous servers.
-#[derive(Clone, Copy, Debug)]
-pub(crate) struct HostIdentity<'a> {
-    algorithm: u8,
-    tag: &'a [u8],
-    key: &'a [u8],
-    servers: &'a [u8],
-}
-
-impl<'a> HostIdentity<'a> {
-    /// The value of these octets. `None` if they have no presentation format: a tag or key of no octets
-    /// has none.
-    pub(crate) fn from_octets(octets: &'a [u8]) -> Option<Self> {
-        let [tag_size, algorithm, high, low, after @ ..] = octets else {
-            return None;
-        };
-        let (tag, after) = after.split_at_checked(usize::from(*tag_size))?;
-        let key_size = usize::from(*high) * 256 + usize::from(*low);
-        let (key, servers) = after.split_at_checked(key_size)?;
-        if tag.is_empty() || key.is_empty() {
-            return None;
-        }
-        Some(HostIdentity {
-            algorithm: *algorithm,
-            tag,
-            key,
-            servers,
-        })
-    }
-}
-
-/// Prints consecutive names, each after a space.
-fn write_servers<W: fmt::Write>(f: &mut fmt::Formatter<W>, octets: &[u8]) -> fmt::Result {
-    let mut left = octets;
-    'servers: while !left.is_empty() {
-        let Some((server, after)) = split_gateway(3, left) else {
-            return Err(fmt::Error);
-        };
-        write!(f, " {server}")?;
-        left = after;
-    }
-    Ok(())
-}
-
-/// The words, separated by spaces.
-impl fmt::Display for HostIdentity<'_> {
-    fn fmt<W: fmt::Write>(&self, f: &mut fmt::Formatter<W>) -> fmt::Result {
-        write!(f, "{} {}", self.algorithm, Hex(self.tag))?;
-        write!(f, " {}", Base64Display::new(self.key, &STANDARD))?;
-        write_servers(f, self.servers)
+        write!(f, " {} {}", self.discovery, self.relay_type)?;
+        write!(f, " {}", self.relay)
     }
 }

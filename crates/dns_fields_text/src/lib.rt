@@ -6,6 +6,8 @@ mod base64_text;
 mod data_text;
 mod field;
 mod gateway;
+mod host_identity;
+pub mod laws;
 mod parameter;
 mod parameters;
 mod prefix;

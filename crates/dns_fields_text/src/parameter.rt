@@ -3,7 +3,7 @@
 ghost use Rattle.std.specs.Prelude.{◌≡◌, ◌++◌, Some, codes, length, option_map, true};
 ghost use Rattle.std.specs.Fmt.{WritesOnOk};
 ghost use Rattle.std.specs.List.{list_all};
-ghost use Rattle.dns_fields_text.specs.Parameters.{are_protocols, has_named_value, ipv4_hints, ipv6_hints, is_bare, key_name, key_word, keys_text, named_value, other_value, parameter_word, port_text, protocols};
+ghost use Rattle.dns_fields_text.specs.Parameters.{are_keys, are_protocols, has_named_value, ipv4_hints, ipv6_hints, is_bare, key_name, key_word, keys_text, named_value, other_value, parameter_word, port_text, protocols};
 ghost use Rattle.dns_fields_text.specs.ItemsLeft.{parameter_item};
 
 use crate::base64_text::write_base64;
@@ -144,12 +144,29 @@ fn write_protocols<W: fmt::Write>(f: &mut fmt::Formatter<W>, value: &[u8]) -> fm
     Ok(())
 }
 
+/// Whether the octets are increasing keys, one at least, without the key of `mandatory` itself.
+fn are_keys(value: &[u8]) -> bool
+    ensures { result ≡ are_keys value.now }
+{
+    let mut least = 0;
+    let mut left = value;
+    'keys: while let [high, low, after @ ..] = left {
+        let key = u16::from(*high) * 256 + u16::from(*low);
+        if key <= least {
+            return false;
+        }
+        least = key;
+        left = after;
+    }
+    left.is_empty() && !value.is_empty()
+}
+
 /// Whether the value is well-formed for the name of its key.
 fn has_named_value(key: u16, value: &[u8]) -> bool
     ensures { result ≡ has_named_value key value.now }
 {
     match key {
-        0 => !value.is_empty() && value.len() % 2 == 0,
+        0 => are_keys(value),
         1 => are_protocols(value),
         2 | 8 => value.is_empty(),
         3 => value.len() == 2,

@@ -85,10 +85,7 @@ fn sign(prefix: &AddressPrefix<'_>) -> &'static str
 }
 
 /// Prints a prefix that has a presentation format.
-fn write_prefix<W: fmt::Write>(
-    f: &mut fmt::Formatter<W>,
-    prefix: &AddressPrefix<'_>,
-) -> fmt::Result
+fn write_prefix<W: fmt::Write>(f: &mut fmt::Formatter<W>, prefix: &AddressPrefix<'_>) -> fmt::Result
     requires { has_word (prefix_item prefix.now) ≡ true }
     ensures { WritesOnOk W.write_str_gives f.old result (prefix_text (prefix_item prefix.now))
         f.new }

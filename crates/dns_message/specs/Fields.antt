@@ -1,4 +1,4 @@
--- Record types as a table, and RDATA as named fields.
+-- Record types as a table, RDATA as named fields, and records as lines.
 pub use Rattle.dns_fields.specs.Table.{Definition, definitions, kinds_of}
 unfoldable pub use Rattle.dns_fields.specs.Table.{definitions_of}
 pub use Rattle.dns_fields.specs.FieldData.{type_layout}
@@ -8,3 +8,8 @@ pub use Rattle.dns_fields.specs.EncodedFields.{part_of}
 pub use Rattle.dns_fields.specs.Values.{FieldValue, part_value, value_shown}
 pub use Rattle.dns_fields.specs.Shapes.{shape_of}
 pub use Rattle.dns_fields.specs.Accepts.{accepts}
+pub use Rattle.dns_fields_text.specs.DataTexts.{data_fields, data_line}
+pub use Rattle.dns_fields_text.specs.FieldTexts.{field_text, fields_octets, fields_text, value_text}
+pub use Rattle.dns_fields_text.specs.RecordLines.{line_after, record_line}
+unfoldable pub use Rattle.dns_fields_text.specs.TypeNames.{mnemonic}
+pub use Rattle.dns_fields_text.specs.TypeNames.{type_word}

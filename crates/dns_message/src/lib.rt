@@ -158,7 +158,8 @@ pub mod data {
     pub use dns_opt::laws as option_laws;
 }
 
-/// Record types as a table, and RDATA of every type as named fields.
+/// Record types as a table, and RDATA of every type as named fields. `RecordText` prints a record as a
+/// line of a zone file, and `DataText` its RDATA.
 ///
 /// The first name in RDATA, such as the exchange of MX or the target of SRV:
 ///
@@ -174,6 +175,7 @@ pub mod fields {
     pub use dns_fields::{
         Encoded, Field, FieldData, Fields, Kind, OPAQUE, Shape, TABLE, Value, fields_of,
     };
+    pub use dns_fields_text::{DataText, RecordText};
 }
 
 /// Serial numbers of zones, compared and added by RFC 1982.

@@ -1,4 +1,4 @@
-use Rattle.std.proofs.Common.{length, List, ℕ}
+use Rattle.std.proofs.Common.{length}
 use Rattle.std.specs.Prelude.{codes, map}
 use Rattle.std.specs.Fmt.{IsPlainFormatter}
 use Rattle.std.specs.Net.Addr.{segments_of}

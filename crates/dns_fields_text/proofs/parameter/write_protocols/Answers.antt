@@ -1,4 +1,4 @@
-use Rattle.std.proofs.Common.{◌≡◌, ◌∙◌, [], ◌∷◌, true, ap, sym, rules}
+use Rattle.std.proofs.Common.{◌≡◌, ◌∙◌, [], ◌∷◌, ap, sym, rules}
 use Rattle.std.specs.Prelude.{codes}
 use Rattle.std.specs.List.{list_all}
 use Rattle.std.proofs.lemmas.Bool.{and_parts}
@@ -7,7 +7,7 @@ use Rattle.dns_fields_text.specs.Parameters.{is_bare}
 use Rattle.dns_fields_text.specs.Separated.{separated}
 use Rattle.dns_fields_text.specs.Strings.{strings_of}
 use Rattle.dns_fields_text.proofs.ProtocolLemmas.{are_bare, protocols_bare}
-use Rattle.dns_fields_text.proofs.WordSteps.{all_printed, first_printed}
+use Rattle.dns_fields_text.proofs.WordSteps.{first_printed, words_end}
 use Rattle.dns_fields_text.proofs.parameter.write_protocols.Goals as goal
 
 pub loop-name-init : goal.loop-name-init
@@ -17,7 +17,7 @@ loop-name-init g c =
       tt,
       search rules,
       ap are_bare all ∙ protocols_bare c.args.value.now c.requires,
-      λ plain. record { printed = []; wrote = search rules; is = ap (separated [] (codes ",")) all },
+      λ plain. record { printed = []; wrote = search rules; rest = ap (separated [] (codes ",")) all },
     )
 
 pub write_plain-requires : goal.write_plain-requires
@@ -36,8 +36,8 @@ loop-name-preserved g c =
           let p = c.loop-name.invariant.4 plain in
           let first = c.write_str.ensures.writes p.wrote.plain (search rules) in
           let second = c.write_plain.ensures first.plain (search rules) in
-          first_printed _ _ _ _ _ _ _ _ _ _ _ left p first second,
+          first_printed _ _ _ (codes ",") _ _ _ _ _ _ _ left p first second,
     )
 
 pub returns : goal.returns
-returns g c = λ plain ok. all_printed _ _ _ _ _ _ _ c.in-None.ensures.steps.0 (c.loop-name.invariant.4 plain)
+returns g c = λ plain ok. words_end _ _ _ (codes ",") _ _ _ c.in-None.ensures.steps.0 (c.loop-name.invariant.4 plain)

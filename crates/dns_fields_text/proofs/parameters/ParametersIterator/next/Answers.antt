@@ -1,4 +1,4 @@
-use Rattle.std.proofs.Common.{ap, length, drop, arith, rules, ◌*◌, ◌+◌}
+use Rattle.std.proofs.Common.{ap, length, arith, rules, ◌*◌, ◌+◌}
 use Rattle.dns_fields_text.proofs.ItemKinds.{parameters_first, cut_at}
 use Rattle.dns_fields_text.proofs.parameters.ParametersIterator.next.Goals as goal
 

@@ -1,0 +1,23 @@
+use Rattle.std.proofs.Common.{◌≡◌, ◌∷◌, [], List, ap, codes, rules}
+use Rattle.dns_fields.specs.FieldParts.{NamedPart, fields_left, named_part}
+use Rattle.dns_fields_text.proofs.Printing.{word_printed_if}
+use Rattle.dns_fields_text.specs.DataTexts.{data_fields}
+use Rattle.dns_fields_text.specs.FieldTexts.{field_text, fields_text}
+use Rattle.dns_fields_text.proofs.data_text.write_fields.Goals as goal
+
+pub loop-field-preserved : goal.loop-field-preserved
+loop-field-preserved g c =
+    let sep = c.loop-field.separator.now in
+    let item = named_part c.in-Some.field in
+    let old = fields_left c.loop-field.field-iterator in
+    let rest = fields_left c.next.new.self in
+    let left : old ≡ item ∷ rest = search rules in
+    record {
+      can = tt;
+      finite = tt;
+      utf8 = search rules;
+      printing = λ plain.
+          let so_far = c.loop-field.invariant.printing plain in
+          word_printed_if g.W.Write.write_str_gives c.args.f.now c.loop-field.f c.write_field.new.f c.write_field.result (fields_text sep old) (field_text sep item) (fields_text (codes " ") rest)
+          (fields_text [] (data_fields c.args.«data».now)) so_far c.write_field.ensures (search rules) (ap (λ (items : List NamedPart). fields_text sep items) left);
+    }

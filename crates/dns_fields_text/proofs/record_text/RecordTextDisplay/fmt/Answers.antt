@@ -1,0 +1,11 @@
+use Rattle.std.proofs.Common.{subst, ℕ, List}
+use Rattle.std.specs.Fmt.{DisplaysOnOk}
+use Rattle.std.specs.Prelude.{Option}
+use Rattle.dns_fields_text.proofs.RecordLines.{printed_line}
+use Rattle.dns_fields_text.proofs.record_text.RecordTextDisplay.fmt.Goals as goal
+
+pub returns-clause-writes : goal.returns-clause-writes
+returns-clause-writes g c =
+    subst (λ (o : Option (List ℕ)). DisplaysOnOk g.W.Write.write_str_gives c.args.f.now c.write.result o c.write.new.self)
+    (rw (c.owner.ensures, c.as_secs.ensures, c.ttl.ensures, c.class.ensures, c.rtype.ensures, c.data.ensures) (printed_line _ _ _ _ _))
+    c.write.ensures.writes
