@@ -58,9 +58,13 @@ file_after words (Some index) = first_file (drop (index + 1) words)
 abbrev pub second_file : Words → Option (String Global)
 second_file words = file_after words (file_index words)
 
+-- the first `--short`
+abbrev pub short_option : Words → Option (String Global)
+short_option words = find (λ word. is_short (string_bytes word)) words
+
 -- `--short` if `--html` is given too
 abbrev pub contrary_option : Words → Option (String Global)
-contrary_option words = if has is_html words then find (λ word. is_short (string_bytes word)) words else None
+contrary_option words = if has is_html words then short_option words else None
 
 -- the argument that is wrong: the first unknown option, else the second file, else `--short` beside `--html`
 abbrev pub wrong_word : Words → Option (String Global)

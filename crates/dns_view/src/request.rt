@@ -1,7 +1,7 @@
 //! The arguments of the program `dnsview`, and what they ask for.
 ghost use Rattle.std.specs.Prelude.{◌≡◌, ◌<◌, length, IfSome};
 ghost use Rattle.std.specs.Option.{option_copied};
-ghost use Rattle.dns_view.specs.Requests.{asked, contrary_option, file_index, file_of, first_file, form_of, has, is_file, is_help, is_html, is_option, is_short, is_unknown, is_version, second_file, unknown_option, wrong_word};
+ghost use Rattle.dns_view.specs.Requests.{asked, contrary_option, file_index, file_of, first_file, form_of, has, is_file, is_help, is_html, is_option, is_short, is_unknown, is_version, second_file, short_option, unknown_option, wrong_word};
 
 /// What the program prints of a message.
 #[derive(Clone, Copy)]
@@ -111,10 +111,16 @@ fn contrary_option(words: &[String]) -> Option<&String>
     ensures { option_copied result ≡ contrary_option words.now }
 {
     if asks_html(words) {
-        words.iter().find(|word| is_short(word.as_str()))
+        short_option(words)
     } else {
         None
     }
+}
+
+fn short_option(words: &[String]) -> Option<&String>
+    ensures { option_copied result ≡ short_option words.now }
+{
+    words.iter().find(|word| is_short(word.as_str()))
 }
 
 /// The first option that the program doesn't know.

@@ -180,7 +180,7 @@ const RUNS: &[Case] = &[
         words: "--text",
         input: b"00",
         printed: "",
-        errors: "dnsview: unexpected argument '--text'\nusage: dnsview [--html] [FILE]\n",
+        errors: "dnsview: unexpected argument '--text'\nusage: dnsview [--html | --short] [FILE]\n",
         status: 2,
     },
     Case {
@@ -188,7 +188,7 @@ const RUNS: &[Case] = &[
         words: "a b -x",
         input: b"00",
         printed: "",
-        errors: "dnsview: unexpected argument '-x'\nusage: dnsview [--html] [FILE]\n",
+        errors: "dnsview: unexpected argument '-x'\nusage: dnsview [--html | --short] [FILE]\n",
         status: 2,
     },
     Case {
@@ -196,10 +196,59 @@ const RUNS: &[Case] = &[
         words: "a --html b c",
         input: b"00",
         printed: "",
-        errors: "dnsview: unexpected argument 'b'\nusage: dnsview [--html] [FILE]\n",
+        errors: "dnsview: unexpected argument 'b'\nusage: dnsview [--html | --short] [FILE]\n",
+        status: 2,
+    },
+    Case {
+        name: "a page of lines",
+        words: "--html --short",
+        input: b"00",
+        printed: "",
+        errors: "dnsview: unexpected argument '--short'\nusage: dnsview [--html | --short] [FILE]\n",
         status: 2,
     },
 ];
+
+/// Inputs whose records print as lines, and the lines.
+const LINES: &[(&str, &[u8], &str)] = &[
+    (
+        "an MX record, and an OPT record without a line",
+        b"000181800001000100000001076578616d706c6503636f6d00000f0001
+            c00c000f000100000e100009000a046d61696cc00c00002904d0000000000000",
+        "example.com. 3600 IN MX 10 mail.example.com.\n",
+    ),
+    (
+        "an address that lacks an octet",
+        b"00018000000000010000000000000100010000000000037f0000",
+        ". 0 IN A \\# 3 7f0000\n",
+    ),
+    (
+        "a record that isn't there",
+        b"000180000000000100000000",
+        ";; malformed record in the answer section\n;; the authority section has no start\n",
+    ),
+    (
+        "a question that isn't there",
+        b"000100000001000000000000",
+        ";; the answer section has no start\n",
+    ),
+    (
+        "no header",
+        b"0001",
+        ";; the message has fewer than 12 octets\n",
+    ),
+];
+
+#[test]
+fn prints_lines(rt: HostRuntime) -> Result<(), Fail> {
+    for (name, input, lines) in LINES {
+        let ended = run(rt.alloc(), "--short", input)?;
+        assert_status(&rt, name, ended.status, 0);
+        assert_text(&rt, name, &ended.printed, lines);
+        assert_text(&rt, name, &ended.errors, "");
+    }
+    Ok(())
+}
 
 #[test]
 fn prints_runs(rt: HostRuntime) -> Result<(), Fail> {
@@ -222,7 +271,7 @@ fn prints_help(rt: HostRuntime) -> Result<(), Fail> {
         assert_status(&rt, words, ended.status, 0);
         let is_usage = ended
             .printed
-            .starts_with("usage: dnsview [--html] [FILE]\n\nPrints");
+            .starts_with("usage: dnsview [--html | --short] [FILE]\n\nPrints");
         assert_holds(&rt, words, is_usage);
         assert_holds(
             &rt,
@@ -249,6 +298,7 @@ fn finds_the_file(rt: HostRuntime) -> Result<(), Fail> {
     assert_file(&rt, rt.alloc(), "answer.bin", "answer.bin")?;
     assert_file(&rt, rt.alloc(), "answer.bin --html", "answer.bin")?;
     assert_file(&rt, rt.alloc(), "--html -", "-")?;
+    assert_file(&rt, rt.alloc(), "--short answer.bin", "answer.bin")?;
     // No view is asked for.
     assert_file(&rt, rt.alloc(), "answer.bin --help", "")?;
     assert_file(&rt, rt.alloc(), "answer.bin query.bin", "")
