@@ -166,7 +166,8 @@ pub mod data {
 /// ```
 pub mod fields {
     pub use dns_fields::{
-        Encoded, Field, FieldData, Fields, Kind, OPAQUE, Shape, TABLE, Value, fields_of,
+        Encoded, Field, FieldData, Fields, Kind, OPAQUE, OwnedFieldData, Shape, TABLE, Value,
+        fields_of, laws,
     };
 }
 
