@@ -44,14 +44,12 @@ keeps_same (Some xs) = refl
 
 module _ {X E : Type 0} (r : Result X E) (octets : List ℕ) {rows given : List Row} (a b : Option (List ℕ)) (are : AreRowsOf octets rows) (same : given ≡ rows) where
   -- rows are printed as text
-  pub text_printed : (form : Form) → form ≡ Text → OnOk r (PrintsEach (IsRowText octets) given a b) → OnOk r (PrintsForm form octets a b)
-  text_printed form is h =
-      subst (λ (f : Form). OnOk r (PrintsForm f octets a b)) (sym is) (on_ok r (λ p. (rows, are, subst (λ (xs : List Row). PrintsEach (IsRowText octets) xs a b) same p)) h)
+  pub text_printed : OnOk r (PrintsEach (IsRowText octets) given a b) → OnOk r (PrintsForm Text octets a b)
+  text_printed h = on_ok r (λ p. (rows, are, subst (λ (xs : List Row). PrintsEach (IsRowText octets) xs a b) same p)) h
 
   -- rows are printed as a page
-  pub page_printed_of : (form : Form) → form ≡ Page → OnOk r (Prints (IsPage octets given) a b) → OnOk r (PrintsForm form octets a b)
-  page_printed_of form is h =
-      subst (λ (f : Form). OnOk r (PrintsForm f octets a b)) (sym is) (on_ok r (λ p. (rows, are, subst (λ (xs : List Row). Prints (IsPage octets xs) a b) same p)) h)
+  pub page_printed_of : OnOk r (Prints (IsPage octets given) a b) → OnOk r (PrintsForm Page octets a b)
+  page_printed_of h = on_ok r (λ p. (rows, are, subst (λ (xs : List Row). Prints (IsPage octets xs) a b) same p)) h
 
 -- a message of no octets
 pub given_empty : (input octets : List ℕ) (n : ℕ) → n ≡ length octets → Gives input octets → nat_eq n 0 ≡ true → Gives input []

@@ -215,10 +215,28 @@ fn print_form<W: Write>(alloc: Global, form: Form, message: &[u8], writer: &mut 
         (W.contents writer.old) (W.contents writer.new)) }
 {
     match form {
-        Form::Text => print_text(alloc, writer, message, &rows(alloc, message)?),
-        Form::Page => print_page(alloc, writer, message, &rows(alloc, message)?),
+        Form::Text => print_as_text(alloc, message, writer),
+        Form::Page => print_as_page(alloc, message, writer),
         Form::Lines => print_lines(message, writer),
     }
+}
+
+/// Prints the rows of a message as text.
+fn print_as_text<W: Write>(alloc: Global, message: &[u8], writer: &mut W) -> io::Result<()>
+    ensures { OnOk result (PrintsForm Form.Text message.now
+        (W.contents writer.old) (W.contents writer.new)) }
+{
+    let rows = rows(alloc, message)?;
+    print_text(alloc, writer, message, &rows)
+}
+
+/// Prints the rows of a message as a page.
+fn print_as_page<W: Write>(alloc: Global, message: &[u8], writer: &mut W) -> io::Result<()>
+    ensures { OnOk result (PrintsForm Form.Page message.now
+        (W.contents writer.old) (W.contents writer.new)) }
+{
+    let rows = rows(alloc, message)?;
+    print_page(alloc, writer, message, &rows)
 }
 
 /// Prints the lines of a message's records.
