@@ -1,7 +1,8 @@
-//! What is printed of RDATA: its fields, and its canonical form.
+//! What is printed of RDATA: its fields, its canonical form, and its text.
 use dns_code::Rtype;
 use dns_data::{ComposeRecordData, ParseAnyRecordData};
 use dns_fields::{FieldData, Value};
+use dns_fields_text::DataText;
 use dns_read::Message;
 use dns_wire::Parser;
 use std::alloc::Global;
@@ -49,7 +50,7 @@ fn print_digits<W: Write>(writer: &mut W, octets: &[u8]) -> io::Result<()> {
     Ok(())
 }
 
-/// Prints the canonical form of the RDATA of each answer, in a line each.
+/// Prints the canonical form of the RDATA of each answer and its text, in a line each.
 pub(crate) fn print_canonical<W: Write>(
     alloc: Global,
     writer: &mut W,
@@ -66,7 +67,7 @@ pub(crate) fn print_canonical<W: Write>(
         match record.data().compose_canonical_rdata(&mut target) {
             Ok(()) => {
                 print_digits(writer, &target)?;
-                writeln!(writer, "")?;
+                writeln!(writer, " {}", DataText(record.data()))?;
             }
             Err(error) => writeln!(writer, "{error}")?,
         }
