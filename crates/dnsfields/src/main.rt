@@ -5,7 +5,8 @@
 //! Each line has the word `rdata`, a record type and RDATA, or the word `message` and a message,
 //! both as hexadecimal digits; what follows `#` is a comment. For RDATA the program prints the
 //! fields by name. For a message it prints the message written again from its fields, with
-//! compressed names, and the canonical form of each record's RDATA (RFC 4034 section 6.2).
+//! compressed names, and for each answer the canonical form of its RDATA (RFC 4034 section 6.2) and
+//! its text.
 #![tactic(auto)]
 
 mod fields;
