@@ -13,7 +13,8 @@ pub fn table_is_specified()
     ensures { table_types ≡ record_types }
 {}
 
-/// Each mnemonic is the registered name of the type's number, as `Rtype` prints it.
+/// Each mnemonic is the name that IANA has registered for the type's number, which
+/// `Rtype::registered_name` returns.
 #[tactic(auto, unfolding(crate::specs::RecordTypes::record_types, dns_number::specs::Registry::registered_types))]
 pub fn mnemonics_are_registered()
     ensures { map (λ type. mnemonic registered_types type.number) record_types

@@ -15,8 +15,8 @@ const IPV4: u16 = 1;
 const IPV6: u16 = 2;
 
 /// An address prefix that prints as an exclamation mark if it is negated, the family, a colon, the
-/// address, a slash and the size. Printing fails for another family than IPv4 and IPv6, and if address
-/// or size don't fit.
+/// address, a slash and the size. Another family than IPv4 and IPv6, or an address or a size that
+/// doesn't fit, has no text: see `is_printable`.
 #[derive(Clone, Copy, Debug)]
 pub struct PrefixText<'a>(pub AddressPrefix<'a>);
 

@@ -9,7 +9,7 @@ use dns_number::Rtype;
 use std::fmt;
 
 /// A type bit map: blocks of a window number, a length and bits. It prints as the types whose bits are
-/// set, each after a space.
+/// set, each after a space, up to the first block that is malformed.
 #[derive(Clone, Copy, Debug)]
 pub struct TypeMap<'a>(pub &'a [u8]);
 

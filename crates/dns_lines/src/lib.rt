@@ -1,8 +1,8 @@
 //! Prints the records of a message as lines of a zone file (RFC 1035 section 5.1), one for each
-//! record, as `dig +noall +answer +authority +additional` does.
+//! record but OPT, as `dig +noall +answer +authority +additional` has them.
 //!
-//! RDATA prints as the fields of its record type, and as octets if it is malformed (RFC 3597 section
-//! 5). The text is a function of the message's octets.
+//! RDATA prints as the fields of its record type. If it is malformed, it prints as octets (RFC 3597
+//! section 5), perhaps with a compression pointer. The text is a function of the message's octets.
 #![tactic(auto)]
 
 mod zone_lines;

@@ -2,6 +2,8 @@
 pub use Rattle.dns_fields.specs.Table.{Definition, definitions, kinds_of}
 unfoldable pub use Rattle.dns_fields.specs.Table.{definitions_of}
 pub use Rattle.dns_fields.specs.RecordTypes.{TypeDefinition}
+pub use Rattle.dns_fields.specs.NamesOfTypes.{may_be_compressed, may_have_pointer, is_lowercased, types_with}
+unfoldable pub use Rattle.dns_fields.specs.Table.{table_types}
 unfoldable pub use Rattle.dns_fields.specs.RecordTypes.{record_types}
 pub use Rattle.dns_fields.specs.FieldData.{type_layout}
 pub use Rattle.dns_fields.specs.Data.{rtype_of, parts_of}
@@ -12,8 +14,9 @@ pub use Rattle.dns_fields.specs.EncodedFields.{part_of}
 pub use Rattle.dns_fields.specs.Values.{FieldValue, part_value, value_shown}
 pub use Rattle.dns_fields.specs.Shapes.{shape_of}
 pub use Rattle.dns_fields.specs.Accepts.{accepts}
-pub use Rattle.dns_fields_text.specs.DataTexts.{data_fields, data_line}
+pub use Rattle.dns_fields_text.specs.DataTexts.{data_fields, data_text, data_line}
 pub use Rattle.dns_fields_text.specs.FieldTexts.{field_text, fields_octets, fields_text, value_text}
-pub use Rattle.dns_fields_text.specs.RecordLines.{line_after, record_line}
+pub use Rattle.dns_fields_text.specs.RecordLines.{record_text, record_line}
+pub use Rattle.dns_fields_text.specs.ZoneNames.{zone_name_text}
 unfoldable pub use Rattle.dns_fields_text.specs.TypeNames.{mnemonic}
 pub use Rattle.dns_fields_text.specs.TypeNames.{type_word}

@@ -1,9 +1,0 @@
-pub mod Addresses
-pub mod Base32Words
-pub mod EuiWords
-pub mod Laws
-pub mod NameWords
-pub mod Reading
-pub mod Salts
-pub mod TimeWords
-pub mod TypeWords
