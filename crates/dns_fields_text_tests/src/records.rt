@@ -2,7 +2,7 @@
 use dns_code::{Class, Rtype};
 use dns_data::ParseAnyRecordData;
 use dns_fields::FieldData;
-use dns_fields_text::RecordText;
+use dns_fields_text::{RecordText, ZoneName};
 use dns_item::{Record, Ttl};
 use dns_wire::{ParsedName, Parser};
 use std::test::Fail;
@@ -16,5 +16,14 @@ fn prints_records(rt: HostRuntime) -> Result<(), Fail> {
     let record = Record::new(owner, Class::IN, Ttl::from_secs(3600), data);
     let text = format!(in rt.alloc(); "{}", RecordText(&record))?;
     assert_eq!(rt; text.as_str(), "ISI.EDU. 3600 IN MX 10 VENERA.ISI.EDU.");
+    Ok(())
+}
+
+/// Characters with a meaning in zone files are escaped, as dnspython does.
+#[test]
+fn escapes_names(rt: HostRuntime) -> Result<(), Fail> {
+    let name = ParsedName::parse(&mut Parser::new(b"\x04a;b(\x05\")@$\\\x03c.\x01\x00"))?;
+    let text = format!(in rt.alloc(); "{}", ZoneName(name))?;
+    assert_eq!(rt; text.as_str(), "a\\;b\\(.\\\"\\)\\@\\$\\\\.c\\.\\001.");
     Ok(())
 }
