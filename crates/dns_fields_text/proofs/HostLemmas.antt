@@ -6,15 +6,15 @@ use Rattle.std.specs.Fmt.{DisplaysOnOk, ◌++?◌}
 use Rattle.std.specs.declared.fmt.Error.{Error}
 use Rattle.std.specs.declared.fmt.Formatter.{Formatter}
 use Rattle.dns_name.specs.Names.{Labels, uncompressed}
-use Rattle.dns_name.specs.NameTexts.{name_text}
 use Rattle.dns_name.proofs.theory.LabelsLemmas.{length-uncompressed}
 use Rattle.dns_fields_text.specs.GatewayTexts.{name_at}
+use Rattle.dns_fields_text.specs.ZoneNames.{zone_name_text}
 use Rattle.dns_fields_text.specs.HostIdentities.{servers_in, servers_text, identity_words, identity_parts}
 use Rattle.dns_fields_text.proofs.NameAtLemmas.{name_is_found}
 
 -- a name after a space and with its final dot
 abbrev pub server : Labels → List ℕ
-server name = codes " " ++ (name_text name ++ codes ".")
+server name = codes " " ++ zone_name_text name
 
 -- the octets after a name are fewer
 pub after_name : (octets after : List ℕ) (name : Labels) → name_at octets ≡ Some (name, after) → length after < length octets

@@ -8,7 +8,7 @@ mod NameAtLemmas
 mod OctetLemmas
 mod PrefixLemmas
 mod Printing
-mod ProtocolLemmas
 mod RecordLines
+mod ProtocolLemmas
 mod TypeMapLemmas
 mod WordSteps

@@ -7,7 +7,7 @@ use Rattle.std.specs.Net.Text.{ipv4_text, ipv6_text}
 use Rattle.base64.specs.Engines.{standard}
 use Rattle.base64.specs.GeneralPurpose.{encode_of}
 use Rattle.dns_name.specs.Names.{uncompressed}
-use Rattle.dns_name.specs.NameTexts.{name_text}
+use Rattle.dns_fields_text.specs.ZoneNames.{zone_name_text}
 use Rattle.dns_wire.specs.Parts.{Part}
 use Rattle.dns_wire.specs.Parts.Part.{Octets as OctetsPart, CompressibleName, UncompressedName}
 use Rattle.dns_fields.specs.FieldParts.{NamedPart}
@@ -106,7 +106,7 @@ value_text kind (Number n) = number_text kind n
 value_text kind (RecordType rtype) = Some (type_word rtype)
 value_text kind (Ipv4 octets) = ipv4_of octets
 value_text kind (Ipv6 octets) = ipv6_of octets
-value_text kind (Name name) = Some (name_text name ++ codes ".")
+value_text kind (Name name) = Some (zone_name_text name)
 value_text kind (String octets) = string_text kind octets
 value_text kind (Sized octets) = Some (sized_text octets)
 value_text kind (Octets octets) = octets_text kind octets

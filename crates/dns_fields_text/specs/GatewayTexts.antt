@@ -7,7 +7,7 @@ use Rattle.base64.specs.Engines.{standard}
 use Rattle.base64.specs.GeneralPurpose.{encode_of}
 use Rattle.dns_fields.specs.PlainNames.{can_follow}
 use Rattle.dns_name.specs.Names.{Labels}
-use Rattle.dns_name.specs.NameTexts.{name_text}
+use Rattle.dns_fields_text.specs.ZoneNames.{zone_name_text}
 
 -- at most `count` labels after labels of `size` octets, up to the root label, and the octets after it
 abbrev pub labels_at : ℕ → ℕ → List ℕ → Option (Labels × List ℕ)
@@ -29,7 +29,7 @@ word_at size text octets = if nat_le size (length octets) then Some (text (take 
 
 -- a name with its final dot, and the octets after it
 abbrev pub name_word_at : List ℕ → Option (List ℕ × List ℕ)
-name_word_at octets = option_map (λ name. (name_text name.0 ++ codes ".", name.1)) (name_at octets)
+name_word_at octets = option_map (λ name. (zone_name_text name.0, name.1)) (name_at octets)
 
 -- the gateway of this type at the start of octets as a word, and the octets after it: a dot, an address or a name
 abbrev pub gateway_at : ℕ → List ℕ → Option (List ℕ × List ℕ)

@@ -4,9 +4,9 @@ use Rattle.std.specs.Fmt.{◌++?◌}
 use Rattle.std.specs.Option.{option_and_then}
 use Rattle.base64.specs.Engines.{standard}
 use Rattle.base64.specs.GeneralPurpose.{encode_of}
-use Rattle.dns_name.specs.NameTexts.{name_text}
 use Rattle.dns_value_text.specs.Hex.{hex_text}
 use Rattle.dns_fields_text.specs.GatewayTexts.{name_at}
+use Rattle.dns_fields_text.specs.ZoneNames.{zone_name_text}
 
 -- at most `count` names that fill octets, each after a space and with its final dot
 abbrev pub servers_in : ℕ → List ℕ → Option (List ℕ)
@@ -14,7 +14,7 @@ servers_in zero [] = Some []
 servers_in zero (x ∷ xs) = None
 servers_in (suc count) [] = Some []
 servers_in (suc count) (x ∷ xs) =
-    option_and_then (λ server. Some (codes " " ++ (name_text server.0 ++ codes ".")) ++? servers_in count server.1) (name_at (x ∷ xs))
+    option_and_then (λ server. Some (codes " " ++ zone_name_text server.0) ++? servers_in count server.1) (name_at (x ∷ xs))
 
 -- the names that fill octets
 abbrev pub servers_text : List ℕ → Option (List ℕ)

@@ -19,3 +19,4 @@ pub mod SmallMaps
 pub mod Strings
 pub mod TypeMaps
 pub mod TypeNames
+pub mod ZoneNames

@@ -14,6 +14,7 @@ use crate::prefixes::AddressPrefixes;
 use crate::strings::Strings;
 use crate::type_map::{SmallTypeMap, TypeMap};
 use crate::type_name::TypeName;
+use crate::zone_name::ZoneName;
 use dns_fields::{Kind, Value};
 use dns_value_text::{Base32, Eui, Hex, Location, Locator64, Quoted, Tag, Timestamp};
 use std::fmt;
@@ -225,7 +226,7 @@ pub(crate) fn write_text<W: fmt::Write>(
         Value::RecordType(rtype) => write!(f, "{}", TypeName(*rtype)),
         Value::Ipv4(octets) => write_ipv4(f, octets),
         Value::Ipv6(octets) => write_ipv6(f, octets),
-        Value::Name(name) => write!(f, "{name}."),
+        Value::Name(name) => write!(f, "{}", ZoneName(*name)),
         Value::String(octets) => write_string(f, kind, octets),
         Value::Sized(octets) => write_sized(f, octets),
         Value::Octets(octets) => write_octets(f, kind, octets),

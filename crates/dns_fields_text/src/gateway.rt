@@ -8,7 +8,8 @@ ghost use Rattle.dns_fields_text.specs.GatewayTexts.{gateway_at, gateway_text, k
 ghost use Rattle.dns_fields_text.specs.GatewayValues.{SplitsGateway, gateway_shown, gateway_word, relay_shown};
 
 use crate::base64_text::write_base64;
-use dns_name::{Name, ParsedName, Parser};
+use crate::zone_name::ZoneName;
+use dns_name::{Name, ParsedName, Parser, ToName};
 use std::fmt;
 use std::net::{Ipv4Addr, Ipv6Addr};
 
@@ -86,7 +87,7 @@ impl fmt::Display for Gateway<'_> {
             Gateway::Nothing => f.write_char('.'),
             Gateway::Ipv4(address) => write!(f, "{address}"),
             Gateway::Ipv6(address) => write!(f, "{address}"),
-            Gateway::Name(name) => write!(f, "{name}."),
+            Gateway::Name(name) => write!(f, "{}", ZoneName(name.as_parsed())),
         }
     }
 }

@@ -6,6 +6,8 @@ ghost use Rattle.dns_fields_text.specs.IdentityValues.{identity_shown};
 
 use crate::base64_text::write_base64;
 use crate::gateway::split_name;
+use crate::zone_name::ZoneName;
+use dns_name::ToName;
 use dns_value_text::Hex;
 use std::fmt;
 
@@ -84,7 +86,7 @@ fn write_servers<W: fmt::Write>(f: &mut fmt::Formatter<W>, octets: &[u8]) -> fmt
         let Some((server, after)) = split_name(left) else {
             return Err(fmt::Error);
         };
-        write!(f, " {server}.")?;
+        write!(f, " {}", ZoneName(server.as_parsed()))?;
         left = after;
     }
     Ok(())

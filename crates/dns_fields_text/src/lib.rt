@@ -17,6 +17,7 @@ mod strings;
 mod type_map;
 mod type_name;
 mod unknown;
+mod zone_name;
 
 pub use data_text::DataText;
 pub use parameter::ParameterText;
@@ -27,3 +28,4 @@ pub use record_text::RecordText;
 pub use strings::Strings;
 pub use type_map::{SmallTypeMap, TypeMap};
 pub use type_name::TypeName;
+pub use zone_name::ZoneName;

@@ -4,7 +4,6 @@ use Rattle.std.specs.Fmt.{◌++?◌, decimal}
 use Rattle.std.specs.Prelude.{◌==◌, if◌then◌else◌, Some}
 use Rattle.dns_number.specs.Classes.{class_text}
 use Rattle.dns_data.specs.Printing.{opaque_text}
-use Rattle.dns_name.specs.NameTexts.{name_text}
 use Rattle.dns_name.specs.ParsedName.{labels}
 use Rattle.dns_name.specs.declared.parsed_name.ParsedName.{ParsedName}
 use Rattle.dns_item.specs.ParsedRecord.{EncodedRecord}
@@ -19,6 +18,7 @@ use Rattle.dns_fields.specs.declared.field_data.FieldData.{FieldData}
 use Rattle.dns_fields_text.specs.DataTexts.{data_text}
 use Rattle.dns_fields_text.specs.RecordLines.{record_text}
 use Rattle.dns_fields_text.specs.TypeNames.{type_word}
+use Rattle.dns_fields_text.specs.ZoneNames.{zone_name_text}
 use Rattle.dns_tool.specs.Show.{data_parts, line}
 use Rattle.dns_lines.specs.ZoneLines.{line_with, rdata_text, record_lines}
 
@@ -33,14 +33,14 @@ module _ (x : EncodedRecord) where
 
   -- the text of a record, by the fields that were read
   pub text_of_fields : (r : Record ParsedName FieldData) → IsRecordOf rtype_of parts_of x.octets x.entry (parts_of (data_of r)) r
-      → record_text (name_text (labels (owner_of r))) (ttl_of r) (class_of r) (rtype_of (data_of r)) (data_text (named_parts (definitions_of (rtype_of (data_of r))) (parts_of (data_of r))))
-      ≡ record_text (name_text x.entry.owner) x.entry.ttl x.entry.class x.entry.rtype (rdata_text x (Some (parts_of (data_of r))))
-  text_of_fields r is = λ i. record_text (name_text (is i).owner) (is i).ttl (is i).class (is i).rtype (data_text (named_parts (definitions_of (is i).rtype) (parts_of (data_of r))))
+      → record_text (zone_name_text (labels (owner_of r))) (ttl_of r) (class_of r) (rtype_of (data_of r)) (data_text (named_parts (definitions_of (rtype_of (data_of r))) (parts_of (data_of r))))
+      ≡ record_text (zone_name_text x.entry.owner) x.entry.ttl x.entry.class x.entry.rtype (rdata_text x (Some (parts_of (data_of r))))
+  text_of_fields r is = λ i. record_text (zone_name_text (is i).owner) (is i).ttl (is i).class (is i).rtype (data_text (named_parts (definitions_of (is i).rtype) (parts_of (data_of r))))
 
   -- what is printed of a record with its RDATA as octets
-  pub opaque_printed : (owner : List ℕ) (ttl class rtype : ℕ) (octets : List ℕ) → owner ≡ name_text x.entry.owner → ttl ≡ x.entry.ttl → class ≡ x.entry.class → rtype ≡ x.entry.rtype
+  pub opaque_printed : (owner : List ℕ) (ttl class rtype : ℕ) (octets : List ℕ) → owner ≡ zone_name_text x.entry.owner → ttl ≡ x.entry.ttl → class ≡ x.entry.class → rtype ≡ x.entry.rtype
       → octets ≡ drop x.entry.rdata_start (up_to_rdata_end x.octets x.entry)
-      → Some owner ++? (Some (codes ". ") ++? (Some (decimal ttl) ++? (Some (codes " ") ++? (Some (class_text class) ++? (Some (codes " ") ++? (Some (type_word rtype) ++? (Some (codes " ") ++? (Some (opaque_text octets) ++? Some (10 ∷ [])))))))))
+      → Some owner ++? (Some (codes " ") ++? (Some (decimal ttl) ++? (Some (codes " ") ++? (Some (class_text class) ++? (Some (codes " ") ++? (Some (type_word rtype) ++? (Some (codes " ") ++? (Some (opaque_text octets) ++? Some (10 ∷ [])))))))))
       ≡ Some (line_with x None)
   opaque_printed owner ttl class rtype octets o t c y d =
       ap Some (simp append_assoc) ∙ λ i. Some (line (record_text (o i) (t i) (c i) (y i) (opaque_text (d i))))

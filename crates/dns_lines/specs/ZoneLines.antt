@@ -1,7 +1,6 @@
 -- The lines that a message's records have in a zone file. RFC 1035 section 5.1, RFC 3597 section 5.
 use Rattle.std.specs.Prelude.{ℕ, ◌==◌, if◌then◌else◌, List, [], ◌++◌, drop, Option, Some, None, Result, Ok, Err, codes}
 use Rattle.dns_name.specs.Names.{Fault}
-use Rattle.dns_name.specs.NameTexts.{name_text}
 use Rattle.dns_wire.specs.Parts.{Part}
 use Rattle.dns_data.specs.Printing.{opaque_text}
 use Rattle.dns_item.specs.ParsedRecord.{EncodedRecord}
@@ -12,6 +11,7 @@ use Rattle.dns_fields.specs.FieldParts.{named_parts}
 use Rattle.dns_fields.specs.Table.{definitions_of}
 use Rattle.dns_fields_text.specs.DataTexts.{data_text}
 use Rattle.dns_fields_text.specs.RecordLines.{record_text}
+use Rattle.dns_fields_text.specs.ZoneNames.{zone_name_text}
 use Rattle.dns_tool.specs.Show.{line, data_parts, section_word, sections_text}
 
 -- RDATA: the fields of its record type if it has these parts, else its octets
@@ -21,7 +21,7 @@ rdata_text x None = opaque_text (drop x.entry.rdata_start (up_to_rdata_end x.oct
 
 -- the line of a record, by the parts of its RDATA
 abbrev pub line_with : EncodedRecord → Option (List Part) → List ℕ
-line_with x parts = line (record_text (name_text x.entry.owner) x.entry.ttl x.entry.class x.entry.rtype (rdata_text x parts))
+line_with x parts = line (record_text (zone_name_text x.entry.owner) x.entry.ttl x.entry.class x.entry.rtype (rdata_text x parts))
 
 -- The line of a record; its RDATA has no parts if it is malformed. An OPT record has none, as it isn't data of a zone (RFC 6891 section 6.1.1).
 abbrev pub record_lines : EncodedRecord → List ℕ

@@ -9,7 +9,7 @@ ghost use Rattle.dns_lines.specs.ZoneLines.{line_with, malformed_line, record_li
 use dns_code::Rtype;
 use dns_data::UnknownRecordData;
 use dns_fields::FieldData;
-use dns_fields_text::{RecordText, TypeName};
+use dns_fields_text::{RecordText, TypeName, ZoneName};
 use dns_item::ParsedRecord;
 use dns_read::{Message, Section};
 use dns_tool::{RecordLines, print_records, section_word};
@@ -82,12 +82,12 @@ fn print_opaque<W: Write>(writer: &mut W, parsed: &ParsedRecord<'_>) -> io::Resu
         (line_with (encoded_record parsed.now) None)) }
 {
     let found = parsed.to_any_record::<UnknownRecordData<&[u8]>>().unwrap();
-    let owner = found.owner();
+    let owner = ZoneName(*found.owner());
     let ttl = found.ttl().as_secs();
     let class = found.class();
     let rtype = TypeName(found.rtype());
     let octets = found.data();
-    writeln!(writer, "{owner}. {ttl} {class} {rtype} {octets}")
+    writeln!(writer, "{owner} {ttl} {class} {rtype} {octets}")
 }
 
 /// Prints that a record is malformed.

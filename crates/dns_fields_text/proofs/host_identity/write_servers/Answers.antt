@@ -11,7 +11,7 @@ servers-preserved g c = λ plain.
     let name = name_labels c.in-Some.server in
     let octets = c.servers.left.now in
     let after = c.in-Some.after.now in
-    word_printed_if _ _ _ _ c.write.result (servers_text octets) (Some (server name)) (servers_text after) _ (c.servers.invariant plain) c.write.ensures.writes (search rules) (server_first octets after name c.in-Some.ensures)
+    word_printed_if _ _ _ _ c.write.result (servers_text octets) (Some (server name)) (servers_text after) _ (c.servers.invariant plain) (rw c.as_parsed.ensures.labels at c.write.ensures.writes) (search rules) (server_first octets after name c.in-Some.ensures)
 
 pub servers-smaller : goal.servers-smaller
 servers-smaller g c = after_name c.servers.left.now c.in-Some.after.now (name_labels c.in-Some.server) c.in-Some.ensures

@@ -1,11 +1,11 @@
 use Rattle.std.proofs.Common.{◌≡◌, ◌∙◌, ap, drop, ◌∷◌, []}
-use Rattle.dns_name.specs.NameTexts.{name_text}
 use Rattle.dns_name.specs.ParsedName.{labels}
 use Rattle.dns_item.specs.RecordReading.{up_to_rdata_end}
 use Rattle.dns_data.specs.UnknownData.{unknown_rtype_of, unknown_octets}
 use Rattle.dns_wire.specs.Parts.Part.{Octets}
 use Rattle.dns_item.specs.ParsedRecord.{encoded_record}
 use Rattle.dns_item.specs.Record.{data_of}
+use Rattle.dns_fields_text.specs.ZoneNames.{zone_name_text}
 use Rattle.dns_tool.proofs.theory.PrintedLines.{printed_as}
 use Rattle.dns_tool.proofs.theory.ShownRecords.{there, opaque_is_ok}
 use Rattle.dns_lines.proofs.LineLemmas.{opaque_printed}
@@ -24,7 +24,7 @@ returns g c =
     let octets : unknown_octets (data_of r) ≡ drop x.entry.rdata_start (up_to_rdata_end x.octets x.entry) = let e = given.1.1 in cc e in
     printed_as _ _ _ _ c.writeln.result
     (opaque_printed x _ _ _ _ _
-    (ap (λ n. name_text (labels n)) c.owner-owner.ensures ∙ ap (λ i. name_text i.owner) given.0)
+    (ap (λ n. zone_name_text (labels n)) c.owner.ensures ∙ ap (λ i. zone_name_text i.owner) given.0)
     (c.as_secs-ttl.ensures ∙ c.ttl.ensures ∙ ap (λ i. i.ttl) given.0)
     (c.class-class.ensures ∙ ap (λ i. i.class) given.0)
     (c.rtype.ensures ∙ ap (λ i. i.rtype) given.0)

@@ -1,4 +1,4 @@
-use Rattle.std.proofs.Common.{◌≡◌, ◌∙◌, List, ℕ, ap, subst, sym, Some, OnOk}
+use Rattle.std.proofs.Common.{◌∙◌, List, ℕ, ap, subst, sym, Some, OnOk}
 use Rattle.std.specs.Io.KnownBytes.{Appends}
 use Rattle.std.specs.Prelude.{◌==◌}
 use Rattle.dns_item.specs.ParsedRecord.{encoded_record}

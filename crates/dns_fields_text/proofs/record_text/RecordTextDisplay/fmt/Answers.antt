@@ -6,6 +6,5 @@ use Rattle.dns_fields_text.proofs.record_text.RecordTextDisplay.fmt.Goals as goa
 
 pub returns-clause-writes : goal.returns-clause-writes
 returns-clause-writes g c =
-    subst (λ (o : Option (List ℕ)). DisplaysOnOk g.W.Write.write_str_gives c.args.f.now c.write.result o c.write.new.self)
-    (rw (c.owner.ensures, c.as_secs.ensures, c.ttl.ensures, c.class.ensures, c.rtype.ensures, c.data.ensures) (printed_line _ _ _ _ _))
-    c.write.ensures.writes
+    let writes = rw (c.as_parsed.ensures.labels, c.owner.ensures, c.as_secs-ttl.ensures, c.ttl.ensures, c.class-class.ensures, c.rtype.ensures, c.data.ensures) at c.write.ensures.writes in
+    subst (λ (o : Option (List ℕ)). DisplaysOnOk g.W.Write.write_str_gives c.args.f.now c.write.result o c.write.new.self) (printed_line _ _ _ _ _) writes
