@@ -1,13 +1,17 @@
 //! Tests of RDATA as fields. The rows are examples of the RFCs, or have their form; the expected
 //! values come from outside this library.
 //!
-//! Nothing is exported. `hosts`, `security` and `services` have three rows or more for each type,
-//! which `rows` reads, cuts at each octet, and writes. `malformed` has octets that aren't RDATA. A
+//! Nothing is exported. `certificates`, `dnssec`, `hosts` and `services` have three rows or more for
+//! each type, which `rows` reads, cuts at each octet, and writes. `malformed` has octets that aren't RDATA. A
 //! failure prints the name of the row.
 #![tactic(auto)]
 
 #[cfg(test)]
 mod canonical;
+#[cfg(test)]
+mod certificates;
+#[cfg(test)]
+mod dnssec;
 #[cfg(test)]
 mod hosts;
 #[cfg(test)]
@@ -22,7 +26,5 @@ mod owned;
 mod pointers;
 #[cfg(test)]
 mod rows;
-#[cfg(test)]
-mod security;
 #[cfg(test)]
 mod services;
