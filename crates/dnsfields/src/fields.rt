@@ -1,4 +1,8 @@
 //! What is printed of RDATA: its fields, its canonical form, and its text.
+ghost use Rattle.std.specs.Prelude.{OnOk};
+ghost use Rattle.std.specs.Io.KnownBytes.{Appends};
+ghost use Rattle.hex.specs.Hex.{encode_lower};
+
 use dns_code::Rtype;
 use dns_data::{ComposeRecordData, ParseAnyRecordData};
 use dns_fields::{FieldData, Value};
@@ -10,26 +14,36 @@ use std::io;
 use std::io::Write;
 
 /// Prints the fields of RDATA of this type, in a line.
-pub(crate) fn print_fields<W: Write>(writer: &mut W, rtype: u16, octets: &[u8]) -> io::Result<()> {
+pub(crate) fn print_fields<W: Write>(
+    alloc: Global,
+    writer: &mut W,
+    rtype: u16,
+    octets: &[u8],
+) -> io::Result<()> {
     let mut parser = Parser::new(octets);
     match FieldData::parse_any_rdata(Rtype::from_int(rtype), &mut parser) {
-        Ok(data) => print_values(writer, rtype, &data),
+        Ok(data) => print_values(alloc, writer, rtype, &data),
         Err(error) => writeln!(writer, "{rtype} {error}"),
     }
 }
 
 /// Prints each field as its name and its value.
-fn print_values<W: Write>(writer: &mut W, rtype: u16, data: &FieldData<'_>) -> io::Result<()> {
+fn print_values<W: Write>(
+    alloc: Global,
+    writer: &mut W,
+    rtype: u16,
+    data: &FieldData<'_>,
+) -> io::Result<()> {
     write!(writer, "{rtype}")?;
     for field in data.fields() {
         write!(writer, " {}=", field.name)?;
-        print_value(writer, &field.value())?;
+        print_value(alloc, writer, &field.value())?;
     }
     writeln!(writer, "")
 }
 
 /// Prints numbers as decimal digits, and octets as hexadecimal digits.
-fn print_value<W: Write>(writer: &mut W, value: &Value<'_>) -> io::Result<()> {
+fn print_value<W: Write>(alloc: Global, writer: &mut W, value: &Value<'_>) -> io::Result<()> {
     match value {
         Value::Number(number) => write!(writer, "{number}"),
         Value::RecordType(rtype) => write!(writer, "{}", rtype.to_int()),
@@ -38,16 +52,17 @@ fn print_value<W: Write>(writer: &mut W, value: &Value<'_>) -> io::Result<()> {
         | Value::Ipv6(octets)
         | Value::String(octets)
         | Value::Sized(octets)
-        | Value::Octets(octets) => print_digits(writer, octets),
+        | Value::Octets(octets) => print_digits(alloc, writer, octets),
     }
 }
 
-/// Prints octets as hexadecimal digits.
-fn print_digits<W: Write>(writer: &mut W, octets: &[u8]) -> io::Result<()> {
-    for octet in octets {
-        write!(writer, "{octet:02x}")?;
-    }
-    Ok(())
+/// Prints octets as two lowercase hexadecimal digits each.
+fn print_digits<W: Write>(alloc: Global, writer: &mut W, octets: &[u8]) -> io::Result<()>
+    ensures { OnOk result (Appends (W.contents writer.old) (W.contents writer.new)
+        (encode_lower octets.now)) }
+{
+    let digits = hex::encode(alloc, octets)?;
+    writer.write_all(digits.as_bytes())
 }
 
 /// Prints the canonical form of the RDATA of each answer and its text, in a line each.
@@ -66,7 +81,7 @@ pub(crate) fn print_canonical<W: Write>(
         let mut target = Vec::new(alloc);
         match record.data().compose_canonical_rdata(&mut target) {
             Ok(()) => {
-                print_digits(writer, &target)?;
+                print_digits(alloc, writer, &target)?;
                 writeln!(writer, " {}", DataText(record.data()))?;
             }
             Err(error) => writeln!(writer, "{error}")?,

@@ -52,7 +52,7 @@ fn print_rdata<W: Write>(
         return writeln!(writer, "bad record type");
     };
     match hex::decode(alloc, digits) {
-        Ok(octets) => print_fields(writer, rtype, &octets),
+        Ok(octets) => print_fields(alloc, writer, rtype, &octets),
         Err(_) => writeln!(writer, "bad digits"),
     }
 }
