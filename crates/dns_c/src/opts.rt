@@ -111,7 +111,8 @@ pub(crate) fn next_option(
     ensures option { IfOk result (λ given. given ≡ true → OptionBegins
         (option_at octets.now option.new)
         (data_from octets.now item.now place.old) (data_from octets.now item.now place.new)) }
-    ensures end { IfOk result (λ given. given ≢ true → data_from octets.now item.now place.old ≡ []) }
+    ensures end { IfOk result (λ given. given ≢ true
+        → data_from octets.now item.now place.old ≡ []) }
     ensures none { IfErr result (λ fault.
         LacksOption octets.now item.now place.old (number_of fault)) }
     ensures unchanged { result ≢ Ok true → (place.new ≡ place.old) × (option.new ≡ option.old) }

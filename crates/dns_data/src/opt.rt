@@ -65,8 +65,8 @@ impl<Octs: Octets> Opt<Octs> {
         self.iter().first(code)
     }
 
-    /// The identifier of the name server, empty in a query (NSID, RFC 5001). `None` if no option is
-    /// one.
+    /// The first identifier of the name server, empty in a query (NSID, RFC 5001). `None` if no
+    /// option is one.
     pub fn nsid(&self) -> Option<&[u8]>
         ensures { option_copied result ≡ first_octets 3 (opt_options self.now) }
     {
@@ -84,8 +84,8 @@ impl<Octs: Octets> Opt<Octs> {
         }
     }
 
-    /// When the zone expires (EXPIRE, RFC 7314). `None` if no option says so, and an error if its
-    /// octets are malformed.
+    /// When the zone expires, as the first option that says so has it (EXPIRE, RFC 7314). `None` if
+    /// none says so, and an error if its octets are malformed.
     pub fn expire(&self) -> Result<Option<Expire>, BadOptData>
         ensures { ReadsFirst ReadsExpire (first_octets 9 (opt_options self.now)) result }
     {
@@ -106,8 +106,8 @@ impl<Octs: Octets> Opt<Octs> {
         }
     }
 
-    /// How long the TCP connection is kept (RFC 7828). `None` if no option says so, and an error if
-    /// its octets are malformed.
+    /// How long the TCP connection is kept, as the first option that says so has it (RFC 7828).
+    /// `None` if none says so, and an error if its octets are malformed.
     pub fn tcp_keepalive(&self) -> Result<Option<TcpKeepalive>, BadOptData>
         ensures { ReadsFirst ReadsTcpKeepalive (first_octets 11 (opt_options self.now)) result }
     {

@@ -24,8 +24,8 @@ pub(crate) fn compose<T: Composer>(
 ) -> Result<(), AppendError>
     ensures { (q : ℕ) (ps : List Part)
         → DataAt (seen parser.entry) (layout_of (kinds fields.now)) (offset parser.entry) q ps
-        → Composes T.capacity T.grows (encode_parts T.rule (formed canonical ps)) (T.written target.old)
-        (T.written target.new) result }
+        → Composes T.capacity T.grows (encode_parts T.rule (formed canonical ps))
+        (T.written target.old) (T.written target.new) result }
 {
     parts_compose();
     let [field, after @ ..] = fields else {

@@ -14,7 +14,8 @@ use Rattle.dns_fields.specs.declared.shape.Shape.TheVariants.{Octets, Counted, S
 use Rattle.dns_wire.specs.Parts.{Part}
 use Rattle.dns_wire.specs.Parts.Part.{Octets as OctetsPart, CompressibleName, UncompressedName as UncompressedPart}
 use Rattle.dns_fields_text.specs.DataTexts.{data_fields}
-use Rattle.dns_fields_text.specs.FieldTexts.{fields_octets, part_octets}
+use Rattle.dns_fields.specs.DataOrders.{part_octets}
+use Rattle.dns_fields_text.specs.FieldTexts.{fields_octets}
 
 no_parts : (ds : List Definition) → fields_octets (named_parts ds []) ≡ []
 no_parts [] = refl

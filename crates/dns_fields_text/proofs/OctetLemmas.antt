@@ -8,7 +8,8 @@ use Rattle.dns_fields.specs.FieldParts.{NamedPart, named_parts}
 use Rattle.dns_fields.specs.Table.{Definition}
 use Rattle.dns_wire.specs.Parts.{Part, parts_size, part_size}
 use Rattle.dns_wire.specs.Parts.Part.{Octets, CompressibleName, UncompressedName}
-use Rattle.dns_fields_text.specs.FieldTexts.{fields_octets, part_octets}
+use Rattle.dns_fields.specs.DataOrders.{part_octets}
+use Rattle.dns_fields_text.specs.FieldTexts.{fields_octets}
 
 -- the digits of the first of some items, and then those of the others
 pub first_digits : {A : Type 0} (octets : A → List ℕ) (items : List A) (item : A) (after : List A) → items ≡ item ∷ after

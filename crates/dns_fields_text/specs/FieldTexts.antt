@@ -6,10 +6,8 @@ use Rattle.std.specs.Net.Addr.{segments_of}
 use Rattle.std.specs.Net.Text.{ipv4_text, ipv6_text}
 use Rattle.base64.specs.Engines.{standard}
 use Rattle.base64.specs.GeneralPurpose.{encode_of}
-use Rattle.dns_name.specs.Names.{uncompressed}
 use Rattle.dns_fields_text.specs.ZoneNames.{zone_name_text}
-use Rattle.dns_wire.specs.Parts.{Part}
-use Rattle.dns_wire.specs.Parts.Part.{Octets as OctetsPart, CompressibleName, UncompressedName}
+use Rattle.dns_fields.specs.DataOrders.{part_octets}
 use Rattle.dns_fields.specs.FieldParts.{NamedPart}
 use Rattle.dns_fields_text.specs.ParameterItems.{parameters_of}
 use Rattle.dns_fields_text.specs.PrefixItems.{prefixes_of}
@@ -132,12 +130,6 @@ field_text separator field = Some (space_before field.kind separator) ++? value_
 abbrev pub fields_text : List ℕ → List NamedPart → Option (List ℕ)
 fields_text separator [] = Some []
 fields_text separator (field ∷ fields) = field_text separator field ++? fields_text (codes " ") fields
-
--- the octets of a part, uncompressed
-abbrev pub part_octets : Part → List ℕ
-part_octets (OctetsPart octets) = octets
-part_octets (CompressibleName name) = uncompressed name
-part_octets (UncompressedName lowercased name) = uncompressed name
 
 -- the octets of fields
 abbrev pub fields_octets : List NamedPart → List ℕ

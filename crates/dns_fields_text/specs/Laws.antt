@@ -4,7 +4,8 @@ use Rattle.std.specs.List.{flat_map}
 use Rattle.dns_fields.specs.Data.{parts_of}
 use Rattle.dns_fields.specs.declared.field_data.FieldData.{FieldData}
 use Rattle.dns_fields_text.specs.DataTexts.{data_fields}
-use Rattle.dns_fields_text.specs.FieldTexts.{fields_octets, part_octets}
+use Rattle.dns_fields.specs.DataOrders.{part_octets}
+use Rattle.dns_fields_text.specs.FieldTexts.{fields_octets}
 
 -- the octets of the fields are those of all parts, so no part lacks a field
 abbrev pub FieldsAreAll : Type 0

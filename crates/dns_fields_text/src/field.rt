@@ -219,7 +219,8 @@ pub(crate) fn write_text<W: fmt::Write>(
     kind: Kind,
     value: &Value<'_>,
 ) -> fmt::Result
-    ensures { DisplaysOnOk W.write_str_gives f.old result (value_text kind (value_shown value.now)) f.new }
+    ensures { DisplaysOnOk W.write_str_gives f.old result
+        (value_text kind (value_shown value.now)) f.new }
 {
     match value {
         Value::Number(number) => write_number(f, kind, *number),

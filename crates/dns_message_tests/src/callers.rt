@@ -106,7 +106,8 @@ fn finds_the_answers(rt: HostRuntime) -> Result<(), Fail> {
 fn first_answer<'a, Octs: Octets, D: ParseRecordData<'a> + Drop>(
     message: &'a Message<Octs>,
 ) -> Option<Record<ParsedName<'a>, D>>
-    ensures { IfSome result (EncodedFirst D.rtype_of D.parts D.layout (message_octets message.now)) }
+    ensures { IfSome result (EncodedFirst D.rtype_of D.parts D.layout
+        (message_octets message.now)) }
 {
     let mut answers = message.answer().ok()?;
     let record = answers.next()?.ok()?;

@@ -41,7 +41,7 @@ impl TcpKeepalive {
     }
 }
 
-/// COOKIE (RFC 7873).
+/// COOKIE (RFC 7873). What its fields promise holds of each value that `parse` returns.
 #[derive(Clone, Copy, Debug, PartialEq, Eq)]
 pub struct Cookie<'a> {
     /// The cookie of the client.

@@ -8,7 +8,8 @@ use crate::error::BadOptData;
 use crate::option::SubnetAddr;
 use arrayvec::ArrayVec;
 
-/// The subnet of a client (RFC 7871).
+/// The subnet of a client (RFC 7871). What its fields promise holds of each value that `parse`
+/// returns.
 #[derive(Clone, Copy, Debug, PartialEq, Eq)]
 pub struct ClientSubnet {
     /// The number of bits of the address that the subnet has.

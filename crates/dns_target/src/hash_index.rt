@@ -13,8 +13,8 @@ use crate::texts::{Found, reaches};
 use std::alloc::{AllocError, Global};
 
 /// The suffixes in the table, and a recent one. The next name is first compared with the recent
-/// suffix, as consecutive names often share one. It is the longest suffix of the last name that was
-/// in the table before that name. If there was none, it is the whole name, if that entered.
+/// suffix, as consecutive names often share one. It is the suffix to which the pointer of the last
+/// name leads. If that name has no pointer, it is the whole name, if it entered the table.
 #[derive(Debug, Drop)]
 pub struct HashIndex {
     suffixes: SuffixMap,

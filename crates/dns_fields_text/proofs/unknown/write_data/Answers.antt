@@ -1,8 +1,8 @@
 use Rattle.std.proofs.Common.{◌≡◌, ◌∷◌, rules}
+use Rattle.dns_fields.specs.DataOrders.{part_octets}
 use Rattle.dns_fields.specs.FieldParts.{NamedPart, fields_left, named_part}
 use Rattle.dns_fields_text.proofs.OctetLemmas.{first_digits}
 use Rattle.dns_fields_text.proofs.Printing.{word_printed}
-use Rattle.dns_fields_text.specs.FieldTexts.{part_octets}
 use Rattle.dns_fields_text.proofs.unknown.write_data.Goals as goal
 
 pub loop-field-preserved : goal.loop-field-preserved
