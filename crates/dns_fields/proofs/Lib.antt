@@ -8,5 +8,6 @@ mod NameSteps
 mod OrderedData
 mod OwnedCopies
 mod Skipped
+mod SkipSteps
 mod TableLemmas
 mod Views

@@ -33,6 +33,7 @@ impl Encoded<'_> {
 }
 
 /// Reads a field.
+#[inline(always)]
 pub(crate) fn read_field<'a>(
     kind: Kind,
     shape: Shape,

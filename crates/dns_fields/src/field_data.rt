@@ -1,11 +1,13 @@
 //! RDATA of any record type, as fields.
-ghost use Rattle.std.specs.Prelude.{◌≤◌};
+ghost use Rattle.std.specs.Prelude.{◌≡◌, ◌≤◌};
 ghost use Rattle.dns_wire.specs.Parts.{parts_size};
 ghost use Rattle.dns_fields.specs.FieldData.{IsThere, parts_from, type_layout};
 ghost use Rattle.dns_fields.specs.Layouts.{most};
+ghost use Rattle.dns_fields.specs.Table.{definitions, definitions_of};
 
 use crate::compose::compose;
 use crate::fields::Fields;
+use crate::kind::Kind;
 use crate::skip::skip;
 use crate::table::fields_of;
 use dns_code::Rtype;
@@ -19,23 +21,24 @@ const MOST: usize = 65535;
 #[derive(Clone, Copy, Debug)]
 pub struct FieldData<'a> {
     rtype: u16,
+    /// The fields of the record type.
+    fields: &'static [(&'static str, Kind)],
     parser: Parser<'a>,
+    ghost defined: { definitions fields.now ≡ definitions_of rtype },
     ghost encoded: { IsThere rtype parser },
     ghost short: { parts_size (parts_from rtype parser) ≤ most },
 }
 
 impl<'a> FieldData<'a> {
-    ghost use Rattle.std.specs.Prelude.{◌≡◌};
     ghost use Rattle.dns_fields.specs.Data.{rtype_of, parts_of};
     ghost use Rattle.dns_fields.specs.FieldParts.{named_parts, fields_left};
-    ghost use Rattle.dns_fields.specs.Table.{definitions_of};
 
     /// The fields, in order, with the names and kinds of the record type.
     pub fn fields(&self) -> Fields<'a>
         ensures { fields_left result ≡ named_parts (definitions_of (rtype_of self.now))
             (parts_of self.now) }
     {
-        Fields::new(fields_of(self.rtype), self.parser)
+        Fields::new(self.fields, self.parser)
     }
 
     /// RDATA of this type, whose fields are known to be encoded at the parser's offset.
@@ -45,7 +48,11 @@ impl<'a> FieldData<'a> {
         ensures rtype { rtype_of result ≡ rtype }
         ensures parts { parts_of result ≡ parts_from rtype parser.entry }
     {
-        FieldData { rtype, parser }
+        FieldData {
+            rtype,
+            fields: fields_of(rtype),
+            parser,
+        }
     }
 }
 
@@ -63,11 +70,11 @@ impl RecordData for FieldData<'_> {
 
 impl ComposeRecordData for FieldData<'_> {
     fn compose_rdata<T: Composer>(&self, target: &mut T) -> Result<(), AppendError> {
-        compose(fields_of(self.rtype), self.parser, false, target)
+        compose(self.fields, self.parser, false, target)
     }
 
     fn compose_canonical_rdata<T: Composer>(&self, target: &mut T) -> Result<(), AppendError> {
-        compose(fields_of(self.rtype), self.parser, true, target)
+        compose(self.fields, self.parser, true, target)
     }
 }
 
@@ -78,12 +85,14 @@ impl<'a> ParseAnyRecordData<'a> for FieldData<'a> {
 
     /// If the fields take more than 65,535 octets uncompressed, the error is `ShortInput`.
     fn parse_any_rdata(rtype: Rtype, parser: &mut Parser<'a>) -> Result<Self, ParseError> {
-        let skipped = skip(fields_of(rtype.to_int()), *parser)?;
+        let fields = fields_of(rtype.to_int());
+        let skipped = skip(fields, *parser)?;
         if skipped.size > MOST {
             return Err(ParseError::ShortInput);
         }
         let data = FieldData {
             rtype: rtype.to_int(),
+            fields,
             parser: *parser,
         };
         *parser = skipped.parser;

@@ -17,30 +17,30 @@ pub(crate) struct Skipped<'a> {
 }
 
 /// Skips the fields. Returns the first error in them if they aren't encoded there.
+#[inline(never)]
 pub(crate) fn skip<'a>(
     fields: &[(&'static str, Kind)],
     parser: Parser<'a>,
 ) -> Result<Skipped<'a>, ParseError>
     ensures { Skips (layout_of (kinds fields.now)) parser.entry result }
 {
-    let [field, after @ ..] = fields else {
-        return Ok(Skipped { parser, size: 0 });
-    };
-    let shape = field.1.shape();
+    let mut left = fields;
     let mut ahead = parser;
-    let encoded = read_field(field.1, shape, &mut ahead)?;
-    let size = encoded.size();
-    if let Shape::Rest = shape {
-        return Ok(Skipped {
-            parser: ahead,
-            size,
-        });
+    let mut size: usize = 0;
+    'fields: while let [field, after @ ..] = left {
+        let shape = field.1.shape();
+        let encoded = read_field(field.1, shape, &mut ahead)?;
+        size = size.saturating_add(encoded.size());
+        if let Shape::Rest = shape {
+            return Ok(Skipped {
+                parser: ahead,
+                size,
+            });
+        }
+        left = after;
     }
-    match skip(after, ahead) {
-        Ok(others) => Ok(Skipped {
-            parser: others.parser,
-            size: others.size.saturating_add(size),
-        }),
-        Err(error) => Err(error),
-    }
+    Ok(Skipped {
+        parser: ahead,
+        size,
+    })
 }

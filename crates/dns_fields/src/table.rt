@@ -447,16 +447,18 @@ fn fields_in(
     requires { are_above 0 rows.now ≡ true }
     ensures { definitions result.now ≡ fields_in (types_in rows.now) rtype }
 {
-    if rows.is_empty() {
-        return OPAQUE;
+    let mut left = rows;
+    'rows: while !left.is_empty() {
+        let middle = left.len() / 2;
+        let row = &left[middle];
+        if row.0 == rtype {
+            return row.2;
+        }
+        if rtype < row.0 {
+            left = &left[..middle];
+        } else {
+            left = &left[middle + 1..];
+        }
     }
-    let middle = rows.len() / 2;
-    let row = &rows[middle];
-    if row.0 == rtype {
-        row.2
-    } else if rtype < row.0 {
-        fields_in(&rows[..middle], rtype)
-    } else {
-        fields_in(&rows[middle + 1..], rtype)
-    }
+    OPAQUE
 }

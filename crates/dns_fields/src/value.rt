@@ -70,6 +70,21 @@ fn number_of(octets: &[u8]) -> u64
     requires { length octets.now ≤ 8 }
     ensures { result ≡ number_after 0 octets.now }
 {
+    match octets {
+        [octet] => u64::from(*octet),
+        [high, low] => u64::from(u16::from_be_bytes([*high, *low])),
+        [first, second, third, fourth] => {
+            u64::from(u32::from_be_bytes([*first, *second, *third, *fourth]))
+        }
+        _ => number_by_octets(octets),
+    }
+}
+
+/// The same, octet by octet.
+fn number_by_octets(octets: &[u8]) -> u64
+    requires { length octets.now ≤ 8 }
+    ensures { result ≡ number_after 0 octets.now }
+{
     let mut number: u64 = 0;
     for octet in octets {
         number = number * 256 + u64::from(*octet);

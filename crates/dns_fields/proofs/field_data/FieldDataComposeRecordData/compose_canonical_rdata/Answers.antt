@@ -9,6 +9,6 @@ use Rattle.dns_fields.proofs.field_data.FieldDataComposeRecordData.compose_canon
 pub returns : goal.returns
 returns g c =
     let T = g.T.Composer in
-    let h = value_at c.args.self.now _ (ap kinds_in c.fields_of.ensures) in
+    let h = value_at c.args.self.now _ (ap kinds_in c.args.self.now.defined) in
     subst (λ (ps : List Part). Composes T.capacity T.grows (encode_parts T.rule ps) (T.written c.args.target.now) (T.written c.compose.new.target) {X = Unit {0}} c.compose.result)
     (in_canonical_form (parts_of c.args.self.now)) (c.compose.ensures h.0 (parts_of c.args.self.now) h.1)

@@ -10,11 +10,11 @@ use Rattle.dns_fields.proofs.field_data.FieldDataComposeRecordData.compose_rdata
 pub returns-clause-composes : goal.returns-clause-composes
 returns-clause-composes g c =
     let T = g.T.Composer in
-    let h = value_at c.args.self.now _ (ap kinds_in c.fields_of.ensures) in
+    let h = value_at c.args.self.now _ (ap kinds_in c.args.self.now.defined) in
     subst (λ (ps : List Part). Composes T.capacity T.grows (encode_parts T.rule ps) (T.written c.args.target.now) (T.written c.compose.new.target) {X = Unit {0}} c.compose.result)
     (as_they_are (parts_of c.args.self.now)) (c.compose.ensures h.0 (parts_of c.args.self.now) h.1)
 
 pub returns-clause-is_data : goal.returns-clause-is_data
 returns-clause-is_data g c =
-    let h = value_at c.args.self.now _ (ap kinds_in c.fields_of.ensures) in
+    let h = value_at c.args.self.now _ (ap kinds_in c.args.self.now.defined) in
     record { names = encoded_parts _ _ _ _ _ h.1; short = c.args.self.now.short }
