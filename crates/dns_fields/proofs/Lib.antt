@@ -7,6 +7,8 @@ mod NamedFields
 mod NameSteps
 mod OrderedData
 mod OwnedCopies
+mod OwnOrders
+mod OwnTypes
 mod Skipped
 mod SkipSteps
 mod TableLemmas

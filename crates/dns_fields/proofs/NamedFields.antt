@@ -48,8 +48,13 @@ module _ (b : List ℕ) where
   all_named [] p q ps h = sym h.1
   all_named (d ∷ ds) p q ps h = first_named (shape_of d.1) (accepts d.1) (layout_of (kinds_in ds)) d ds (all_named ds) p q ps h
 
+-- the remaining fields of an iterator have these parts
+pub parts_of_named : (b : List ℕ) (ds : List Definition) (p q : ℕ) (ps : List Part) → DataAt b (layout_of (kinds_in ds)) p q ps
+    → (fields : Fields) → fields_left fields ≡ named_parts ds ps → parts_left fields ≡ ps
+parts_of_named b ds p q ps h fields e = ap parts_in e ∙ all_named b ds p q ps h
+
 -- the fields of RDATA have its parts
 pub parts_of_fields : (d : FieldData) (fields : Fields) → fields_left fields ≡ named_parts (definitions_of (rtype_of d)) (parts_of d) → parts_left fields ≡ parts_of d
 parts_of_fields d fields e =
     let h = data_is_there _ _ _ d.encoded in
-    ap parts_in e ∙ all_named (seen d.parser) (definitions_of (rtype_of d)) (offset d.parser) h.0 (parts_of d) h.1
+    parts_of_named (seen d.parser) (definitions_of (rtype_of d)) (offset d.parser) h.0 (parts_of d) h.1 fields e

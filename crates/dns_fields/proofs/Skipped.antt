@@ -1,5 +1,5 @@
 -- RDATA that was skipped.
-use Rattle.std.proofs.Common.{◌≡◌, ℕ, ◌<◌, ◌≤◌, List, inl, inr, sym, refl, subst, arith}
+use Rattle.std.proofs.Common.{◌≡◌, ◌<◌, ◌≤◌, List, inl, inr, sym, refl, subst, arith}
 use Rattle.std.specs.Prelude.{Ok}
 use Rattle.dns_name.specs.Names.{Fault}
 use Rattle.dns_name.specs.Names.Fault.{ShortInput}
@@ -11,39 +11,39 @@ use Rattle.dns_fields.specs.declared.kind.Kind.{Kind}
 use Rattle.dns_fields.specs.declared.skip.Skipped.{Skipped}
 use Rattle.dns_fields.specs.Data.{offset_within}
 use Rattle.dns_fields.specs.EncodedData.{is_there}
-use Rattle.dns_fields.specs.FieldData.{IsThere, parts_from, type_layout}
-use Rattle.dns_fields.specs.Layouts.{most, layout_of}
+use Rattle.dns_fields.specs.FieldData.{AreAt, parts_at}
+use Rattle.dns_fields.specs.Layouts.{most, layout_of, rdata_layout}
 use Rattle.dns_fields.specs.Skipping.{Skips}
-use Rattle.dns_fields.specs.Table.{Field, kinds, kinds_of}
+use Rattle.dns_fields.specs.Table.{Field, kinds}
 
 -- skipped fields of at most 65,535 octets are RDATA
-pub record SkippedData (rtype : ℕ) (old new : Parser) : Type 0 where
-  pub there : IsThere rtype old
-  pub short : parts_size (parts_from rtype old) ≤ most
-  pub encoded : DataAt (seen old) (type_layout rtype) (offset old) (offset new) (parts_from rtype old)
+pub record SkippedData (ks : List Kind) (old new : Parser) : Type 0 where
+  pub there : AreAt ks old
+  pub short : parts_size (parts_at ks old) ≤ most
+  pub encoded : DataAt (seen old) (rdata_layout ks) (offset old) (offset new) (parts_at ks old)
   pub moves : MovesTo old new (offset new)
 
-module _ (fields : List Field) (rtype : ℕ) (e : kinds fields ≡ kinds_of rtype) (old : Parser) where
-  pub skipped_data : (new : Skipped) → Skips (layout_of (kinds fields)) old (Ok new) → new.size ≤ most → SkippedData rtype old new.parser
+module _ (fields : List Field) (defined : List Kind) (e : kinds fields ≡ defined) (old : Parser) where
+  pub skipped_data : (new : Skipped) → Skips (layout_of (kinds fields)) old (Ok new) → new.size ≤ most → SkippedData defined old new.parser
   skipped_data new h few =
       let d = subst (λ (ks : List Kind). DataAt (seen old) (layout_of ks) (offset old) (offset new.parser) h.0.0) e h.0.1 in
       let size = h.0.2 in
-      let is = is_there (seen old) (layout_of (kinds_of rtype)) (offset old) (offset new.parser) h.0.0 (offset_within old) d in
+      let is = is_there (seen old) (layout_of defined) (offset old) (offset new.parser) h.0.0 (offset_within old) d in
       let short = subst (λ (ps : List Part). parts_size ps ≤ most) (sym is.1) (omega arith) in
       record {
         there = is.0;
         short = short;
-        encoded = (short, subst (λ (ps : List Part). DataAt (seen old) (layout_of (kinds_of rtype)) (offset old) (offset new.parser) ps) (sym is.1) d);
+        encoded = (short, subst (λ (ps : List Part). DataAt (seen old) (layout_of defined) (offset old) (offset new.parser) ps) (sym is.1) d);
         moves = h.1;
       }
 
   -- longer fields are no RDATA
-  pub too_long : (new : Skipped) → Skips (layout_of (kinds fields)) old (Ok new) → most < new.size → DataFaultAt (seen old) (type_layout rtype) (offset old) ShortInput
+  pub too_long : (new : Skipped) → Skips (layout_of (kinds fields)) old (Ok new) → most < new.size → DataFaultAt (seen old) (rdata_layout defined) (offset old) ShortInput
   too_long new h many =
       let d = subst (λ (ks : List Kind). DataAt (seen old) (layout_of ks) (offset old) (offset new.parser) h.0.0) e h.0.1 in
       let size = h.0.2 in
       inr (offset new.parser, h.0.0, d, omega arith, refl)
 
   -- the first fault of the fields is that of the RDATA
-  pub skipped_fault : (f : Fault) → DataFaultAt (seen old) (layout_of (kinds fields)) (offset old) f → DataFaultAt (seen old) (type_layout rtype) (offset old) f
+  pub skipped_fault : (f : Fault) → DataFaultAt (seen old) (layout_of (kinds fields)) (offset old) f → DataFaultAt (seen old) (rdata_layout defined) (offset old) f
   skipped_fault f h = inl (subst (λ (ks : List Kind). DataFaultAt (seen old) (layout_of ks) (offset old) f) e h)

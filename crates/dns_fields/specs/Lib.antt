@@ -16,6 +16,8 @@ pub mod NamesOfTypes
 pub mod OrderLaws
 pub mod OwnedData
 pub mod OwnedFields
+pub mod OwnOrders
+pub mod OwnTypes
 pub mod Parameters
 pub mod PlainNames
 pub mod Prefixes

@@ -67,7 +67,7 @@ part_hash_input-alike (UncompressedName a m) (Octets ys) h = cc
 part_hash_input-alike (UncompressedName a m) (CompressibleName n) h = name_hash_input-alike m n (of_names m n h)
 part_hash_input-alike (UncompressedName a m) (UncompressedName b n) h = name_hash_input-alike m n (of_names m n h)
 
-parts_alike : (xs ys : List Part) → pointwise part_equal xs ys ≡ true → flat_map part_hash_input xs ≡ flat_map part_hash_input ys
+pub parts_alike : (xs ys : List Part) → pointwise part_equal xs ys ≡ true → flat_map part_hash_input xs ≡ flat_map part_hash_input ys
 parts_alike [] [] h = refl
 parts_alike [] (y ∷ ys) h = cc
 parts_alike (x ∷ xs) [] h = cc

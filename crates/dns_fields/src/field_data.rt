@@ -15,7 +15,7 @@ use dns_data::{ComposeRecordData, ParseAnyRecordData, RecordData};
 use dns_wire::{AppendError, Composer, ParseError, Parser};
 
 /// The maximum size of RDATA, in octets.
-const MOST: usize = 65535;
+pub(crate) const MOST: usize = 65535;
 
 /// RDATA of any record type, as a view of the message. Nothing is copied.
 #[derive(Clone, Copy, Debug)]

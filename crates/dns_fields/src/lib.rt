@@ -1,5 +1,5 @@
 //! Record types as a table: each type is a list of named fields, and one RDATA type reads and
-//! writes all of them.
+//! writes all of them. `DataOf` does so for a type of one's own.
 #![tactic(auto)]
 
 mod accepts;
@@ -13,6 +13,8 @@ mod gateway;
 mod host_identity;
 mod kind;
 pub mod laws;
+mod own;
+mod own_order;
 mod owned;
 mod parameters;
 mod plain_names;
@@ -28,6 +30,7 @@ pub use encoded::Encoded;
 pub use field_data::FieldData;
 pub use fields::{Field, Fields};
 pub use kind::Kind;
+pub use own::{DataOf, RecordFields};
 pub use owned::OwnedFieldData;
 pub use shape::Shape;
 pub use table::{OPAQUE, TABLE, fields_of};
