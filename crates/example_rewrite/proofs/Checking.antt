@@ -11,16 +11,16 @@ use Rattle.dns_message.specs.declared.message.QuestionSection.{QuestionSection}
 use Rattle.dns_message.specs.declared.message.RecordSection.{RecordSection}
 use Rattle.dns_message.specs.declared.message.Section.{Section}
 use Rattle.dns_message.specs.declared.message.Section.TheVariants.{Answer, Authority, Additional}
-use Rattle.dns_any_data.specs.AnyLayout.{any_layout}
+use Rattle.dns_message.specs.Fields.{type_layout}
 use Rattle.example_rewrite.specs.Rewriting.{first_fault, HasFault, MessageReads, SectionReads, records_at}
 
 -- the first fault of the remaining records, with their RDATA
 abbrev pub fault_left : RecordSection → Option Fault
-fault_left cursor = first_fault (limited (every any_layout) (records_left cursor))
+fault_left cursor = first_fault (limited (every type_layout) (records_left cursor))
 
 module _ (b : List ℕ) (which : Section) (cursor : RecordSection) (begins : BeginsSection which b cursor) where
   first_of_section : first_fault (records_at which b (position cursor)) ≡ fault_left cursor
-  first_of_section = ap (λ xs. first_fault (limited (every any_layout) xs)) (sym begins.fresh.records)
+  first_of_section = ap (λ xs. first_fault (limited (every type_layout) xs)) (sym begins.fresh.records)
 
   -- a fault of a section is one of the message
   pub faulty_section : (f : Fault) → fault_left cursor ≡ Some f → HasFault b f

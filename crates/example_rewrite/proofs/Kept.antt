@@ -9,12 +9,12 @@ use Rattle.dns_message.specs.Sections.AnyRecordIter.{every}
 use Rattle.dns_message.specs.Sections.{limited, records_in, record_count}
 use Rattle.dns_message.specs.declared.message.Section.{Section}
 use Rattle.dns_message.specs.Builders.{Keeps, KeepsSection, none, dropped, kept}
-use Rattle.dns_any_data.specs.AnyLayout.{any_layout}
+use Rattle.dns_message.specs.Fields.{type_layout}
 use Rattle.example_rewrite.specs.Rewriting.{CutsSection, cut_answer, is_cached, values, with_ttl_cut}
 
 -- what is written for a record in its message
 abbrev pub cut_encoded : ℕ → EncodedRecord → Option RecordItem
-cut_encoded most x = cut_answer most (laid_out x (any_layout x.entry.rtype))
+cut_encoded most x = cut_answer most (laid_out x (type_layout x.entry.rtype))
 
 -- what is written for an item of a reading
 abbrev cut_item : ℕ → Result EncodedRecord Fault → Option RecordItem
@@ -32,10 +32,10 @@ one_more most (Ok x) rest = chosen most (is_cached x) x (filter is_cached (value
 one_more most (Err f) rest = refl
 
 -- what is written for a reading, by its records with their RDATA
-kept_of : (most : ℕ) (xs : List (Result EncodedRecord Fault)) → filter_map (cut_item most) xs ≡ map (with_ttl_cut most) (filter is_cached (values (limited (every any_layout) xs)))
+kept_of : (most : ℕ) (xs : List (Result EncodedRecord Fault)) → filter_map (cut_item most) xs ≡ map (with_ttl_cut most) (filter is_cached (values (limited (every type_layout) xs)))
 kept_of most [] = refl
 kept_of most (Ok x ∷ xs) =
-    ap (cons_option (cut_encoded most x)) (kept_of most xs) ∙ one_more most (laid_out x (any_layout x.entry.rtype)) (limited (every any_layout) xs)
+    ap (cons_option (cut_encoded most x)) (kept_of most xs) ∙ one_more most (laid_out x (type_layout x.entry.rtype)) (limited (every type_layout) xs)
 kept_of most (Err f ∷ xs) = kept_of most xs
 
 module _ {F R : Type 0} (call : F → ParsedRecord → Option R → F → Type 0) (item : R → RecordItem) (most : ℕ) (Holds : F → Type 0)

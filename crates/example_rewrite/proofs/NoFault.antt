@@ -14,7 +14,7 @@ use Rattle.dns_message.proofs.CallerLemmas.{start_or_fault}
 use Rattle.dns_message.specs.Builders.{CopiesList, CopiesSection, CopiesSections, none as no_record, copied as record_copied, refused, fault, started, unstarted, none as no_section, copied as section_copied, stopped, Stage, State}
 use Rattle.dns_message.specs.declared.builder.CopyRecordsError.{CopyRecordsError}
 use Rattle.dns_message.specs.declared.builder.CopyRecordsError.TheVariants.{Parse}
-use Rattle.dns_any_data.specs.AnyLayout.{any_layout}
+use Rattle.dns_message.specs.Fields.{type_layout}
 use Rattle.example_rewrite.specs.Rewriting.{MessageReads, SectionReads, first_fault, records_at}
 
 -- a section begins at one offset at most
@@ -41,10 +41,10 @@ section_reads b reads Additional = reads.additionals
 
 module _ {F R : Type 0} (call : F → ParsedRecord → Option R → F → Type 0) (item : R → RecordItem) (capacity : Option ℕ) (grows : Bool) (rule : Rule) (e : ParseError) where
   no_fault_in_list : (stage : Stage) {xs : List (Result EncodedRecord Fault)} {f g : F} {s t : State} {result : Result (Unit {0}) CopyRecordsError}
-      → CopiesList call item capacity grows rule stage xs f s result g t → result ≡ Err (Parse e) → first_fault (limited (every any_layout) xs) ≡ None → ⊥
+      → CopiesList call item capacity grows rule stage xs f s result g t → result ≡ Err (Parse e) → first_fault (limited (every type_layout) xs) ≡ None → ⊥
   no_fault_in_list stage no_record is whole = absurd (cc)
   no_fault_in_list stage (record_copied {x = x} {xs = xs} one rest) is whole =
-      no_fault_in_list stage rest is (after_first (laid_out x (any_layout x.entry.rtype)) (limited (every any_layout) xs) whole)
+      no_fault_in_list stage rest is (after_first (laid_out x (type_layout x.entry.rtype)) (limited (every type_layout) xs) whole)
   no_fault_in_list stage (refused one) is whole = absurd (cc)
   no_fault_in_list stage fault is whole = absurd (cc)
 

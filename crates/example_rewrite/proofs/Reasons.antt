@@ -1,12 +1,11 @@
 -- Why a message isn't copied.
-use Rattle.std.proofs.Common.{◌≡◌, ◌≤◌, ℕ, Bool, List, [], length, refl, arith, None}
+use Rattle.std.proofs.Common.{◌≡◌, ◌≤◌, ℕ, Bool, List, length, refl, arith, None}
 use Rattle.std.specs.List.{filter_map}
 use Rattle.std.specs.Result.{result_ok}
 use Rattle.std.specs.Prelude.{Option, Result, Err}
 use Rattle.dns_message.specs.Names.{Fault, labels, encoded_name}
 use Rattle.dns_message.specs.declared.name.ParsedName.{ParsedName}
-use Rattle.dns_message.proofs.CallerLemmas.{length-uncompressed, questions_from_are_read}
-use Rattle.dns_message.specs.Data.{parts_size}
+use Rattle.dns_message.proofs.CallerLemmas.{questions_from_are_read}
 use Rattle.dns_message.specs.Targets.{Static}
 use Rattle.dns_message.specs.Headers.{header_size}
 use Rattle.dns_message.specs.Questions.{QuestionItem, QuestionFaultAt, ReadsQuestion}
@@ -19,27 +18,16 @@ use Rattle.dns_message.specs.declared.builder.CopyRecordsError.{CopyRecordsError
 use Rattle.dns_message.specs.declared.builder.CopyRecordsError.TheVariants.{Parse, Push}
 use Rattle.dns_message.specs.declared.builder.PushError.{PushError}
 use Rattle.dns_message.specs.declared.builder.PushError.TheVariants.{OutOfMemory}
-use Rattle.dns_any_data.specs.AnyData.{parts_of, parts_with, rtype_of}
-use Rattle.dns_any_data.specs.declared.any_data.AnyData.{AnyData}
-use Rattle.dns_any_data.specs.declared.any_data.Names.{Names}
-use Rattle.dns_any_data.specs.declared.any_data.Names.TheVariants as names
+use Rattle.dns_message.specs.Fields.{parts_of, rtype_of}
+use Rattle.dns_message.specs.declared.fields.FieldData.{FieldData}
 use Rattle.example_rewrite.specs.Rewriting.{IsReason, MessageReads, begun}
 use Rattle.example_rewrite.proofs.NoFault.{no_fault, section_reads}
 use Rattle.example_rewrite.proofs.Refusing.{AreFew, IsOpen, asking_refused, copying_refused}
 use Rattle.example_rewrite.proofs.Sizes.{IsNamed, IsShort}
 
--- a bound for the RDATA of any type
-name_octets : (name : ParsedName) → parts_size (parts_with (names.One name) []) ≤ 255
-name_octets name = let a = length-uncompressed (labels name) in let b = (encoded_name name.name_at.0.1).short in omega (arith, a, b)
-
-parts_short : (few : Names) (octets : List ℕ) → length octets ≤ 65535 → parts_size (parts_with few octets) ≤ 66045
-parts_short names.None octets short = omega (arith, short)
-parts_short (names.One name) octets short = let a = name_octets name in omega (arith, short, a)
-parts_short (names.Two first second) octets short = let a = name_octets first in let b = name_octets second in omega (arith, short, a, b)
-
--- and for a record with it
-short_record : (r : Record ParsedName AnyData) → IsShort (record_item labels rtype_of parts_of r)
-short_record r = record { owner = encoded_name r.owner.name_at.0.1; parts = parts_short r.data.names r.data.octets.now r.data.short }
+-- the RDATA of a record takes at most 65,535 octets uncompressed
+short_record : (r : Record ParsedName FieldData) → IsShort (record_item labels rtype_of parts_of r)
+short_record r = record { owner = encoded_name r.owner.name_at.0.1; parts = r.data.short }
 
 module _ (b : List ℕ) where
   -- readable questions have valid names, and are at most as many as the count says
@@ -85,7 +73,7 @@ module _ (b : List ℕ) where
       }
 
   -- why copying a readable message fails
-  pub reason : (grows : Bool) {F : Type 0} (call : F → ParsedRecord → Option (Record ParsedName AnyData) → F → Type 0) (f : F) (new : Built) (e : CopyRecordsError)
+  pub reason : (grows : Bool) {F : Type 0} (call : F → ParsedRecord → Option (Record ParsedName FieldData) → F → Type 0) (f : F) (new : Built) (e : CopyRecordsError)
       → question_count b ≤ most_entries → AreFew b → Represents InAnswer Static (begun b) new
       → CopiesMessage call (record_item labels rtype_of parts_of) None grows Static b f (begun b) (Err e) → MessageReads b → IsReason b e
   reason grows call f new (Parse e) asked few represents copies reads =

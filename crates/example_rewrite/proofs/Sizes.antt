@@ -50,10 +50,10 @@ question_most x is m w =
     let a = both_most (encode_name Static x.name) (encode_octets (question_fields x)) 255 4 (name_most x.name is) (octets_most (question_fields x)) m w in
     omega (arith, a)
 
--- a record whose parts have at most 66,045 octets
+-- a record whose parts have at most 65,535 octets
 pub record IsShort (x : RecordItem) : Type 0 where
   pub owner : IsName x.owner
-  pub parts : parts_size x.parts ≤ 66045
+  pub parts : parts_size x.parts ≤ 65535
 
 record_most : (x : RecordItem) → IsShort x → AtMost most_octets (encode_record Static x)
 unfolding encode_record

@@ -15,7 +15,7 @@ use Rattle.dns_message.specs.Builders.{ReadsBack, readable_questions, InAnswer, 
 use Rattle.dns_message.specs.declared.builder.CopyRecordsError.{CopyRecordsError}
 use Rattle.dns_message.specs.declared.builder.CopyRecordsError.TheVariants.{Parse, Push}
 use Rattle.dns_message.specs.declared.builder.PushError.TheVariants.{OutOfMemory}
-use Rattle.dns_any_data.specs.AnyLayout.{any_layout}
+use Rattle.dns_message.specs.Fields.{type_layout}
 
 -- the first fault of a reading
 abbrev pub first_fault : {X : Type 0} → List (Result X Fault) → Option Fault
@@ -29,7 +29,7 @@ values = filter_map result_ok
 
 -- the records of a section that begins at an offset, with their RDATA
 abbrev pub records_at : Section → List ℕ → ℕ → List (Result RecordItem Fault)
-records_at section b start = limited (every any_layout) (records_in b (record_count section b) start)
+records_at section b start = limited (every type_layout) (records_in b (record_count section b) start)
 
 -- A message can be read: its questions, and each section's records with their RDATA.
 pub record SectionReads (b : List ℕ) (section : Section) : Type 0 where

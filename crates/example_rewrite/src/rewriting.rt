@@ -10,15 +10,14 @@ ghost use Rattle.dns_message.specs.Sections.{limited, question_count, answer_cou
 ghost use Rattle.dns_message.specs.Sections.QuestionSection.{questions_left};
 ghost use Rattle.dns_message.specs.Sections.RecordSection.{records_left};
 ghost use Rattle.dns_message.specs.Builders.{Represents, InAnswer, most_entries};
-ghost use Rattle.dns_any_data.specs.AnyData.{rtype_of, parts_of};
-ghost use Rattle.dns_any_data.specs.AnyLayout.{any_layout};
+ghost use Rattle.dns_message.specs.Fields.{rtype_of, parts_of, type_layout};
 ghost use Rattle.example_rewrite.specs.Rewriting.{first_fault, MessageReads, HasFault, IsCut, IsReason, cut_answer, begun};
 
-use dns_any_data::AnyData;
 use dns_message::builder::{
     AnswerBuilder, CopyRecordsError, MessageBuilder, PushError, copy_records,
 };
 use dns_message::code::{Rcode, Rtype};
+use dns_message::fields::FieldData;
 use dns_message::message::{Message, QuestionSection, RecordSection};
 use dns_message::name::ParsedName;
 use dns_message::record::{ParsedRecord, Record, Ttl};
@@ -91,11 +90,11 @@ fn check_questions(questions: QuestionSection<'_>) -> Result<(), ParseError>
 
 /// Checks that all records can be read, with their RDATA.
 fn check_records(records: RecordSection<'_>) -> Result<(), ParseError>
-    ensures { let reading = limited (every any_layout) (records_left records.entry) in
+    ensures { let reading = limited (every type_layout) (records_left records.entry) in
         MatchResult result (λ _. first_fault reading ≡ None)
         (λ e. first_fault reading ≡ Some (fault_of e)) }
 {
-    for item in records.into_records::<AnyData<'_>>() {
+    for item in records.into_records::<FieldData<'_>>() {
         item?;
     }
     Ok(())
@@ -118,15 +117,15 @@ fn begun<Octs: Octets>(
 }
 
 /// The record with its TTL capped. `None` for an OPT record, or if the RDATA is malformed.
-fn cut<'a>(shown: ParsedRecord<'a>, most: Ttl) -> Option<Record<ParsedName<'a>, AnyData<'a>>>
+fn cut<'a>(shown: ParsedRecord<'a>, most: Ttl) -> Option<Record<ParsedName<'a>, FieldData<'a>>>
     ensures { let x = encoded_record shown.entry in
         option_map (record_item labels rtype_of parts_of) result
-        ≡ cut_answer most (laid_out x (any_layout x.entry.rtype)) }
+        ≡ cut_answer most (laid_out x (type_layout x.entry.rtype)) }
 {
     if shown.rtype() == Rtype::OPT {
         return None;
     }
-    match shown.into_any_record::<AnyData<'a>>() {
+    match shown.into_any_record::<FieldData<'a>>() {
         Ok(mut record) => {
             let secs = record.ttl().as_secs().min(most.as_secs());
             record.set_ttl(Ttl::from_secs(secs));

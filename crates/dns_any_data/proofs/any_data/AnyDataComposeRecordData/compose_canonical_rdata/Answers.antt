@@ -1,5 +1,0 @@
-use Rattle.dns_message.specs.Data.{Octets}
-use Rattle.dns_any_data.proofs.any_data.AnyDataComposeRecordData.compose_canonical_rdata.Goals as goal
-
-pub returns-in-None : goal.returns-in-None
-returns-in-None g c = rw c.in-None.is (c.parts_compose.ensures.one _ _ g.T.Composer.rule (Octets c.args.self.now.octets.now) _ _ _ c.append_slice.ensures)

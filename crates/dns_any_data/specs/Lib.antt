@@ -1,2 +1,0 @@
-pub mod AnyData
-pub mod AnyLayout
