@@ -1,0 +1,12 @@
+mod AddressLaws
+mod Base32Lemmas
+mod Calendar
+mod EuiLemmas
+mod LocatorLemmas
+mod NameLaws
+mod NameLemmas
+mod RowLemmas
+mod SaltLaws
+mod StringLaws
+mod TypeLaws
+mod TypeLemmas
