@@ -5,6 +5,8 @@ mod EuiLemmas
 mod LocatorLemmas
 mod NameLaws
 mod NameLemmas
+mod PrefixLaws
+mod PrefixLemmas
 mod RowLemmas
 mod SaltLaws
 mod StringLaws

@@ -1,6 +1,6 @@
 -- Numbers of hexadecimal digits, separated by colons.
 use Rattle.std.proofs.Common.{◌≡◌, ◌∙◌, ◌≢◌, ℕ, zero, suc, ◌+◌, ◌-◌, ◌*◌, ◌/◌, ◌%◌, ◌^◌, ◌<◌, ◌≤◌, false, cond, List, [], ◌∷◌, ◌++◌, length, get_or, drop, refl, sym, ap, subst, arith, inl, inr, append-nil, length-append, ne_eqb}
-use Rattle.std.specs.Prelude.{Result, Ok, Err, Option, Some, None}
+use Rattle.std.specs.Prelude.{Result, Ok, Err}
 use Rattle.std.specs.Char.{digit_value}
 use Rattle.std.specs.Fmt.{digit_glyph}
 use Rattle.std.specs.Net.Addr.{segments_of}
@@ -49,7 +49,7 @@ digits_no_colon (d ∷ digits) all zero h = λ colon.
 digits_no_colon (d ∷ digits) all (suc i) h = digits_no_colon digits all.1 i (omega arith)
 
 -- the texts before and after the first colon
-same_parts : (g h x y : List ℕ) → NoColon g → NoColon h → g ++ 58 ∷ x ≡ h ++ 58 ∷ y → (g ≡ h) × (x ≡ y)
+pub same_parts : (g h x y : List ℕ) → NoColon g → NoColon h → g ++ 58 ∷ x ≡ h ++ 58 ∷ y → (g ≡ h) × (x ≡ y)
 same_parts [] [] x y a b e = (refl, cc)
 same_parts [] (d ∷ h) x y a b e = let colon : d ≡ 58 = cc in absurd (b 0 (omega arith) colon)
 same_parts (c ∷ g) [] x y a b e = let colon : c ≡ 58 = cc in absurd (a 0 (omega arith) colon)

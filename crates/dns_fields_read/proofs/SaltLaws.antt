@@ -1,5 +1,5 @@
 -- Printed salts and hashes read back.
-use Rattle.std.proofs.Common.{◌≡◌, ℕ, ◌<◌, ◌≤◌, List, [], ◌∷◌, length, refl, arith, inl, inr}
+use Rattle.std.proofs.Common.{ℕ, ◌≤◌, List, [], ◌∷◌, length, refl, arith, inl, inr}
 use Rattle.hex.specs.Hex.{IsBytes}
 use Rattle.dns_fields_text.specs.FieldTexts.{salt_text}
 use Rattle.dns_value_text.specs.Base32.{base32_text}

@@ -1,5 +1,5 @@
 -- Printed record types read back.
-use Rattle.std.proofs.Common.{◌≡◌, ℕ, ◌<◌, ◌^◌, ◌++◌, List, refl, sym, ap, inl, inr, arith}
+use Rattle.std.proofs.Common.{◌≡◌, ℕ, ◌<◌, ◌^◌, ◌++◌, List, refl, ap, inl, inr, arith}
 use Rattle.std.specs.Prelude.{Option, Some, None, option_map, unwrap_or, codes, decimal}
 use Rattle.std.specs.Str.{str_to_ascii_lowercase}
 use Rattle.std.proofs.lemmas.Fmt.{decimal_is_IsNumeral}

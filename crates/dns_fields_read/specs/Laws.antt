@@ -12,11 +12,14 @@ use Rattle.dns_value_text.specs.String.{is_tag, quoted}
 use Rattle.dns_value_text.specs.Strings.{SpellsString}
 use Rattle.dns_value_text.specs.Time.{time_text}
 use Rattle.dns_fields_text.specs.FieldTexts.{salt_text}
+use Rattle.dns_fields_text.specs.PrefixItems.{PrefixItem}
+use Rattle.dns_fields_text.specs.Prefixes.{has_word, prefix_text}
 use Rattle.dns_fields_text.specs.TypeNames.{type_word}
 use Rattle.dns_fields_text.specs.ZoneNames.{zone_name_text}
 use Rattle.dns_fields_read.specs.Addresses.{IsIpv6Word}
 use Rattle.dns_fields_read.specs.EuiWords.{IsEuiWord}
 use Rattle.dns_fields_read.specs.LocatorWords.{IsLocatorWord}
+use Rattle.dns_fields_read.specs.PrefixWords.{IsPrefixWord}
 use Rattle.dns_fields_read.specs.Salts.{IsCounted, IsHashWord, IsSaltWord}
 use Rattle.dns_fields_read.specs.TimeWords.{IsTimeWord}
 use Rattle.dns_fields_read.specs.TypeWords.{IsTypeWord}
@@ -64,3 +67,7 @@ LocatorsReadBack = (octets : List ℕ) → length octets ≡ 8 → IsBytes octet
 -- times of 32 bits
 abbrev pub TimesReadBack : Type 0
 TimesReadBack = (seconds : ℕ) → seconds < 2 ^ 32 → IsTimeWord (time_text seconds) seconds
+
+-- address prefixes that have a presentation format
+abbrev pub PrefixesReadBack : Type 0
+PrefixesReadBack = (item : PrefixItem) → IsBytes item.address → has_word item ≡ true → IsPrefixWord (prefix_text item) item

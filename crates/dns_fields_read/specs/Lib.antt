@@ -4,6 +4,7 @@ pub mod EuiWords
 pub mod Laws
 pub mod LocatorWords
 pub mod NameWords
+pub mod PrefixWords
 pub mod Reading
 pub mod Salts
 pub mod TimeWords

@@ -1,5 +1,5 @@
 //! Theorems on values and their words. Each contract is a theorem.
-ghost use Rattle.dns_fields_read.specs.Laws.{EuiReadsBack, HashesReadBack, Ipv4ReadsBack, Ipv6ReadsBack, LocatorsReadBack, NamesReadBack, SaltsReadBack, StringsReadBack, TagsReadBack, TimesReadBack, TypesReadBack};
+ghost use Rattle.dns_fields_read.specs.Laws.{EuiReadsBack, HashesReadBack, Ipv4ReadsBack, Ipv6ReadsBack, LocatorsReadBack, NamesReadBack, PrefixesReadBack, SaltsReadBack, StringsReadBack, TagsReadBack, TimesReadBack, TypesReadBack};
 
 use dns_value_text::laws::printed_values_read_back;
 
@@ -16,6 +16,7 @@ pub fn printed_fields_read_back()
     ensures eui { EuiReadsBack }
     ensures locators { LocatorsReadBack }
     ensures times { TimesReadBack }
+    ensures prefixes { PrefixesReadBack }
 {
     printed_values_read_back();
 }

@@ -1,6 +1,6 @@
 //! Times (RFC 4034 section 3.2).
-ghost use Rattle.std.specs.Prelude.{◌≡◌, ℕ, ◌+◌, ◌-◌, ◌*◌, ◌<◌, ◌≤◌, [], ◌∷◌, MatchOption, length, sum, take};
-ghost use Rattle.dns_value_text.specs.Time.{is_leap, month_sizes, two_digits, year_size};
+ghost use Rattle.std.specs.Prelude.{◌≡◌, ℕ, ◌-◌, ◌*◌, ◌<◌, ◌≤◌, [], ◌∷◌, MatchOption, length, sum, take};
+ghost use Rattle.dns_value_text.specs.Time.{month_sizes, two_digits, year_size};
 ghost use Rattle.dns_fields_read.specs.Reading.{Reads};
 ghost use Rattle.dns_fields_read.specs.TimeWords.{IsClock, IsClockWord, IsDateWord, IsDay, IsDayWord, IsTimeWord, days_to};
 
