@@ -1,0 +1,14 @@
+mod AddressLaws
+mod Base32Lemmas
+mod Calendar
+mod EuiLemmas
+mod LocatorLemmas
+mod NameLaws
+mod NameLemmas
+mod PrefixLaws
+mod PrefixLemmas
+mod RowLemmas
+mod SaltLaws
+mod StringLaws
+mod TypeLaws
+mod TypeLemmas

@@ -1,0 +1,73 @@
+-- What is printed of a value reads back as that value.
+use Rattle.std.specs.Prelude.{◌≡◌, ℕ, ◌<◌, ◌≤◌, ◌^◌, true, List, length, All}
+use Rattle.std.specs.Net.Addr.{segments_of}
+use Rattle.std.specs.Net.Grammar.{IsDotted}
+use Rattle.std.specs.Net.Text.{ipv4_text, ipv6_text}
+use Rattle.hex.specs.Hex.{IsBytes}
+use Rattle.dns_name.specs.Names.{Labels, IsName}
+use Rattle.dns_name.specs.NameTexts.{SpellsName}
+use Rattle.dns_value_text.specs.Addresses.{eui_text, locator_text}
+use Rattle.dns_value_text.specs.Base32.{base32_text}
+use Rattle.dns_value_text.specs.String.{is_tag, quoted}
+use Rattle.dns_value_text.specs.Strings.{SpellsString}
+use Rattle.dns_value_text.specs.Time.{time_text}
+use Rattle.dns_fields_text.specs.FieldTexts.{salt_text}
+use Rattle.dns_fields_text.specs.PrefixItems.{PrefixItem}
+use Rattle.dns_fields_text.specs.Prefixes.{has_word, prefix_text}
+use Rattle.dns_fields_text.specs.TypeNames.{type_word}
+use Rattle.dns_fields_text.specs.ZoneNames.{zone_name_text}
+use Rattle.dns_fields_read.specs.Addresses.{IsIpv6Word}
+use Rattle.dns_fields_read.specs.EuiWords.{IsEuiWord}
+use Rattle.dns_fields_read.specs.LocatorWords.{IsLocatorWord}
+use Rattle.dns_fields_read.specs.PrefixWords.{IsPrefixWord}
+use Rattle.dns_fields_read.specs.Salts.{IsCounted, IsHashWord, IsSaltWord}
+use Rattle.dns_fields_read.specs.TimeWords.{IsTimeWord}
+use Rattle.dns_fields_read.specs.TypeWords.{IsTypeWord}
+
+-- record types
+abbrev pub TypesReadBack : Type 0
+TypesReadBack = (n : ℕ) → n < 2 ^ 16 → IsTypeWord (type_word n) n
+
+-- addresses of IPv4
+abbrev pub Ipv4ReadsBack : Type 0
+Ipv4ReadsBack = (octets : List ℕ) → length octets ≡ 4 → IsBytes octets → IsDotted (ipv4_text octets) octets
+
+-- addresses of IPv6
+abbrev pub Ipv6ReadsBack : Type 0
+Ipv6ReadsBack = (octets : List ℕ) → length octets ≡ 16 → IsBytes octets → IsIpv6Word (ipv6_text (segments_of octets)) octets
+
+-- names
+abbrev pub NamesReadBack : Type 0
+NamesReadBack = (name : Labels) → IsName name → All (λ label. All (λ octet. octet < 256) label) name → SpellsName (zone_name_text name) name
+
+-- character strings in quotes
+abbrev pub StringsReadBack : Type 0
+StringsReadBack = (octets : List ℕ) → IsBytes octets → SpellsString (quoted octets) octets
+
+-- tags
+abbrev pub TagsReadBack : Type 0
+TagsReadBack = (octets : List ℕ) → is_tag octets ≡ true → SpellsString octets octets
+
+-- salts that a length octet counts
+abbrev pub SaltsReadBack : Type 0
+SaltsReadBack = (octets : List ℕ) → IsBytes octets → length octets ≤ 255 → IsSaltWord (salt_text octets) octets
+
+-- hashes that a length octet counts, of one octet at least; one of no octets isn't printed
+abbrev pub HashesReadBack : Type 0
+HashesReadBack = (octets : List ℕ) → IsBytes octets → IsCounted octets → IsHashWord (base32_text octets) octets
+
+-- EUI-48 and EUI-64 addresses
+abbrev pub EuiReadsBack : Type 0
+EuiReadsBack = (octets : List ℕ) → IsBytes octets → IsEuiWord (length octets) (eui_text octets) octets
+
+-- locators and node identifiers
+abbrev pub LocatorsReadBack : Type 0
+LocatorsReadBack = (octets : List ℕ) → length octets ≡ 8 → IsBytes octets → IsLocatorWord (locator_text octets) octets
+
+-- times of 32 bits
+abbrev pub TimesReadBack : Type 0
+TimesReadBack = (seconds : ℕ) → seconds < 2 ^ 32 → IsTimeWord (time_text seconds) seconds
+
+-- address prefixes that have a presentation format
+abbrev pub PrefixesReadBack : Type 0
+PrefixesReadBack = (item : PrefixItem) → IsBytes item.address → has_word item ≡ true → IsPrefixWord (prefix_text item) item

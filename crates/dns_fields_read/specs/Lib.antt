@@ -1,0 +1,11 @@
+pub mod Addresses
+pub mod Base32Words
+pub mod EuiWords
+pub mod Laws
+pub mod LocatorWords
+pub mod NameWords
+pub mod PrefixWords
+pub mod Reading
+pub mod Salts
+pub mod TimeWords
+pub mod TypeWords

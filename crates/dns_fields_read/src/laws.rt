@@ -1,0 +1,22 @@
+//! Theorems on values and their words. Each contract is a theorem.
+ghost use Rattle.dns_fields_read.specs.Laws.{EuiReadsBack, HashesReadBack, Ipv4ReadsBack, Ipv6ReadsBack, LocatorsReadBack, NamesReadBack, PrefixesReadBack, SaltsReadBack, StringsReadBack, TagsReadBack, TimesReadBack, TypesReadBack};
+
+use dns_value_text::laws::printed_values_read_back;
+
+/// What is printed of a value of a field represents that value.
+pub fn printed_fields_read_back()
+    ensures types { TypesReadBack }
+    ensures ipv4 { Ipv4ReadsBack }
+    ensures ipv6 { Ipv6ReadsBack }
+    ensures names { NamesReadBack }
+    ensures strings { StringsReadBack }
+    ensures tags { TagsReadBack }
+    ensures salts { SaltsReadBack }
+    ensures hashes { HashesReadBack }
+    ensures eui { EuiReadsBack }
+    ensures locators { LocatorsReadBack }
+    ensures times { TimesReadBack }
+    ensures prefixes { PrefixesReadBack }
+{
+    printed_values_read_back();
+}
