@@ -108,9 +108,10 @@ pub mod record {
 /// Record data (RDATA), and the theorems for record data types of your own.
 ///
 /// To read a type of one's own, and to write what was read, a list of fields is enough: module
-/// `fields`. A type whose values are made needs more, as this one for PTR records. `parts` says which parts a value has, `layout` how RDATA is
-/// laid out, and `laid_out` proves that they agree. The two laws that are called do nothing: they are
-/// lemmas. The proofs of the two `compose` calls are in `dns_message_tests/proofs/ptr`.
+/// `fields`. A type whose values are made needs more, as this one for PTR records. `parts` says which
+/// parts a value has, `layout` how RDATA is laid out, and `laid_out` proves that they agree. The two
+/// laws that are called do nothing: they are lemmas. The proofs of the two `compose` calls are in
+/// `dns_message_tests/proofs/ptr`.
 ///
 /// ```rust
 /// #[derive(Clone, Copy, Debug, Drop)]
@@ -162,8 +163,8 @@ pub mod data {
     pub use dns_opt::laws as option_laws;
 }
 
-/// Record types as a table, and RDATA of every type as named fields. `RecordText` prints a record as a
-/// line of a zone file, and `DataText` its RDATA.
+/// Record types as a table, and RDATA of every type as named fields. `RecordText` prints a record as
+/// a line of a zone file, and `DataText` its RDATA.
 ///
 /// The first name in RDATA, such as the exchange of MX or the target of SRV:
 ///
