@@ -1,11 +1,15 @@
 -- Record types as a table, RDATA as named fields, and records as lines.
-pub use Rattle.dns_fields.specs.Table.{Definition, definitions, kinds_of}
+pub use Rattle.dns_fields.specs.Table.{Definition, definitions, kinds_in, kinds_of}
 unfoldable pub use Rattle.dns_fields.specs.Table.{definitions_of}
 pub use Rattle.dns_fields.specs.RecordTypes.{TypeDefinition}
 pub use Rattle.dns_fields.specs.NamesOfTypes.{may_be_compressed, may_have_pointer, is_lowercased, types_with}
 unfoldable pub use Rattle.dns_fields.specs.Table.{table_types}
 unfoldable pub use Rattle.dns_fields.specs.RecordTypes.{record_types}
 pub use Rattle.dns_fields.specs.FieldData.{type_layout}
+pub use Rattle.dns_fields.specs.Layouts.{rdata_layout}
+unfoldable pub use Rattle.dns_fields.specs.Layouts.{layout_of}
+pub use Rattle.dns_fields.specs.OwnTypes.{own_parts_of}
+pub use Rattle.dns_fields.specs.OwnOrders.{own_equal, own_order, own_hash_input, own_canonical_octets, own_canonical_order}
 pub use Rattle.dns_fields.specs.Data.{rtype_of, parts_of}
 pub use Rattle.dns_fields.specs.DataOrders.{part_equal, part_order, data_equal, data_order, data_hash_input, canonical_octets, data_canonical_order}
 pub use Rattle.dns_fields.specs.OwnedData.{owned_rtype_of, owned_parts_of, keeps_data}

@@ -107,9 +107,11 @@ pub mod record {
 
 /// Record data (RDATA), and the theorems for record data types of your own.
 ///
-/// A type of one's own, for PTR records. `parts` says which parts a value has, `layout` how RDATA is
-/// laid out, and `laid_out` proves that they agree. The two laws that are called do nothing: they are
-/// lemmas. The proofs of the two `compose` calls are in `dns_message_tests/proofs/ptr`.
+/// To read a type of one's own, and to write what was read, a list of fields is enough: module
+/// `fields`. A type whose values are made needs more, as this one for PTR records. `parts` says which
+/// parts a value has, `layout` how RDATA is laid out, and `laid_out` proves that they agree. The two
+/// laws that are called do nothing: they are lemmas. The proofs of the two `compose` calls are in
+/// `dns_message_tests/proofs/ptr`.
 ///
 /// ```rust
 /// #[derive(Clone, Copy, Debug, Drop)]
@@ -161,8 +163,8 @@ pub mod data {
     pub use dns_opt::laws as option_laws;
 }
 
-/// Record types as a table, and RDATA of every type as named fields. `RecordText` prints a record as a
-/// line of a zone file, and `DataText` its RDATA.
+/// Record types as a table, and RDATA of every type as named fields. `RecordText` prints a record as
+/// a line of a zone file, and `DataText` its RDATA.
 ///
 /// The first name in RDATA, such as the exchange of MX or the target of SRV:
 ///
@@ -174,10 +176,51 @@ pub mod data {
 /// }
 /// None
 /// ```
+///
+/// A record type that `TABLE` lacks is a list of fields, and needs no proof. Its module begins with
+/// `ghost use Rattle.std.specs.Prelude.{map};` and
+/// `ghost use Rattle.app.specs.declared.host.TheConstants.{FIELDS};`, if its crate is `app` and its
+/// module `host`:
+///
+/// ```rust
+/// const FIELDS: &[(&str, Kind)] = &[("weight", Kind::Number16), ("host", Kind::PlainName)];
+///
+/// /// A host and its weight, by a number for private use (RFC 6895 section 3.1).
+/// struct WeightedHost;
+///
+/// impl RecordFields for WeightedHost {
+///     ghost number = { 65280 };
+///
+///     ghost defined = { map (λ f. (f.0.now, f.1)) FIELDS.now };
+///
+///     fn number() -> Rtype {
+///         Rtype::from_int(65280)
+///     }
+///
+///     fn fields() -> &'static [(&'static str, Kind)] {
+///         FIELDS
+///     }
+/// }
+/// ```
+///
+/// `limit_to::<DataOf<'_, WeightedHost>>()` then reads its records. The greatest weight:
+///
+/// ```rust
+/// for record in answers.limit_to::<DataOf<'_, WeightedHost>>() {
+///     let Ok(record) = record else {
+///         return greatest;
+///     };
+///     for field in record.data().fields() {
+///         if let Value::Number(weight) = field.value() {
+///             greatest = greatest.max(weight);
+///         }
+///     }
+/// }
+/// ```
 pub mod fields {
     pub use dns_fields::{
-        Encoded, Field, FieldData, Fields, Kind, OPAQUE, OwnedFieldData, Shape, TABLE, Value,
-        fields_of, laws,
+        DataOf, Encoded, Field, FieldData, Fields, Kind, OPAQUE, OwnedFieldData, RecordFields,
+        Shape, TABLE, Value, fields_of, laws,
     };
     pub use dns_fields_text::{DataText, RecordText};
 }

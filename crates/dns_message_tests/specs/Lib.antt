@@ -1,3 +1,4 @@
-pub mod Tour
 pub mod Callers
+pub mod Hosts
+pub mod Tour
 pub mod Typed

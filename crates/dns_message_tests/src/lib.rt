@@ -2,11 +2,10 @@
 //! expected values from outside this library, lists of calls that end with the same octets, and
 //! calls that allocate.
 //!
-//! Nothing is exported. `callers`, `tour` and `typed` have proved callers, `ptr` and `fields` the
-//! examples of two modules. `program`, `bad_lines`,
-//! `long_scripts`, `input_output` and `long_data` test `dnsmsg`, `script` lists of calls, and
-//! `memory` calls that allocate. `asserts` and `runs` have what many tests use. The rows of a table
-//! have names, which failures print.
+//! Nothing is exported. `callers`, `tour` and `typed` have proved callers, `ptr`, `fields` and
+//! `own` the examples of two modules. `program`, `bad_lines`, `long_scripts`, `input_output` and
+//! `long_data` test `dnsmsg`, `script` lists of calls, and `memory` calls that allocate. `asserts`
+//! and `runs` have what many tests use. The rows of a table have names, which failures print.
 #![tactic(auto)]
 
 #[cfg(test)]
@@ -25,6 +24,8 @@ mod long_data;
 mod long_scripts;
 #[cfg(test)]
 mod memory;
+#[cfg(test)]
+mod own;
 #[cfg(test)]
 mod program;
 #[cfg(test)]

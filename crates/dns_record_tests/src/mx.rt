@@ -1,74 +1,53 @@
-//! MX: a data type of the test's own, proved against the contracts alone.
-ghost use Rattle.std.proofs.Common.{rules};
-ghost use Rattle.std.specs.Prelude.{[], ◌∷◌};
-ghost use Rattle.std.specs.Int.{to_be_bytes, w16};
-ghost use Rattle.dns_message.specs.Data.{Octets, CompressibleName, Fixed, DomainName, End, only};
+//! MX: a record type of the tests' own, which is one list of fields.
+ghost use Rattle.std.specs.Prelude.{map};
+ghost use Rattle.dns_record_tests.specs.declared.mx.TheConstants.{FIELDS};
 
 use crate::asserts::{
     assert_answer, assert_holds, assert_numbers, first_data, message_of, name_of,
 };
-use crate::fields::number_of;
 use dns_message::code::{Class, Rtype};
-use dns_message::data::laws::{names_are_bounded, parts_compose};
-use dns_message::data::{ComposeRecordData, ParseRecordData, RecordData};
-use dns_message::name::{ParsedName, ToName, ToNameExt};
+use dns_message::data::ParseRecordData;
+use dns_message::fields::{DataOf, Kind, RecordFields, Value};
+use dns_message::name::{ParsedName, ToNameExt};
 use dns_message::record::{Record, Ttl};
-use dns_message::target::Composer;
-use dns_message::wire::{AppendError, ParseError, Parser};
+use dns_message::wire::Parser;
 use std::test::Fail;
+
+const FIELDS: &[(&str, Kind)] = &[
+    ("preference", Kind::Number16),
+    ("exchange", Kind::CompressibleName),
+];
 
 /// A mail exchanger and its preference, of which lower values are tried first (RFC 1035 section
 /// 3.3.9).
-#[derive(Clone, Copy, Drop)]
-struct Mx<N> {
-    preference: u16,
-    exchange: N,
-}
+struct Mx;
 
-impl<N: ToName> RecordData for Mx<N> {
-    ghost rtype_of = { λ _. 15 };
+impl RecordFields for Mx {
+    ghost number = { 15 };
 
-    ghost parts = { λ mx. Octets (to_be_bytes w16 mx.preference) ∷ CompressibleName (N.name mx.exchange) ∷ [] };
+    ghost defined = { map (λ f. (f.0.now, f.1)) FIELDS.now };
 
-    fn rtype(&self) -> Rtype {
+    fn number() -> Rtype {
         Rtype::MX
     }
-}
 
-impl<N: ToName> ComposeRecordData for Mx<N> {
-    fn compose_rdata<T: Composer>(&self, target: &mut T) -> Result<(), AppendError> {
-        parts_compose();
-        names_are_bounded();
-        target.append_slice(&self.preference.to_be_bytes())?;
-        target.append_compressed_name(&self.exchange)
-    }
-
-    fn compose_canonical_rdata<T: Composer>(&self, target: &mut T) -> Result<(), AppendError> {
-        parts_compose();
-        target.append_slice(&self.preference.to_be_bytes())?;
-        self.exchange.compose_canonical(target)
+    fn fields() -> &'static [(&'static str, Kind)] {
+        FIELDS
     }
 }
 
-impl<'a> ParseRecordData<'a> for Mx<ParsedName<'a>> {
-    ghost layout = { only 15 (Fixed 2 (DomainName End)) };
-
-    fn parse_rdata(rtype: Rtype, parser: &mut Parser<'a>) -> Result<Option<Self>, ParseError> {
-        if rtype != Rtype::MX {
-            return Ok(None);
+/// The preference and the exchange.
+fn values<'a>(data: &DataOf<'a, Mx>) -> (Option<u32>, Option<ParsedName<'a>>) {
+    let mut preference = None;
+    let mut exchange = None;
+    for field in data.fields() {
+        match field.value() {
+            Value::Number(number) => preference = u32::try_from(number).ok(),
+            Value::Name(name) => exchange = Some(name),
+            _ => {}
         }
-        let mut ahead = *parser;
-        let preference = number_of(ahead.peek(2)?);
-        ahead.advance(2)?;
-        let exchange = ParsedName::parse(&mut ahead)?;
-        *parser = ahead;
-        Ok(Some(Mx {
-            preference,
-            exchange,
-        }))
     }
-
-    ghost laid_out = { Prim.search rules };
+    (preference, exchange)
 }
 
 /// An answer with the MX record of mail.example., whose exchange is the same name.
@@ -77,19 +56,23 @@ const MESSAGE: &[u8; 40] =
 
 #[test]
 fn compresses_its_exchange(rt: HostRuntime) -> Result<(), Fail> {
-    let mx = Mx {
-        preference: 10,
-        exchange: name_of(&rt, b"\x04mail\x07example\x00"),
+    let mut parser = Parser::new(b"\x00\x0A\x04mail\x07example\x00");
+    let Some(mx) = DataOf::<'_, Mx>::parse_rdata(Rtype::MX, &mut parser)? else {
+        panic!(rt; "no data");
     };
-    let record = Record::new(mx.exchange, Class::IN, Ttl::HOUR, mx);
+    let owner = name_of(&rt, b"\x04mail\x07example\x00");
+    let record = Record::new(owner, Class::IN, Ttl::HOUR, mx);
     assert_answer(&rt, rt.alloc(), "an answer", record, MESSAGE)
 }
 
 #[test]
 fn reads_its_own_data_back(rt: HostRuntime) {
     let message = message_of(&rt, MESSAGE);
-    let mx: Mx<ParsedName<'_>> = first_data(&rt, &message);
-    assert_numbers(&rt, "preference", &[u32::from(mx.preference)], &[10]);
-    let exchange = name_of(&rt, b"\x04mail\x07example\x00");
-    assert_holds(&rt, "exchange", mx.exchange.octets_eq(&exchange));
+    let mx: DataOf<'_, Mx> = first_data(&rt, &message);
+    let (Some(preference), Some(exchange)) = values(&mx) else {
+        panic!(rt; "no fields");
+    };
+    assert_numbers(&rt, "preference", &[preference], &[10]);
+    let expected = name_of(&rt, b"\x04mail\x07example\x00");
+    assert_holds(&rt, "exchange", exchange.octets_eq(&expected));
 }

@@ -1,0 +1,94 @@
+//! A record type of one's own as a list of fields: an example of the module `fields` of
+//! `dns_message`.
+ghost use Rattle.std.specs.Prelude.{map};
+ghost use Rattle.dns_message.specs.Data.{ParsesTaken, only};
+ghost use Rattle.dns_message.specs.Fields.{own_parts_of};
+ghost use Rattle.dns_message_tests.specs.Hosts.{host_layout};
+ghost use Rattle.dns_message_tests.specs.declared.own.TheConstants.{FIELDS};
+
+use dns_message::builder::MessageBuilder;
+use dns_message::code::Rtype;
+use dns_message::data::{ParseRecordData, UnknownRecordData};
+use dns_message::fields::{DataOf, Kind, RecordFields, Value};
+use dns_message::message::Message;
+use dns_message::name::Name;
+use dns_message::wire::{Octets, ParseError, Parser};
+use std::test::Fail;
+
+const FIELDS: &[(&str, Kind)] = &[("weight", Kind::Number16), ("host", Kind::PlainName)];
+
+/// A host and its weight, by a number for private use (RFC 6895 section 3.1).
+struct WeightedHost;
+
+impl RecordFields for WeightedHost {
+    ghost number = { 65280 };
+
+    ghost defined = { map (λ f. (f.0.now, f.1)) FIELDS.now };
+
+    fn number() -> Rtype {
+        Rtype::from_int(65280)
+    }
+
+    fn fields() -> &'static [(&'static str, Kind)] {
+        FIELDS
+    }
+}
+
+/// Reads a host and its weight. Returns `None` for any other type.
+#[tactic(auto, unfolding(dns_message::specs::Fields::layout_of))]
+fn read_host<'a>(
+    rtype: Rtype,
+    parser: &mut Parser<'a>,
+) -> Result<Option<DataOf<'a, WeightedHost>>, ParseError>
+    ensures { ParsesTaken (λ _. 65280) own_parts_of (only 65280 host_layout rtype) rtype
+        parser.old parser.new result }
+{
+    DataOf::parse_rdata(rtype, parser)
+}
+
+/// The greatest weight of a host in the answer section. Returns 0 if there is none.
+fn greatest_weight<Octs: Octets>(message: &Message<Octs>) -> u64 {
+    let mut greatest = 0;
+    let Ok(answers) = message.answer() else {
+        return greatest;
+    };
+    for record in answers.limit_to::<DataOf<'_, WeightedHost>>() {
+        let Ok(record) = record else {
+            return greatest;
+        };
+        for field in record.data().fields() {
+            if let Value::Number(weight) = field.value() {
+                greatest = greatest.max(weight);
+            }
+        }
+    }
+    greatest
+}
+
+/// Three hosts and their weights.
+const HOSTS: &[&[u8]] = &[
+    b"\x00\x02\x01a\x00",
+    b"\x00\x05\x01b\x00",
+    b"\x00\x03\x01c\x00",
+];
+
+#[test]
+fn reads_its_own_type_alone(rt: HostRuntime) -> Result<(), Fail> {
+    let mut parser = Parser::new(b"\x00\x02\x01a\x00");
+    assert!(rt; read_host(Rtype::A, &mut parser)?.is_none());
+    assert!(rt; read_host(Rtype::from_int(65280), &mut parser)?.is_some());
+    assert_eq!(rt; parser.remaining(), 0);
+    Ok(())
+}
+
+#[test]
+fn finds_the_greatest_weight(rt: HostRuntime) -> Result<(), Fail> {
+    let owner = Name::from_octets(*b"\x07example\x00")?;
+    let mut builder = MessageBuilder::new_vec(rt.alloc())?.answer();
+    for octets in HOSTS {
+        let data = UnknownRecordData::from_octets(Rtype::from_int(65280), *octets)?;
+        builder.push((owner, 60u32, data))?;
+    }
+    assert_eq!(rt; greatest_weight(&builder.into_message()), 5);
+    Ok(())
+}
