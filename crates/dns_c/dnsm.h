@@ -161,9 +161,11 @@ dnsm_status dnsm_data_name(const uint8_t *message, size_t message_len, const dns
  * Errors: DNSM_NO_ROOM, and DNSM_BAD_TEXT if the text is no name. */
 dnsm_status dnsm_name_from_text(const char *text, size_t text_len, uint8_t *out, size_t out_len, size_t *len);
 
-/* Writes the RDATA of a record as `dnsmsg show` prints it: that of A, NS, CNAME and SOA by its fields, and all other RDATA
- * as `\#`, its length and its octets in hexadecimal (RFC 3597 section 5). Malformed RDATA of these four types is written in
- * the second form too. The call reads the record at the item's `place`.
+/* Writes the RDATA of a record as in a zone file (RFC 1035 section 5.1): the fields of its type, separated by spaces, for the 65
+ * types that the library knows, such as A, AAAA, MX, TXT, SRV, DNSKEY and HTTPS. Names end with a dot, and are escaped as in
+ * "Names as text"; a backslash precedes `"`, `$`, `(`, `)`, `;` and `@` too. All other RDATA is written as `\#`, its length and its
+ * octets in hexadecimal (RFC 3597 section 5): that of other types, malformed RDATA, and RDATA with a field that has no text, as a
+ * key without octets. The call reads the record at the item's `place`.
  *
  * Errors: DNSM_NO_ROOM, DNSM_BAD_SECTION for a question, which has no RDATA, and those of dnsm_name_text if no record can be read
  * there, which happens only for an item that dnsm_next didn't write for these octets. */
