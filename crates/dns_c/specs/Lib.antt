@@ -10,3 +10,4 @@ pub mod Opts
 pub mod DataNames
 pub mod Sinks
 pub mod PlainFields
+pub mod NewData

@@ -10,6 +10,7 @@ mod data_name;
 mod data_text;
 mod make;
 mod name_fault;
+mod new_data;
 mod opts;
 mod pieces;
 mod plain_fields;
