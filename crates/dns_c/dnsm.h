@@ -157,16 +157,17 @@ dnsm_status dnsm_name_end(const uint8_t *message, size_t message_len, size_t pla
  * written. */
 dnsm_status dnsm_data_name(const uint8_t *message, size_t message_len, const dnsm_item *item, size_t index, size_t *place);
 
-/* Writes the octets of the name that the text represents (see "Names as text"), as in the RDATA of a dnsm_new_item.
+/* Writes the octets of the name that the text represents (see "Names as text"), as in the RDATA of a dnsm_new_item: that of MX is
+ * two octets of the preference, and then those of the name. examples/c/mx.c builds MX and SRV records from texts.
  *
  * Errors: DNSM_NO_ROOM, and DNSM_BAD_TEXT if the text is no name. */
 dnsm_status dnsm_name_from_text(const char *text, size_t text_len, uint8_t *out, size_t out_len, size_t *len);
 
 /* Writes the RDATA of a record as in a zone file (RFC 1035 section 5.1): the fields of its type, separated by spaces, for the 65
  * types that the library knows, such as A, AAAA, MX, TXT, SRV, DNSKEY and HTTPS. Names end with a dot, and are escaped as in
- * "Names as text"; a backslash precedes `"`, `$`, `(`, `)`, `;` and `@` too. All other RDATA is written as `\#`, its length and its
- * octets in hexadecimal (RFC 3597 section 5): that of other types, malformed RDATA, and RDATA with a field that has no text, as a
- * key without octets. The call reads the record at the item's `place`.
+ * "Names as text"; a backslash precedes `"`, `$`, `(`, `)`, `;` and `@` too. All other RDATA is written as `\#`, its length and
+ * its octets in hexadecimal (RFC 3597 section 5): that of other types, malformed RDATA, and RDATA with a field that has no text,
+ * as a key without octets. The call reads the record at the item's `place`.
  *
  * Errors: DNSM_NO_ROOM, DNSM_BAD_SECTION for a question, which has no RDATA, and those of dnsm_name_text if no record can be read
  * there, which happens only for an item that dnsm_next didn't write for these octets. */
@@ -248,9 +249,9 @@ dnsm_status dnsm_respond_a(const uint8_t *query, size_t query_len, bool authorit
                            uint8_t *out, size_t out_len, size_t *len);
 
 /* A question or a record to write. The name is text (see "Names as text"). The data is RDATA in wire format, with names
- * uncompressed. For the 65 types of dnsm_data_text it has to be the fields of the type, whatever the class; for other types it may
- * be any octets. A record of class NONE (254) or ANY (255) may also have no data (RFC 2136 section 2.4). The TTL is in seconds. TTL
- * and data of a question are ignored. */
+ * uncompressed. For the 65 types of dnsm_data_text it has to be the fields of the type, whatever the class; for other types it
+ * may be any octets. A record of class NONE (254) or ANY (255) may also have no data (RFC 2136 section 2.4). The TTL is in
+ * seconds. TTL and data of a question are ignored. */
 typedef struct dnsm_new_item {
     const char *name;
     size_t name_len;
@@ -263,13 +264,13 @@ typedef struct dnsm_new_item {
 } dnsm_new_item;
 
 /* Writes a message: a header of `id` and `flags` (as in dnsm_header), and the items, each in its section, in order. The counts
- * are those of the items. Names of questions and owners are compressed, and those in the RDATA of the types of RFC 1035, as NS, MX
- * and SOA. The message may have more than 65,535 octets, which no transport carries: check `*len`. The call allocates, and frees all
- * that it allocated.
+ * are those of the items. Names of questions and owners are compressed, and those in the RDATA of the types of RFC 1035, as NS,
+ * MX and SOA. The message may have more than 65,535 octets, which no transport carries: check `*len`. The call allocates, and
+ * frees all that it allocated.
  *
  * Errors: DNSM_BAD_SECTION, DNSM_BAD_TEXT, DNSM_LONG_DATA or DNSM_BAD_DATA for an item that can't be written, the first one if
- * there are several; nothing is allocated before that. DNSM_TOO_MANY only if a section has more than 65,535 items, DNSM_NO_MEMORY if an
- * allocation failed, and DNSM_NO_ROOM. */
+ * there are several; nothing is allocated before that. DNSM_TOO_MANY only if a section has more than 65,535 items,
+ * DNSM_NO_MEMORY if an allocation failed, and DNSM_NO_ROOM. */
 dnsm_status dnsm_build(uint16_t id, uint16_t flags, const dnsm_new_item *items, size_t items_len,
                        uint8_t *out, size_t out_len, size_t *len);
 

@@ -130,8 +130,8 @@ pub extern "C" fn dnsm_name_octets(
     }
 }
 
-/// Writes the RDATA of a record in presentation format, and a zero octet: by the fields of its type,
-/// or as octets (RFC 3597 section 5) if it is malformed.
+/// Writes the RDATA of a record in presentation format, and a zero octet: by the fields of its
+/// type, or as octets (RFC 3597 section 5) if it is malformed.
 #[unsafe(no_mangle)]
 pub extern "C" fn dnsm_data_text(
     message: &[u8],
