@@ -66,6 +66,7 @@ typedef enum dnsm_status {
     DNSM_NOT_OPT = 18,      /* the item is no OPT record */
     DNSM_BAD_OPTION = 19,   /* an option isn't whole within the RDATA */
     DNSM_NO_NAME = 20,      /* the RDATA has no such name */
+    DNSM_BAD_DATA = 21,     /* the octets are no RDATA of the record type */
     DNSM_WIDEST = 0x7fffffff /* returned by no call; with it the type has 32 bits, whatever the compiler's options */
 } dnsm_status;
 
@@ -156,14 +157,17 @@ dnsm_status dnsm_name_end(const uint8_t *message, size_t message_len, size_t pla
  * written. */
 dnsm_status dnsm_data_name(const uint8_t *message, size_t message_len, const dnsm_item *item, size_t index, size_t *place);
 
-/* Writes the octets of the name that the text represents (see "Names as text"), as in the RDATA of a dnsm_new_item.
+/* Writes the octets of the name that the text represents (see "Names as text"), as in the RDATA of a dnsm_new_item: that of MX is
+ * two octets of the preference, and then those of the name. examples/c/mx.c builds MX and SRV records from texts.
  *
  * Errors: DNSM_NO_ROOM, and DNSM_BAD_TEXT if the text is no name. */
 dnsm_status dnsm_name_from_text(const char *text, size_t text_len, uint8_t *out, size_t out_len, size_t *len);
 
-/* Writes the RDATA of a record as `dnsmsg show` prints it: that of A, NS, CNAME and SOA by its fields, and all other RDATA
- * as `\#`, its length and its octets in hexadecimal (RFC 3597 section 5). Malformed RDATA of these four types is written in
- * the second form too. The call reads the record at the item's `place`.
+/* Writes the RDATA of a record as in a zone file (RFC 1035 section 5.1): the fields of its type, separated by spaces, for the 65
+ * types that the library knows, such as A, AAAA, MX, TXT, SRV, DNSKEY and HTTPS. Names end with a dot, and are escaped as in
+ * "Names as text"; a backslash precedes `"`, `$`, `(`, `)`, `;` and `@` too. All other RDATA is written as `\#`, its length and
+ * its octets in hexadecimal (RFC 3597 section 5): that of other types, malformed RDATA, and RDATA with a field that has no text,
+ * as a key without octets. The call reads the record at the item's `place`.
  *
  * Errors: DNSM_NO_ROOM, DNSM_BAD_SECTION for a question, which has no RDATA, and those of dnsm_name_text if no record can be read
  * there, which happens only for an item that dnsm_next didn't write for these octets. */
@@ -244,8 +248,10 @@ dnsm_status dnsm_query(uint16_t id, bool recursion, const char *name, size_t nam
 dnsm_status dnsm_respond_a(const uint8_t *query, size_t query_len, bool authoritative, uint32_t ttl, const uint8_t address[4],
                            uint8_t *out, size_t out_len, size_t *len);
 
-/* A question or a record to write. The name is text (see "Names as text"). The data is RDATA in wire format, in which names have
- * to be uncompressed; that isn't checked. The TTL is in seconds. TTL and data of a question are ignored. */
+/* A question or a record to write. The name is text (see "Names as text"). The data is RDATA in wire format, with names
+ * uncompressed. For the 65 types of dnsm_data_text it has to be the fields of the type, whatever the class; for other types it
+ * may be any octets. A record of class NONE (254) or ANY (255) may also have no data (RFC 2136 section 2.4). The TTL is in
+ * seconds. TTL and data of a question are ignored. */
 typedef struct dnsm_new_item {
     const char *name;
     size_t name_len;
@@ -258,12 +264,13 @@ typedef struct dnsm_new_item {
 } dnsm_new_item;
 
 /* Writes a message: a header of `id` and `flags` (as in dnsm_header), and the items, each in its section, in order. The counts
- * are those of the items. Names of questions and owners are compressed. The message may have more than 65,535 octets, which no
- * transport carries: check `*len`. The call allocates, and frees all that it allocated.
+ * are those of the items. Names of questions and owners are compressed, and those in the RDATA of the types of RFC 1035, as NS,
+ * MX and SOA. The message may have more than 65,535 octets, which no transport carries: check `*len`. The call allocates, and
+ * frees all that it allocated.
  *
- * Errors: DNSM_BAD_SECTION, DNSM_BAD_TEXT or DNSM_LONG_DATA for an item that can't be written, the first one if there are
- * several; nothing is allocated before that. DNSM_TOO_MANY only if a section has more than 65,535 items, DNSM_NO_MEMORY if an
- * allocation failed, and DNSM_NO_ROOM. */
+ * Errors: DNSM_BAD_SECTION, DNSM_BAD_TEXT, DNSM_LONG_DATA or DNSM_BAD_DATA for an item that can't be written, the first one if
+ * there are several; nothing is allocated before that. DNSM_TOO_MANY only if a section has more than 65,535 items,
+ * DNSM_NO_MEMORY if an allocation failed, and DNSM_NO_ROOM. */
 dnsm_status dnsm_build(uint16_t id, uint16_t flags, const dnsm_new_item *items, size_t items_len,
                        uint8_t *out, size_t out_len, size_t *len);
 

@@ -57,6 +57,11 @@ additional . 0 CLASS1232 OPT \# 0
 
 EXPECTED
 
+cat >"$build/expected_data" <<'EXPECTED'
+MX 10 mail.example.com.
+SRV 0 5 5222 chat.example.com.
+EXPECTED
+
 # The messages that the examples write, in hexadecimal.
 messages() {
   "$build/ask" && "$build/build"
@@ -64,10 +69,11 @@ messages() {
 
 examples() {
   local source
-  for source in ask.c build.c edge.c show.c; do
+  for source in ask.c build.c edge.c mx.c show.c; do
     compile "$1" c11 "$source" || return
   done
-  "$build/edge" && messages >"$build/messages" && "$build/show" <"$build/messages" | diff "$build/expected" - &&
+  "$build/edge" && "$build/mx" | diff "$build/expected_data" - && messages >"$build/messages" &&
+    "$build/show" <"$build/messages" | diff "$build/expected" - &&
     "$build/show" prefixes <"$build/messages" && "$build/show" changes <"$build/messages"
 }
 

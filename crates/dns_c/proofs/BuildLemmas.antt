@@ -5,6 +5,10 @@ use Rattle.std.proofs.lemmas.List.{drop_all}
 use Rattle.std.specs.Prelude.{Bool, Option, Result, Err, None}
 use Rattle.dns_name.proofs.theory.NameTextFaults.{one_text_name}
 use Rattle.dns_wire.specs.Encoders.{Rule}
+use Rattle.dns_wire.specs.Parts.{Part}
+use Rattle.dns_data.proofs.theory.DataReading.{one_rdata_or_fault}
+use Rattle.dns_fields.specs.FieldData.{type_layout}
+use Rattle.dns_item.specs.ParsedData.{no_fault}
 use Rattle.dns_octets.specs.declared.error.AppendError.{AppendError}
 use Rattle.dns_octets.specs.declared.error.AppendError.TheVariants as appending
 use Rattle.dns_wire.specs.Targets.{AppendReturns}
@@ -22,9 +26,9 @@ use Rattle.dns_build.specs.declared.push_error.PushError.TheVariants as pushing
 use Rattle.dns_c.specs.Codes.{append_fault, number_of, push_fault}
 use Rattle.dns_c.specs.Made.{SpellsNoName}
 use Rattle.dns_c.specs.Walk.{section_at}
-use Rattle.dns_c.specs.Built.{NewEntry, Question, Record, Means, AllMean, IsQuestionOf, IsRecordOf, LacksFields, IsRefused, FirstRefused, ReturnsRecordPush, RefusesHeader, RefusesQuestion, RefusesRecord, RefusesEntry, IsUnbuilt, HasTooMany, beginning_of, questions_among, records_among}
+use Rattle.dns_c.specs.Built.{NewEntry, Question, Record, Means, AllMean, IsQuestionOf, IsRecordOf, IsDataOf, HasNoFields, layout_type, LacksFields, IsRefused, FirstRefused, ReturnsRecordPush, RefusesHeader, RefusesQuestion, RefusesRecord, RefusesEntry, IsUnbuilt, HasTooMany, beginning_of, questions_among, records_among}
 use Rattle.dns_c.specs.declared.build.NewItem.{NewItem}
-use Rattle.dns_c.specs.declared.code.Fault.TheVariants.{BadSection, BadText, LongData, NoRoom, TooMany}
+use Rattle.dns_c.specs.declared.code.Fault.TheVariants.{BadSection, BadText, LongData, BadData, NoRoom, TooMany}
 
 -- An item is at most one question, and at most one record.
 
@@ -35,13 +39,23 @@ same_question item x y h k =
     let class : x.class ≡ y.class = h.class ∙ sym k.class in
     λ i. record { name = name i; rtype = rtype i; class = class i }
 
+-- its RDATA has one list of parts
+same_parts : (item : NewItem) (xs ys : List Part) → IsDataOf item xs → IsDataOf item ys → xs ≡ ys
+same_parts item xs ys h k =
+    let b = item.rdata.now in
+    ((one_rdata_or_fault b (type_layout (layout_type item)) 0 (omega arith)).one (length b) (length b) xs ys h k).1
+
+-- and then it has fields
+has_fields : (item : NewItem) (xs : List Part) → IsDataOf item xs → HasNoFields item → ⊥
+has_fields item xs h none = no_fault item.rdata.now (type_layout (layout_type item)) 0 (omega arith) xs none.fault h none.malformed
+
 same_record : (item : NewItem) (x y : RecordItem) → IsRecordOf item x → IsRecordOf item y → x ≡ y
 same_record item x y h k =
     let owner = one_text_name item.name.now x.owner y.owner h.owner k.owner in
     let rtype : x.rtype ≡ y.rtype = h.rtype ∙ sym k.rtype in
     let class : x.class ≡ y.class = h.class ∙ sym k.class in
     let ttl : x.ttl ≡ y.ttl = h.ttl ∙ sym k.ttl in
-    let parts : x.parts ≡ y.parts = h.parts ∙ sym k.parts in
+    let parts : x.parts ≡ y.parts = same_parts item x.parts y.parts h.parts k.parts in
     λ i. record { owner = owner i; rtype = rtype i; class = class i; ttl = ttl i; parts = parts i }
 
 -- the remaining items, at an index and at the end
@@ -295,7 +309,8 @@ module _ (rule : Rule) (stage : Stage) (which : Section) (rest : List NewItem) (
   stating_named_by [] n at mean lacks = mean
   stating_named_by (Question x ∷ es) n at mean lacks = not_first item.section which mean.0.0 at
   stating_named_by (Record w x ∷ es) n at mean (inl none) = none.0 x.owner mean.0.3.owner
-  stating_named_by (Record w x ∷ es) n at mean (inr long) = let short = mean.0.3.short in let over = long.1 in omega arith
+  stating_named_by (Record w x ∷ es) n at mean (inr (inl long)) = let short = mean.0.3.short in let over = long.1 in omega arith
+  stating_named_by (Record w x ∷ es) n at mean (inr (inr bad)) = has_fields item x.parts mean.0.3.parts bad.2
 
 module _ (rule : Rule) (stage : Stage) (which : Section) (left rest : List NewItem) (item : NewItem) (is : left ≡ item ∷ rest) (xs : List NewEntry) (s : State) (now : Built) (h : Stating rule stage which left xs s now) where
   these_mean : AllMean (item ∷ rest) h.rest
@@ -331,12 +346,13 @@ pub stating_ends : (rule : Rule) (stage : Stage) (which : Section) (left : List 
     → Represents stage rule (with_records stage (records_among which xs) s) now
 stating_ends rule stage which left xs s now is h = stating_ends_by rule stage which h.rest xs h.first s now (subst (λ (items : List NewItem). AllMean items h.rest) is h.mean) h.all h.represents
 
--- The first item that is no entry is reported by one of three numbers.
+-- The first item that is no entry is reported by one of four numbers.
 
-module _ (n : ℕ) (section : n ≡ number_of BadSection → ⊥) (text : n ≡ number_of BadText → ⊥) (long : n ≡ number_of LongData → ⊥) where
+module _ (n : ℕ) (section : n ≡ number_of BadSection → ⊥) (text : n ≡ number_of BadText → ⊥) (long : n ≡ number_of LongData → ⊥) (bad : n ≡ number_of BadData → ⊥) where
   lacks_otherwise : (item : NewItem) → LacksFields item n → ⊥
   lacks_otherwise item (inl h) = text h.1
-  lacks_otherwise item (inr h) = long h.2
+  lacks_otherwise item (inr (inl h)) = long h.2
+  lacks_otherwise item (inr (inr h)) = bad h.3
 
   refused_otherwise : (item : NewItem) → IsRefused item n → ⊥
   refused_otherwise item (inl h) = section h.1
@@ -370,7 +386,7 @@ made_otherwise grows rule header xs n capacity (inl h) = header_otherwise grows 
 made_otherwise grows rule header xs n capacity (inr h) = entry_otherwise grows rule header xs n capacity h
 
 pub unbuilt_otherwise : (grows : Bool) (rule : Rule) (header : HeaderFields) (items : List NewItem) (n : ℕ) → n ≡ number_of NoRoom → IsUnbuilt None grows rule header items n → ⊥
-unbuilt_otherwise grows rule header items n capacity (inl h) = first_otherwise n (λ is. omega arith) (λ is. omega arith) (λ is. omega arith) items h
+unbuilt_otherwise grows rule header items n capacity (inl h) = first_otherwise n (λ is. omega arith) (λ is. omega arith) (λ is. omega arith) (λ is. omega arith) items h
 unbuilt_otherwise grows rule header items n capacity (inr h) = made_otherwise grows rule header h.0 n capacity h.2
 
 -- A full count is reported only if a section has more entries than its count can hold.
@@ -413,7 +429,7 @@ module _ (capacity : Option ℕ) (grows : Bool) (rule : Rule) where
   made_full header xs n many (inr h) = entry_full header xs n many h
 
   pub unbuilt_full : (header : HeaderFields) (items : List NewItem) (n : ℕ) → n ≡ number_of TooMany → IsUnbuilt capacity grows rule header items n → HasTooMany items
-  unbuilt_full header items n many (inl h) = absurd (first_otherwise n (λ is. omega arith) (λ is. omega arith) (λ is. omega arith) items h)
+  unbuilt_full header items n many (inl h) = absurd (first_otherwise n (λ is. omega arith) (λ is. omega arith) (λ is. omega arith) (λ is. omega arith) items h)
   unbuilt_full header items n many (inr h) = (h.0, h.1, made_full header h.0 n many h.2)
 
 -- All items are entries, and writing them fails.

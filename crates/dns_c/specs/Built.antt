@@ -1,17 +1,20 @@
 -- What `dnsm_build` writes for the items that C passes, and why it fails. RFC 1035 section 4.1.
-use Rattle.std.specs.Prelude.{◌≡◌, ◌<◌, ◌≤◌, ◌⊎◌, ◌++◌, ℕ, Bool, List, [], ◌∷◌, length, Option, Some, None, Result, Err}
+use Rattle.std.specs.Prelude.{◌≡◌, ◌<◌, ◌≤◌, ◌⊎◌, ◌++◌, ◌==◌, ◌||◌, ◌&&◌, if◌then◌else◌, ℕ, Bool, List, [], ◌∷◌, length, Option, Some, None, Result, Err}
 use Rattle.std.specs.Int.{to_be_bytes, w16}
 use Rattle.std.specs.List.{filter_map}
 use Rattle.dns_octets.specs.declared.error.AppendError.{AppendError}
-use Rattle.dns_name.specs.Names.{Labels}
+use Rattle.dns_name.specs.Names.{Fault, Labels}
 use Rattle.dns_name.specs.NameTexts.{SpellsName}
-use Rattle.dns_wire.specs.Parts.{Octets}
+use Rattle.dns_wire.specs.Parts.{Part}
 use Rattle.dns_wire.specs.Encoders.{Rule}
 use Rattle.dns_wire.specs.Targets.{AppendReturns}
 use Rattle.dns_code.specs.Header.{HeaderFields, fields_in}
 use Rattle.dns_code.specs.HeaderSection.{header_size}
 use Rattle.dns_question.specs.Questions.{QuestionItem}
+use Rattle.dns_data.specs.Layout.{DataAt}
+use Rattle.dns_fields.specs.FieldData.{type_layout}
 use Rattle.dns_item.specs.Items.{RecordItem}
+use Rattle.dns_item.specs.RecordReading.{WholeDataFaultAt}
 use Rattle.dns_section.specs.declared.section.Section.{Section}
 use Rattle.dns_section.specs.declared.section.Section.TheVariants.{Answer, Authority, Additional}
 use Rattle.dns_build.specs.State.{State, Stage, InQuestion, InAdditional, stage_of, move_to, rewound, with_questions, with_record, with_records, records_at, most_entries}
@@ -38,13 +41,26 @@ pub record IsQuestionOf (item : NewItem) (x : QuestionItem) : Type 0 where
   pub rtype : x.rtype ≡ item.rtype
   pub class : x.class ≡ item.class
 
--- an item as a record: also its TTL, and its RDATA as given
+-- the type whose fields an item's RDATA has: its own; but NULL (10) if the class is NONE (254) or ANY (255) and there is no RDATA. RFC 2136 section 2.4
+abbrev pub layout_type : NewItem → ℕ
+layout_type item = if ((item.class == 254) || (item.class == 255)) && (length item.rdata.now == 0) then 10 else item.rtype
+
+-- the parts of an item's RDATA: the fields of its type, which take all its octets
+abbrev pub IsDataOf : NewItem → List Part → Type 0
+IsDataOf item parts = DataAt item.rdata.now (type_layout (layout_type item)) 0 (length item.rdata.now) parts
+
+-- its octets aren't these fields
+pub record HasNoFields (item : NewItem) : Type 0 where
+  pub fault : Fault
+  pub malformed : WholeDataFaultAt item.rdata.now (type_layout (layout_type item)) 0 fault
+
+-- an item as a record: also its TTL and its RDATA
 pub record IsRecordOf (item : NewItem) (x : RecordItem) : Type 0 where
   pub owner : SpellsName item.name.now x.owner
   pub rtype : x.rtype ≡ item.rtype
   pub class : x.class ≡ item.class
   pub ttl : x.ttl ≡ item.ttl
-  pub parts : x.parts ≡ Octets item.rdata.now ∷ []
+  pub parts : IsDataOf item x.parts
   pub short : length item.rdata.now ≤ 65535
 
 -- an item is this entry: section 0 is the question section, 1 to 3 are those of records
@@ -102,13 +118,14 @@ pub record IsBuilt (rule : Rule) (id flags : ℕ) (items : List NewItem) (octets
 
 -- Why nothing is written.
 
--- an item has no valid name, or too much RDATA
+-- an item has no valid name, or too much RDATA, or octets that aren't RDATA of its type
 abbrev pub LacksFields : NewItem → ℕ → Type 0
 LacksFields item n =
     (SpellsNoName item.name.now × (n ≡ number_of faults.BadText))
     ⊎ (((name : Labels) × SpellsName item.name.now name) × (65535 < length item.rdata.now) × (n ≡ number_of faults.LongData))
+    ⊎ (((name : Labels) × SpellsName item.name.now name) × (length item.rdata.now ≤ 65535) × HasNoFields item × (n ≡ number_of faults.BadData))
 
--- An item is no entry, and the number says why: the first of a bad section, a text that spells no name, and too much RDATA of a record.
+-- An item is no entry, and the number says why: the first of a bad section, a text that spells no name, too much RDATA of a record, and RDATA that isn't that of its type.
 abbrev pub IsRefused : NewItem → ℕ → Type 0
 IsRefused item n =
     ((3 < item.section) × (n ≡ number_of faults.BadSection))

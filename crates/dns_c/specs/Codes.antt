@@ -30,6 +30,7 @@ number_of faults.OtherType = 17
 number_of faults.NotOpt = 18
 number_of faults.BadOption = 19
 number_of faults.NoName = 20
+number_of faults.BadData = 21
 
 -- the status of a call: 0 if there is an item, 1 at the end, otherwise the number of the fault
 abbrev pub code_of : Result Bool Fault → ℕ

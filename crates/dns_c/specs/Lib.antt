@@ -8,3 +8,6 @@ pub mod Texts
 pub mod Built
 pub mod Opts
 pub mod DataNames
+pub mod Sinks
+pub mod PlainFields
+pub mod NewData

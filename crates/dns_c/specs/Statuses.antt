@@ -29,6 +29,7 @@ status_sentences =
     ∷ (number_of faults.NotOpt, codes "the item is no OPT record")
     ∷ (number_of faults.BadOption, codes "an option is not whole within the RDATA")
     ∷ (number_of faults.NoName, codes "the RDATA has no such name")
+    ∷ (number_of faults.BadData, codes "the octets are no RDATA of the record type")
     ∷ []
 
 -- the text of a status

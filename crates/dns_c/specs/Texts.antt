@@ -1,5 +1,5 @@
 -- Text in a caller's buffer, and the text of RDATA. RFC 1035 section 5.1, RFC 3597 section 5.
-use Rattle.std.specs.Prelude.{◌≡◌, ℕ, ◌≤◌, ◌-◌, ◌^◌, List, [], ◌∷◌, ◌++◌, drop, length, take, min}
+use Rattle.std.specs.Prelude.{◌≡◌, ◌⊎◌, ℕ, ◌≤◌, ◌-◌, ◌^◌, Bool, true, false, List, [], ◌∷◌, ◌++◌, drop, length, take, min, Option, Some, None}
 use Rattle.std.specs.List.{flat_map}
 use Rattle.dns_name.specs.Names.{Fault, Labels}
 use Rattle.dns_name.specs.NameTexts.{dot, name_text}
@@ -7,8 +7,14 @@ use Rattle.dns_data.specs.Printing.{hex_octet}
 use Rattle.dns_item.specs.Items.{RecordEntry, ReadsRecord, RecordFaultAt}
 use Rattle.dns_item.specs.ParsedRecord.{EncodedRecord}
 use Rattle.dns_item.specs.RecordReading.{up_to_rdata_end}
-use Rattle.dns_tool.specs.Show.{shown_data, known_parts}
+use Rattle.dns_wire.specs.Parts.{Part}
+use Rattle.dns_fields.specs.FieldData.{type_layout}
+use Rattle.dns_fields.specs.FieldParts.{named_parts}
+use Rattle.dns_fields.specs.Table.{definitions_of}
+use Rattle.dns_lines.specs.ZoneLines.{rdata_text}
+use Rattle.dns_tool.specs.Show.{data_parts}
 use Rattle.dns_c.specs.NameFaults.{ReportsAt}
+use Rattle.dns_c.specs.PlainFields.{are_plain}
 
 -- `end` is the length of the text, at most 2^64 - 1, and the buffer begins with the text if it is long enough
 pub record Holds (out text : List ℕ) (end : ℕ) : Type 0 where
@@ -35,6 +41,19 @@ NoRecordAt b p n = (f : Fault) × RecordFaultAt b p f × ReportsAt b p f n
 abbrev pub data_octets : List ℕ → RecordEntry → List ℕ
 data_octets b x = drop x.rdata_start (up_to_rdata_end b x)
 
--- the text of RDATA, as `dnsmsg show` prints it: by its fields if it is well-formed data of a type with known fields, otherwise as octets
-abbrev pub data_text : List ℕ → RecordEntry → List ℕ
-data_text b x = let r : EncodedRecord = record { octets = b; entry = x } in shown_data r (known_parts r)
+-- whether the fields of RDATA with these parts are all numbers, IPv4 addresses and names; malformed RDATA has no fields
+abbrev pub has_plain_fields : ℕ → Option (List Part) → Bool
+has_plain_fields rtype None = true
+has_plain_fields rtype (Some parts) = are_plain (named_parts (definitions_of rtype) parts)
+
+-- A text of RDATA: its fields, or its octets if it is malformed. RDATA may also have the text of its octets if a field is no number, IPv4 address or name.
+abbrev pub IsDataText : EncodedRecord → List ℕ → Type 0
+IsDataText r text =
+    let parts : Option (List Part) = data_parts r (type_layout r.entry.rtype) in
+    (text ≡ rdata_text r parts) ⊎ ((has_plain_fields r.entry.rtype parts ≡ false) × (text ≡ rdata_text r None))
+
+-- a text of the RDATA of the record at offset p
+pub record RecordDataText (b : List ℕ) (p : ℕ) (text : List ℕ) : Type 0 where
+  pub entry : RecordEntry
+  pub there : RecordAt b p entry
+  pub is_text : IsDataText (record { octets = b; entry = entry }) text

@@ -1,21 +1,20 @@
 //! Builds a message from the items that a caller passes.
-ghost use Rattle.std.specs.Prelude.{◌≡◌, ◌∷◌, List, [], None, true, IfOk, IfErr, OnOk};
+ghost use Rattle.std.specs.Prelude.{◌≡◌, List, None, true, IfOk, IfErr, OnOk};
 ghost use Rattle.dns_name.specs.NameReading.{name_labels};
-ghost use Rattle.dns_wire.specs.Parts.{Octets};
 ghost use Rattle.dns_wire.specs.Encoders.{Tree};
-ghost use Rattle.dns_data.specs.UnknownData.{unknown_rtype_of, unknown_octets};
 ghost use Rattle.dns_build.specs.State.{InQuestion, with_questions, with_records};
 ghost use Rattle.dns_code.specs.Header.{fields};
 ghost use Rattle.dns_build.specs.BuilderStates.{InEach, MovesState};
 ghost use Rattle.dns_c.specs.Codes.{number_of};
 ghost use Rattle.dns_c.specs.Made.{SpellsNoName};
+ghost use Rattle.dns_c.specs.NewData.{new_rtype, new_parts};
 ghost use Rattle.dns_c.specs.Built.{NewEntry, Means, AllMean, IsQuestionOf, IsRecordOf, IsBuilt, LacksFields, IsRefused, FirstRefused, RefusesQuestion, RefusesRecord, IsUnbuilt, questions_among, records_among, header_of};
 
 use crate::code::Fault;
 use crate::make::{Text, name_of};
+use crate::new_data::{NewData, fields_of};
 use dns_build::{Builder, MessageBuilder, QuestionBuilder, RecordStage};
 use dns_code::{Class, Header, Rtype};
-use dns_data::UnknownRecordData;
 use dns_item::Ttl;
 use dns_target::TreeCompressor;
 use dns_wire::Composer;
@@ -27,13 +26,17 @@ const QUESTION: u8 = 0;
 /// The number of the additional section, the last one.
 const ADDITIONAL: u8 = 3;
 
+/// The most octets that RDATA can have.
+const MOST_DATA: usize = 65535;
+
 /// A question or a record to write.
 #[repr(C)]
 #[derive(Clone, Copy)]
 pub struct NewItem<'a> {
     /// The name in presentation format.
     pub name: &'a [u8],
-    /// The RDATA, with any names in it uncompressed.
+    /// The RDATA, with any names in it uncompressed. It is that of the record type, or empty if the
+    /// class is NONE or ANY.
     pub rdata: &'a [u8],
     pub ttl: u32,
     pub rtype: u16,
@@ -47,7 +50,7 @@ type Target = TreeCompressor<Vec<u8>>;
 
 type NewQuestion = (Text, Rtype, Class);
 
-type NewRecord<'a> = (Text, Class, Ttl, UnknownRecordData<&'a [u8]>);
+type NewRecord<'a> = (Text, Class, Ttl, NewData<'a>);
 
 /// Converts an item to a question.
 fn question_of(item: &NewItem<'_>) -> Result<NewQuestion, Fault>
@@ -71,23 +74,25 @@ fn question_of(item: &NewItem<'_>) -> Result<NewQuestion, Fault>
 fn record_of<'a>(item: &NewItem<'a>) -> Result<NewRecord<'a>, Fault>
     ensures made { IfOk result (λ made. IsRecordOf item.now (record {
       owner = name_labels made.0;
-      rtype = unknown_rtype_of made.3;
+      rtype = new_rtype made.3;
       class = made.1;
       ttl = made.2;
-      parts = Octets (unknown_octets made.3) ∷ [];
+      parts = new_parts made.3;
     })) }
     ensures none { IfErr result (λ fault. LacksFields item.now (number_of fault)) }
 {
     let name = name_of(item.name)?;
-    match UnknownRecordData::from_octets(Rtype::from_int(item.rtype), item.rdata) {
-        Ok(data) => Ok((
-            name,
-            Class::from_int(item.class),
-            Ttl::from_secs(item.ttl),
-            data,
-        )),
-        Err(_) => Err(Fault::LongData),
+    if item.rdata.len() > MOST_DATA {
+        return Err(Fault::LongData);
     }
+    let fields = fields_of(item)?;
+    let rtype = Rtype::from_int(item.rtype);
+    Ok((
+        name,
+        Class::from_int(item.class),
+        Ttl::from_secs(item.ttl),
+        NewData { rtype, fields },
+    ))
 }
 
 /// Checks that an item is a question or a record that can be written.

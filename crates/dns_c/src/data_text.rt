@@ -1,26 +1,25 @@
 //! The text of a record's RDATA.
-ghost use Rattle.std.specs.Prelude.{◌≡◌, ◌≢◌, ◌++◌, ℕ, List, decimal, option_map, Err, IfOk, IfErr};
-ghost use Rattle.std.specs.Option.{option_and_then};
+ghost use Rattle.std.specs.Prelude.{◌≡◌, ◌≢◌, ◌++◌, ℕ, List, decimal, false, Err, IfOk, IfErr, IfSome, IsNone};
 ghost use Rattle.dns_name.specs.Names.{fault_of};
-ghost use Rattle.dns_name.specs.ParsedName.{labels};
-ghost use Rattle.dns_data.specs.A.{address_of};
 ghost use Rattle.dns_data.specs.Printing.{opaque_text};
-ghost use Rattle.dns_data.specs.Soa.{soa_parts};
-ghost use Rattle.dns_item.specs.Items.{RecordEntry, RecordFaultAt};
+ghost use Rattle.dns_fields_text.specs.DataTexts.{data_fields, data_line};
+ghost use Rattle.dns_item.specs.Items.{RecordFaultAt};
 ghost use Rattle.dns_item.specs.ParsedRecord.{octets_of, parsed_entry, encoded_record};
-ghost use Rattle.dns_tool.specs.Show.{IsRead, data_parts, address_octets_text, parts_text};
+ghost use Rattle.dns_tool.specs.Show.{IsRead};
 ghost use Rattle.dns_c.specs.Codes.{number_of};
-ghost use Rattle.dns_c.specs.Texts.{Holds, NoRecordAt, RecordAt, data_octets, data_text};
+ghost use Rattle.dns_c.specs.PlainFields.{are_plain};
+ghost use Rattle.dns_c.specs.Texts.{Holds, IsDataText, NoRecordAt, RecordAt, RecordDataText, data_octets};
 
 use crate::code::Fault;
 use crate::name_fault::fault_at;
-use crate::pieces::{
-    End, START, append_after, append_hex, append_name, append_number, append_octets, write_name,
-};
+use crate::pieces::{End, START, append_after, append_hex, append_octets};
+use crate::plain_fields::write_plain;
+use crate::sink::write_value;
 use crate::walk::{Item, parser_at};
-use dns_data::{A, Cname, Ns, ParseRecordData, Soa};
+use dns_fields::FieldData;
+use dns_fields_text::DataText;
 use dns_item::ParsedRecord;
-use dns_wire::{ParseError, ParsedName};
+use dns_wire::ParseError;
 
 /// Parses the record at offset `place`. Also returns its RDATA.
 fn record_at(octets: &[u8], place: usize) -> Result<(ParsedRecord<'_>, &[u8]), ParseError>
@@ -37,48 +36,9 @@ fn record_at(octets: &[u8], place: usize) -> Result<(ParsedRecord<'_>, &[u8]), P
     Ok((found, &octets[start..end]))
 }
 
-/// Parses the RDATA as `D`. Returns `None` if the record has another type or the RDATA is
-/// malformed.
-fn data_as<'a, D: ParseRecordData<'a> + Drop>(found: &ParsedRecord<'a>) -> Option<D>
-    requires { IsRead (encoded_record found.now) }
-    ensures { option_map D.parts result ≡ option_and_then (data_parts (encoded_record found.now))
-        (D.layout (parsed_entry found.now).rtype) }
-{
-    match found.to_record::<D>() {
-        Ok(Some(read)) => Some(read.into_data()),
-        Ok(None) => None,
-        Err(_) => None,
-    }
-}
-
-/// Writes an IPv4 address in dotted decimal.
-fn append_address(data: &A, out: &mut [u8]) -> End
-    ensures { Holds out.new (address_octets_text (address_of «data».now)) result }
-{
-    let [a, b, c, d] = data.octets();
-    let end = append_number(u64::from(a), out, START);
-    let end = append_after(b".", u64::from(b), out, end);
-    let end = append_after(b".", u64::from(c), out, end);
-    append_after(b".", u64::from(d), out, end)
-}
-
-/// Writes the RDATA of SOA: two names and five numbers, separated by single spaces.
-fn append_zone(data: &Soa<ParsedName<'_>>, out: &mut [u8]) -> End
-    ensures { Holds out.new (parts_text (soa_parts labels «data».now)) result }
-{
-    let end = append_name(data.mname(), out, START);
-    let end = append_octets(b" ", out, end);
-    let end = append_name(data.rname(), out, end);
-    let end = append_after(b" ", u64::from(data.serial()), out, end);
-    let end = append_after(b" ", u64::from(data.refresh()), out, end);
-    let end = append_after(b" ", u64::from(data.retry()), out, end);
-    let end = append_after(b" ", u64::from(data.expire()), out, end);
-    append_after(b" ", u64::from(data.minimum()), out, end)
-}
-
 /// Writes RDATA in the form of RFC 3597 section 5: `\#`, the length, and the octets in hexadecimal
 /// if there are any.
-fn append_opaque(octets: &[u8], out: &mut [u8]) -> End
+fn write_opaque(octets: &[u8], out: &mut [u8]) -> End
     ensures { Holds out.new (opaque_text octets.now) result }
 {
     let end = append_octets(b"\\#", out, START);
@@ -90,33 +50,38 @@ fn append_opaque(octets: &[u8], out: &mut [u8]) -> End
     append_hex(octets, out, end)
 }
 
-/// Writes RDATA by its fields if it is well-formed A, NS, CNAME or SOA data, otherwise as opaque
-/// octets.
-fn append_data(found: &ParsedRecord<'_>, opaque: &[u8], out: &mut [u8]) -> End
+/// Writes RDATA by its fields, or returns `None` if that fails.
+fn write_fields(data: &FieldData<'_>, out: &mut [u8]) -> Option<End>
+    ensures text { IfSome result (λ end. Holds out.new (data_line «data».now) end) }
+    ensures other { IsNone result → are_plain (data_fields «data».now) ≡ false }
+{
+    match write_plain(data, out) {
+        Some(end) => Some(end),
+        None => write_value(DataText(data), out),
+    }
+}
+
+/// Writes RDATA by its fields, or as octets if it is malformed.
+fn write_data(found: &ParsedRecord<'_>, opaque: &[u8], out: &mut [u8]) -> End
     requires read { IsRead (encoded_record found.now) }
     requires opaque { opaque.now ≡ data_octets (octets_of found.now) (parsed_entry found.now) }
-    ensures { Holds out.new (data_text (octets_of found.now) (parsed_entry found.now)) result }
+    ensures { (text : List ℕ) × IsDataText (encoded_record found.now) text
+        × Holds out.new text result }
 {
-    if let Some(address) = data_as::<A>(found) {
-        return append_address(&address, out);
+    let Ok(record) = found.to_any_record::<FieldData<'_>>() else {
+        return write_opaque(opaque, out);
+    };
+    match write_fields(record.data(), out) {
+        Some(end) => end,
+        None => write_opaque(opaque, out),
     }
-    if let Some(server) = data_as::<Ns<ParsedName<'_>>>(found) {
-        return write_name(server.nsdname(), out);
-    }
-    if let Some(alias) = data_as::<Cname<ParsedName<'_>>>(found) {
-        return write_name(alias.cname(), out);
-    }
-    if let Some(zone) = data_as::<Soa<ParsedName<'_>>>(found) {
-        return append_zone(&zone, out);
-    }
-    append_opaque(opaque, out)
 }
 
 /// Writes the RDATA of a record. A question has none.
 pub(crate) fn data(octets: &[u8], item: &Item, out: &mut [u8]) -> Result<End, Fault>
     ensures question { item.now.section ≡ 0 → result ≡ Err Fault.BadSection }
-    ensures text { IfOk result (λ end. (x : RecordEntry) × RecordAt octets.now item.now.place x
-        × Holds out.new (data_text octets.now x) end) }
+    ensures text { IfOk result (λ end. (text : List ℕ)
+        × RecordDataText octets.now item.now.place text × Holds out.new text end) }
     ensures none { IfErr result (λ fault. item.now.section ≢ 0
         → NoRecordAt octets.now item.now.place (number_of fault)) }
 {
@@ -124,7 +89,7 @@ pub(crate) fn data(octets: &[u8], item: &Item, out: &mut [u8]) -> Result<End, Fa
         return Err(Fault::BadSection);
     }
     match record_at(octets, item.place) {
-        Ok((found, opaque)) => Ok(append_data(&found, opaque, out)),
+        Ok((found, opaque)) => Ok(write_data(&found, opaque, out)),
         Err(error) => Err(fault_at(octets, item.place, error)),
     }
 }

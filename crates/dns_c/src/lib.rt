@@ -10,13 +10,16 @@ mod data_name;
 mod data_text;
 mod make;
 mod name_fault;
+mod new_data;
 mod opts;
 mod pieces;
+mod plain_fields;
+mod sink;
 mod text;
 mod walk;
 mod words;
 
-ghost use Rattle.std.specs.Prelude.{◌≡◌, ◌≢◌, ◌<◌, ◌≤◌, ◌+◌, ◌-◌, ◌^◌, ◌++◌, ◌∷◌, [], length, take, min, get_or, None, true};
+ghost use Rattle.std.specs.Prelude.{ℕ, List, ◌≡◌, ◌≢◌, ◌<◌, ◌≤◌, ◌+◌, ◌-◌, ◌^◌, ◌++◌, ◌∷◌, [], length, take, min, get_or, None, true};
 ghost use Rattle.dns_name.specs.NameTexts.{SpellsName, name_text};
 ghost use Rattle.dns_name.specs.Names.{Labels, NameAt, NameEndsAt, uncompressed};
 ghost use Rattle.dns_wire.specs.Encoders.{Tree};
@@ -26,7 +29,6 @@ ghost use Rattle.dns_number.specs.Classes.{class_text};
 ghost use Rattle.dns_number.specs.Types.{type_text};
 ghost use Rattle.dns_opt.specs.Options.{OptionBegins, encode_option};
 ghost use Rattle.dns_question.specs.Questions.{QuestionItem};
-ghost use Rattle.dns_item.specs.Items.{RecordEntry};
 ghost use Rattle.dns_c.specs.Built.{HasTooMany, IsBuilt, IsUnbuilt, header_of};
 ghost use Rattle.dns_c.specs.Codes.{number_of};
 ghost use Rattle.dns_c.specs.DataNames.{IsDataName, LacksDataName};
@@ -34,7 +36,7 @@ ghost use Rattle.dns_c.specs.Made.{AsksNothing, AsksOne, HoldsQuery, IsLonger, I
 ghost use Rattle.dns_c.specs.Opts.{HasFields, IsOpt, LacksOption, data_from, option_at};
 ghost use Rattle.dns_c.specs.Statuses.{status_text};
 ghost use Rattle.dns_c.specs.Steps.{IsOpen, Opens, Spans, GivesNext};
-ghost use Rattle.dns_c.specs.Texts.{NoRecordAt, RecordAt, data_text};
+ghost use Rattle.dns_c.specs.Texts.{NoRecordAt, RecordDataText};
 
 use build::NewItem;
 use code::Fault;
@@ -128,8 +130,8 @@ pub extern "C" fn dnsm_name_octets(
     }
 }
 
-/// Writes the RDATA of a record as text, and a zero octet: A, NS, CNAME and SOA by their fields,
-/// all else in the form of RFC 3597 section 5.
+/// Writes the RDATA of a record in presentation format, and a zero octet: by the fields of its
+/// type, or as octets (RFC 3597 section 5) if it is malformed.
 #[unsafe(no_mangle)]
 pub extern "C" fn dnsm_data_text(
     message: &[u8],
@@ -140,12 +142,12 @@ pub extern "C" fn dnsm_data_text(
     ensures length { length out.new ≡ length out.old }
     ensures empty { result ≢ 0 → result ≢ number_of Fault.NoRoom → len.new ≡ 0 }
     ensures ended { result ≡ 0 → (len.new < length out.new) × (get_or out.new len.new 1 ≡ 0) }
-    ensures text { result ≡ 0 → (x : RecordEntry) × RecordAt message.now item.now.place x
-        × (take (len.new + 1) out.new ≡ data_text message.now x ++ 0 ∷ []) }
-    ensures no_room { result ≡ number_of Fault.NoRoom → (x : RecordEntry)
-        × RecordAt message.now item.now.place x
-        × (length out.old < length (data_text message.now x) + 1)
-        × (len.new ≡ min (length (data_text message.now x)) (2 ^ 64 - 1)) }
+    ensures text { result ≡ 0 → (text : List ℕ)
+        × RecordDataText message.now item.now.place text
+        × (take (len.new + 1) out.new ≡ text ++ 0 ∷ []) }
+    ensures no_room { result ≡ number_of Fault.NoRoom → (text : List ℕ)
+        × RecordDataText message.now item.now.place text
+        × (length out.old < length text + 1) × (len.new ≡ min (length text) (2 ^ 64 - 1)) }
     ensures question { item.now.section ≡ 0 → result ≡ number_of Fault.BadSection }
     ensures no_record { item.now.section ≢ 0 → result ≢ 0 → result ≢ number_of Fault.NoRoom
         → NoRecordAt message.now item.now.place result }

@@ -1,13 +1,14 @@
 //! Writes text to the caller's buffer, one part after the other.
 //!
-//! `Display` can't be used: its contract doesn't say whether an error comes from the buffer.
+//! The contract of `Display` doesn't say when it fails, so these calls don't use it.
 ghost use Rattle.std.specs.Prelude.{◌≡◌, ◌<◌, false, ◌++◌, ◌∷◌, ℕ, List, [], decimal};
 ghost use Rattle.std.specs.Fmt.{digit_glyph};
 ghost use Rattle.dns_name.specs.NameTexts.{octet_text, label_text};
-ghost use Rattle.dns_name.specs.ParsedName.{labels};
+ghost use Rattle.dns_name.specs.ParsedName.{label_octets, labels};
+ghost use Rattle.dns_fields_text.specs.ZoneNames.{dotted_label, zone_label_text, zone_name_text, zone_octet_text};
 ghost use Rattle.dns_c.specs.Texts.{Holds, absolute_name, hex_octets};
 
-use dns_name::ParsedName;
+use dns_name::{Label, ParsedName};
 use itoa::Buffer;
 
 /// The length of a text, also if the buffer is too short for the text. At most `usize::MAX`.
@@ -98,6 +99,56 @@ pub(crate) fn write_name(name: &ParsedName<'_>, out: &mut [u8]) -> End
     ensures { Holds out.new (absolute_name (labels name.now)) result }
 {
     append_name(name, out, START)
+}
+
+/// Appends one octet of a label as in a zone file.
+fn append_zone_octet(octet: u8, out: &mut [u8], end: End) -> End
+    ensures { (text : List ℕ) → Holds out.old text end
+        → Holds out.new (text ++ zone_octet_text octet) result }
+{
+    if matches!(octet, b'"' | b'$' | b'(' | b')' | b';' | b'@') {
+        return append_octets(&[b'\\', octet], out, end);
+    }
+    append_octet(octet, out, end)
+}
+
+/// Appends a label as in a zone file.
+fn append_zone_label(label: &[u8], out: &mut [u8], end: End) -> End
+    ensures { (text : List ℕ) → Holds out.old text end
+        → Holds out.new (text ++ zone_label_text label.now) result }
+{
+    let mut end = end;
+    for octet in label {
+        end = append_zone_octet(*octet, out, end);
+    }
+    end
+}
+
+/// Appends a label and a dot, and nothing for the root label.
+fn append_dotted(label: Label<'_>, out: &mut [u8], end: End) -> End
+    ensures { (text : List ℕ) → Holds out.old text end
+        → Holds out.new (text ++ dotted_label (label_octets label.entry)) result }
+{
+    if label.is_root() {
+        return end;
+    }
+    let end = append_zone_label(label.as_slice(), out, end);
+    append_octets(b".", out, end)
+}
+
+/// Appends a name as in a zone file, with a dot after each label. The root is a single dot.
+pub(crate) fn append_zone_name(name: &ParsedName<'_>, out: &mut [u8], end: End) -> End
+    ensures { (text : List ℕ) → Holds out.old text end
+        → Holds out.new (text ++ zone_name_text (labels name.now)) result }
+{
+    if name.is_root() {
+        return append_octets(b".", out, end);
+    }
+    let mut end = end;
+    for label in name.iter_labels() {
+        end = append_dotted(label, out, end);
+    }
+    end
 }
 
 /// The lower-case hexadecimal digit of a number below 16.

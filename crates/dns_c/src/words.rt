@@ -103,6 +103,7 @@ fn sentence(status: u32) -> Option<&'static str>
         18 => Some("the item is no OPT record"),
         19 => Some("an option is not whole within the RDATA"),
         20 => Some("the RDATA has no such name"),
+        21 => Some("the octets are no RDATA of the record type"),
         _ => None,
     }
 }

@@ -1,7 +1,7 @@
 use Rattle.std.proofs.Common.{◌∙◌, ◌++◌, [], sym, length, codes, decimal}
 use Rattle.dns_c.proofs.PieceLemmas.{empty_held, holds_as}
 use Rattle.dns_c.proofs.DataTextLemmas.{no_octets, opaque_none, opaque_some, some_octets}
-use Rattle.dns_c.proofs.data_text.append_opaque.Goals as goal
+use Rattle.dns_c.proofs.data_text.write_opaque.Goals as goal
 
 pub returns-then-is_empty : goal.returns-then-is_empty
 returns-then-is_empty c =
