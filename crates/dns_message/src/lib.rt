@@ -222,7 +222,7 @@ pub mod fields {
         DataOf, Encoded, Field, FieldData, Fields, Kind, OPAQUE, OwnedFieldData, RecordFields,
         Shape, TABLE, Value, fields_of, laws,
     };
-    pub use dns_fields_text::{DataText, RecordText};
+    pub use dns_fields_text::{DataText, RecordText, TypeName, ZoneName};
 }
 
 /// Serial numbers of zones, compared and added by RFC 1982.

@@ -1,21 +1,27 @@
 -- What is printed for consecutive items.
-use Rattle.std.proofs.Common.{◌≡◌, ◌∙◌, ℕ, ◌+◌, ◌<◌, inl, inr, Bool, true, false, Option, Some, None, Result, Ok, Err, OnOk, List, [], ◌∷◌, ◌++◌, map, take, length, get_or, ap, refl, sym, subst, append-nil, codes, arith}
+use Rattle.std.proofs.Common.{◌≡◌, ◌∙◌, ℕ, ◌+◌, ◌<◌, inl, inr, Bool, true, false, Option, Some, Result, Ok, Err, OnOk, List, [], ◌∷◌, ◌++◌, map, take, drop, length, get_or, ap, refl, sym, subst, append-nil, append_assoc, codes, arith}
+use Rattle.std.specs.Fmt.{◌++?◌, decimal}
 use Rattle.std.specs.Io.KnownBytes.{Appends}
 use Rattle.std.specs.List.{concat, list_all, AllZip}
 use Rattle.std.specs.Prelude.{is_ok, if◌then◌else◌}
 use Rattle.std.proofs.lemmas.List.{map-append, take_more}
 use Rattle.std.proofs.lemmas.Bool.{cases_lt}
 use Rattle.std.proofs.lemmas.List.Folds.{concat-append}
-use Rattle.dns_message.specs.Names.{fault_of, name_text, labels}
-use Rattle.dns_message.specs.Data.{Part, Layout, opaque_layout}
-use Rattle.dns_message.specs.Records.{EncodedRecord, owner_of, class_of, ttl_of, data_of, record_fields_text, ReturnsTaken, ReturnsLaidOut, GivesTaken, IsRecordOf}
+use Rattle.dns_message.specs.Names.{fault_of, labels}
+use Rattle.dns_message.specs.Codes.{class_text}
+use Rattle.dns_message.specs.Data.{Part, Octets, Layout, opaque_layout, opaque_text}
+use Rattle.dns_message.specs.Fields.{data_text, definitions_of, named_parts, parts_of, record_line, record_text, rtype_of, type_layout, type_word, zone_name_text}
+use Rattle.dns_message.specs.declared.fields.FieldData.{FieldData}
+use Rattle.dns_message.specs.Records.{EncodedRecord, owner_of, class_of, ttl_of, data_of, IsThere, ReturnsLaidOut, up_to_rdata_end}
 use Rattle.dns_message.specs.Sections.RecordSection.{record_result}
+use Rattle.dns_message.specs.Show.{line}
 use Rattle.dns_message.specs.declared.name.ParsedName.{ParsedName}
 use Rattle.dns_message.specs.declared.record.ParsedRecord.{ParsedRecord}
 use Rattle.dns_message.specs.declared.record.Record.{Record}
 use Rattle.dns_message.specs.declared.wire.ParseError.{ParseError}
 use Rattle.dns_message.proofs.CallerLemmas.{appends_both, appends_none}
-use Rattle.example_transfer.specs.Printed.{ending, HasNoOctets, IsItemText, IsItemsText, IsRecordLine, IsTransferText, Prints}
+use Rattle.example_transfer.specs.Printed.{ending, HasNoOctets, IsItemText, IsItemsText, IsTransferText, octets_line, Prints}
+use Rattle.example_transfer.specs.Printed.IsRecordLine.{as_fields, as_octets}
 use Rattle.example_transfer.specs.Transfer.{AreMessagesOf, AreTransferred, Taken, is_whole}
 
 abbrev pub Item : Type 0
@@ -57,8 +63,8 @@ nothing_left items (octet ∷ rest) a e = absurd (omega arith)
 
 module _ (items : List Item) where
   -- what the last line is if something is left over
-  last_line : (octet : ℕ) (rest : List ℕ) (whole : Bool) → list_all is_ok items ≡ whole → ending (map record_result items) (octet ∷ rest) ≡ (if whole then codes "unreadable message\n" else [])
-  last_line octet rest whole e = ap (λ (b : Bool). if b then codes "unreadable message\n" else []) (whole_items items ∙ e)
+  last_line : (octet : ℕ) (rest : List ℕ) (whole : Bool) → list_all is_ok items ≡ whole → ending (map record_result items) (octet ∷ rest) ≡ (if whole then codes "; unreadable message\n" else [])
+  last_line octet rest whole e = ap (λ (b : Bool). if b then codes "; unreadable message\n" else []) (whole_items items ∙ e)
 
   -- nor if an item can't be read
   pub fault_reported : (rest : List ℕ) (a : Option (List ℕ)) → list_all is_ok items ≡ false → Appends a a (ending (map record_result items) rest)
@@ -66,7 +72,7 @@ module _ (items : List Item) where
   fault_reported (octet ∷ rest) a e = subst (λ (l : List ℕ). Appends a a l) (sym (last_line octet rest false e)) (appends_none a)
 
   -- otherwise it is printed
-  pub ending_printed : {X E : Type 0} (r : Result X E) (rest : List ℕ) (a b : Option (List ℕ)) → (length rest ≡ 0 → ⊥) → list_all is_ok items ≡ true → OnOk r (Appends a b (codes "unreadable message\n"))
+  pub ending_printed : {X E : Type 0} (r : Result X E) (rest : List ℕ) (a b : Option (List ℕ)) → (length rest ≡ 0 → ⊥) → list_all is_ok items ≡ true → OnOk r (Appends a b (codes "; unreadable message\n"))
       → OnOk r (Appends a b (ending (map record_result items) rest))
   ending_printed r [] a b some e h = absurd (some refl)
   ending_printed r (octet ∷ rest) a b some e h = subst (λ (l : List ℕ). OnOk r (Appends a b l)) (sym (last_line octet rest true e)) h
@@ -98,35 +104,48 @@ pub on_printed : {X E : Type 0} (r : Result X E) (a b : Option (List ℕ)) (IsTe
 on_printed (Ok x) a b IsText text is h = (text, is, h)
 on_printed (Err e) a b IsText text is h = h
 
-module _ {D : Type 0} (rtype_of : D → ℕ) (parts_of : D → List Part) (x : EncodedRecord) where
-  -- the line of a record, by the fields that were read
-  same_line : (r : Record ParsedName D) (parts : List Part) → IsRecordOf rtype_of parts_of x.octets x.entry parts r → (value : List ℕ)
-      → IsRecordLine x (record_fields_text (name_text (labels (owner_of r))) (ttl_of r) (class_of r) (rtype_of (data_of r)) value ++ codes "\n")
-  same_line r parts is value = (value, λ i. record_fields_text (name_text (is i).owner) (is i).ttl (is i).class (is i).rtype value ++ codes "\n")
+-- a record that was read has its RDATA there
+was_there : {D : Type 0} (type : D → ℕ) (parts : D → List Part) (x : EncodedRecord) (layout : Layout) (r : Record ParsedName D)
+    → ReturnsLaidOut type parts x.octets x.entry layout (Ok r) → IsThere x.octets x.entry
+was_there type parts x layout r returned =
+    elim (cases_lt (length x.octets) x.entry.rdata_end) [
+      | inl missing ↦ let e = returned.missing (λ there. omega arith) in cc e
+      | inr there ↦ there
+    ]
 
-  taken_line : (r : Record ParsedName D) (taken : Option Layout) → GivesTaken rtype_of parts_of x.octets x.entry taken (Ok (Some r)) → (value : List ℕ)
-      → IsRecordLine x (record_fields_text (name_text (labels (owner_of r))) (ttl_of r) (class_of r) (rtype_of (data_of r)) value ++ codes "\n")
-  taken_line r None h value = absurd h
-  taken_line r (Some layout) h value = same_line r (parts_of (data_of r)) h.0 value
+module _ (x : EncodedRecord) where
+  -- the line of a record whose RDATA is the fields of its type
+  pub fields_line : (r : Record ParsedName FieldData) → ReturnsLaidOut rtype_of parts_of x.octets x.entry (type_layout x.entry.rtype) (Ok r)
+      → IsItemText (Ok x) (record_line labels r ++ codes "\n")
+  fields_line r returned =
+      let given = returned.gives (was_there rtype_of parts_of x (type_layout x.entry.rtype) r returned) in
+      let is = given.0 in
+      let parts = parts_of (data_of r) in
+      inl (as_fields parts given.1
+      (λ i. line (record_text (zone_name_text (is i).owner) (is i).ttl (is i).class (is i).rtype (data_text (named_parts (definitions_of (is i).rtype) parts)))))
 
-  -- the line of a record whose RDATA is of one type
-  pub typed_line : (r : Record ParsedName D) (taken : Option Layout) → ReturnsTaken rtype_of parts_of x.octets x.entry taken (Ok (Some r)) → (value : List ℕ)
-      → IsItemText (Ok x) (record_fields_text (name_text (labels (owner_of r))) (ttl_of r) (class_of r) (rtype_of (data_of r)) value ++ codes "\n")
-  typed_line r taken returned value =
-      elim (cases_lt (length x.octets) x.entry.rdata_end) [
-        | inl missing ↦ let e = returned.missing (λ there. omega arith) in cc e
-        | inr there ↦ inl (taken_line r taken (returned.gives there) value)
-      ]
-
-  -- the line of a record whose RDATA is of any type
-  pub any_line : (r : Record ParsedName D) (layout : Layout) → ReturnsLaidOut rtype_of parts_of x.octets x.entry layout (Ok r) → (value : List ℕ)
-      → IsItemText (Ok x) (record_fields_text (name_text (labels (owner_of r))) (ttl_of r) (class_of r) (rtype_of (data_of r)) value ++ codes "\n")
-  any_line r layout returned value =
-      elim (cases_lt (length x.octets) x.entry.rdata_end) [
-        | inl missing ↦ let e = returned.missing (λ there. omega arith) in cc e
-        | inr there ↦ let given = returned.gives there in inl (same_line r (parts_of (data_of r)) given.0 value)
-      ]
+  module _ {D : Type 0} (type_of : D → ℕ) (octets_of : D → List ℕ) (r : Record ParsedName D) where
+    -- the line of a record whose RDATA isn't the fields of its type
+    pub unknown_line : {R : Type 0} (other_type : R → ℕ) (other_parts : R → List Part) (e : ParseError)
+        → ReturnsLaidOut other_type other_parts x.octets x.entry (type_layout x.entry.rtype) (Err e)
+        → ReturnsLaidOut type_of (λ d. Octets (octets_of d) ∷ []) x.octets x.entry opaque_layout (Ok r)
+        → IsItemText (Ok x) (octets_line type_of octets_of r)
+    unknown_line other_type other_parts e refused returned =
+        let there = was_there type_of (λ d. Octets (octets_of d) ∷ []) x opaque_layout r returned in
+        let given = returned.gives there in
+        let is = given.0 in
+        let octets : octets_of (data_of r) ≡ drop x.entry.rdata_start (up_to_rdata_end x.octets x.entry) = let same = given.1.1 in cc same in
+        inl (as_octets (fault_of e) (refused.gives there)
+        (λ i. line (record_text (zone_name_text (is i).owner) (is i).ttl (is i).class (is i).rtype (opaque_text (octets i)))))
 
   -- RDATA that can't be read
-  pub no_octets : (e : ParseError) → ReturnsLaidOut rtype_of parts_of x.octets x.entry opaque_layout (Err e) → HasNoOctets x
-  no_octets e returned = λ there. (fault_of e, returned.gives there)
+  pub no_octets : {D : Type 0} (type : D → ℕ) (parts : D → List Part) (e : ParseError) → ReturnsLaidOut type parts x.octets x.entry opaque_layout (Err e) → HasNoOctets x
+  no_octets type parts e returned = λ there. (fault_of e, returned.gives there)
+
+-- what is printed of a record with its RDATA as octets
+pub octets_printed : {D : Type 0} (type_of : D → ℕ) (octets_of : D → List ℕ) (r : Record ParsedName D) (owner : List ℕ) (ttl class rtype : ℕ) (octets : List ℕ)
+    → owner ≡ zone_name_text (labels (owner_of r)) → ttl ≡ ttl_of r → class ≡ class_of r → rtype ≡ type_of (data_of r) → octets ≡ octets_of (data_of r)
+    → Some owner ++? (Some (codes " ") ++? (Some (decimal ttl) ++? (Some (codes " ") ++? (Some (class_text class) ++? (Some (codes " ") ++? (Some (type_word rtype) ++? (Some (codes " ") ++? (Some (opaque_text octets) ++? Some (10 ∷ [])))))))))
+    ≡ Some (octets_line type_of octets_of r)
+octets_printed type_of octets_of r owner ttl class rtype octets o t c y d =
+    ap Some (simp append_assoc) ∙ λ i. Some (line (record_text (o i) (t i) (c i) (y i) (opaque_text (d i))))

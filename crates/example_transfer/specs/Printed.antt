@@ -1,16 +1,21 @@
--- What is printed for a zone transfer: a line for each record, and why it ends early. RFC 1035 section 5.1, RFC 5936 section 2.2.
-use Rattle.std.specs.Prelude.{◌≡◌, ℕ, ◌⊎◌, List, [], ◌∷◌, ◌++◌, if◌then◌else◌, Option, Ok, Err, codes}
+-- What is printed for a zone transfer: a line of a zone file for each record, and comments for what can't be read. RFC 1035 section 5.1, RFC 3597 section 5, RFC 5936 section 2.2.
+use Rattle.std.specs.Prelude.{◌≡◌, ℕ, ◌⊎◌, List, [], ◌∷◌, ◌++◌, if◌then◌else◌, Option, Some, None, Ok, Err, codes}
 use Rattle.std.specs.Io.KnownBytes.{Appends}
 use Rattle.std.specs.List.{concat, AllZip}
-use Rattle.dns_message.specs.Names.{Fault, name_text}
-use Rattle.dns_message.specs.Data.{opaque_layout}
-use Rattle.dns_message.specs.Records.{EncodedRecord, record_fields_text, IsThere, HasDataFault}
+use Rattle.dns_message.specs.Names.{Fault, labels}
+use Rattle.dns_message.specs.declared.name.ParsedName.{ParsedName}
+use Rattle.dns_message.specs.Data.{Part, opaque_layout, opaque_text}
+use Rattle.dns_message.specs.Fields.{record_text, type_layout, zone_name_text}
+use Rattle.dns_message.specs.Records.{EncodedRecord, IsThere, HasData, HasDataFault, owner_of, class_of, ttl_of, data_of}
+use Rattle.dns_message.specs.declared.record.Record.{Record}
+use Rattle.dns_message.specs.Show.{line}
+use Rattle.dns_message.specs.ZoneLines.{line_with}
 use Rattle.example_transfer.specs.Transfer.{AreMessagesOf, AreTransferred, Taken, is_whole}
 
--- the line of a record: its owner, TTL, class and type, and some text of its RDATA
-abbrev pub IsRecordLine : EncodedRecord → List ℕ → Type 0
-IsRecordLine x text =
-    (value : List ℕ) × (text ≡ record_fields_text (name_text x.entry.owner) x.entry.ttl x.entry.class x.entry.rtype value ++ codes "\n")
+-- The line of a record: its RDATA as the fields of its type, or as octets if it isn't such fields.
+pub data IsRecordLine (x : EncodedRecord) (text : List ℕ) : Type 0 where
+  as_fields : (parts : List Part) → HasData x.octets x.entry (type_layout x.entry.rtype) parts → text ≡ line_with x (Some parts) → IsRecordLine x text
+  as_octets : (f : Fault) → HasDataFault x.octets x.entry (type_layout x.entry.rtype) f → text ≡ line_with x None → IsRecordLine x text
 
 -- the RDATA of a record can't be read even as octets: it is incomplete, or it has a fault
 abbrev pub HasNoOctets : EncodedRecord → Type 0
@@ -18,8 +23,8 @@ HasNoOctets x = IsThere x.octets x.entry → (f : Fault) × HasDataFault x.octet
 
 -- the line of an item
 abbrev pub IsItemText : Taken → List ℕ → Type 0
-IsItemText (Ok x) text = IsRecordLine x text ⊎ (HasNoOctets x × (text ≡ codes "unreadable data\n"))
-IsItemText (Err f) text = text ≡ codes "unreadable record\n"
+IsItemText (Ok x) text = IsRecordLine x text ⊎ (HasNoOctets x × (text ≡ codes "; unreadable data\n"))
+IsItemText (Err f) text = text ≡ codes "; unreadable record\n"
 
 -- a line for each item, in order
 abbrev pub IsItemsText : List Taken → List ℕ → Type 0
@@ -28,7 +33,7 @@ IsItemsText items text = (lines : List (List ℕ)) × AllZip IsItemText items li
 -- the last line, if no item is a fault and octets are left over after the messages
 abbrev pub ending : List Taken → List ℕ → List ℕ
 ending items [] = []
-ending items (octet ∷ rest) = if is_whole items then codes "unreadable message\n" else []
+ending items (octet ∷ rest) = if is_whole items then codes "; unreadable message\n" else []
 
 -- The text of a transfer: a line for each item of the stream's messages, and the last line.
 pub record IsTransferText (stream text : List ℕ) : Type 0 where
@@ -44,3 +49,8 @@ pub record IsTransferText (stream text : List ℕ) : Type 0 where
 -- a text of this form is appended
 abbrev pub Prints : (List ℕ → Type 0) → Option (List ℕ) → Option (List ℕ) → Type 0
 Prints IsText old new = (text : List ℕ) × IsText text × Appends old new text
+
+-- the line of a record whose RDATA has this type and these octets
+abbrev pub octets_line : {D : Type 0} → (D → ℕ) → (D → List ℕ) → Record ParsedName D → List ℕ
+octets_line type_of octets_of r =
+    line (record_text (zone_name_text (labels (owner_of r))) (ttl_of r) (class_of r) (type_of (data_of r)) (opaque_text (octets_of (data_of r))))

@@ -1,10 +1,10 @@
-//! The program `example_transfer` prints the records of a zone transfer (RFC 5936), one a line. It
-//! reads from standard input the messages that a server sends over TCP, each after its length in
-//! two octets (RFC 1035 section 4.2.2).
+//! The program `example_transfer` prints the records of a zone transfer (RFC 5936) as a zone file,
+//! one a line. It reads from standard input the messages that a server sends over TCP, each after
+//! its length in two octets (RFC 1035 section 4.2.2).
 //!
 //! The contract of `print::print_transfer` says that each record of the answer sections is printed
-//! once, in order, up to the first that can't be read, and that a transfer that ends early is
-//! reported.
+//! once, in order, up to the first that can't be read, by the text of `RecordText`, and that a
+//! transfer that ends early is reported.
 #![tactic(auto)]
 
 mod print;

@@ -1,15 +1,17 @@
-//! Prints the records of a transfer, one a line, and why it ends early.
+//! Prints the records of a transfer as lines of a zone file, and why it ends early.
 ghost use Rattle.std.specs.Prelude.{◌≡◌, map, is_ok, Ok, OnOk};
 ghost use Rattle.std.specs.Io.KnownBytes.{Appends};
 ghost use Rattle.std.specs.List.{list_all};
+ghost use Rattle.dns_message.specs.Data.{unknown_octets, unknown_rtype_of};
 ghost use Rattle.dns_message.specs.Records.{encoded_record};
 ghost use Rattle.dns_message.specs.Sections.RecordSection.{record_result};
-ghost use Rattle.example_transfer.specs.Printed.{ending, IsItemText, IsItemsText, IsTransferText, Prints};
+ghost use Rattle.example_transfer.specs.Printed.{ending, octets_line, IsItemText, IsItemsText, IsTransferText, Prints};
 
 use crate::transfer::{Item, items, messages};
-use dns_message::data::{A, Cname, Ns, Soa, UnknownRecordData};
+use dns_message::data::UnknownRecordData;
+use dns_message::fields::{FieldData, RecordText, TypeName, ZoneName};
 use dns_message::name::ParsedName;
-use dns_message::record::ParsedRecord;
+use dns_message::record::{ParsedRecord, Record};
 use std::alloc::Global;
 use std::io;
 use std::io::Write;
@@ -40,36 +42,45 @@ fn print_items<W: Write>(writer: &mut W, items: &[Item<'_>]) -> io::Result<()>
     Ok(())
 }
 
-/// Prints the line of a record, or that it can't be read.
+/// Prints the line of a record, or that it can't be read, as a comment.
 fn print_item<W: Write>(writer: &mut W, item: &Item<'_>) -> io::Result<()>
     ensures { OnOk result (Prints (IsItemText (record_result item.now))
         (W.contents writer.old) (W.contents writer.new)) }
 {
     match item {
         Ok(record) => print_record(writer, record),
-        Err(_) => writer.write_all(b"unreadable record\n"),
+        Err(_) => writer.write_all(b"; unreadable record\n"),
     }
 }
 
-/// Prints a record. Its RDATA is printed by its fields if it is well-formed data of one of these
-/// types, otherwise as opaque octets.
+/// Prints the line of a record. If its RDATA isn't the fields of its type, it prints as octets.
 fn print_record<W: Write>(writer: &mut W, record: &ParsedRecord<'_>) -> io::Result<()>
     ensures { OnOk result (Prints (IsItemText (Ok (encoded_record «record».now)))
         (W.contents writer.old) (W.contents writer.new)) }
 {
-    if let Ok(Some(record)) = record.to_record::<A>() {
-        writeln!(writer, "{record}")
-    } else if let Ok(Some(record)) = record.to_record::<Ns<ParsedName<'_>>>() {
-        writeln!(writer, "{record}")
-    } else if let Ok(Some(record)) = record.to_record::<Cname<ParsedName<'_>>>() {
-        writeln!(writer, "{record}")
-    } else if let Ok(Some(record)) = record.to_record::<Soa<ParsedName<'_>>>() {
-        writeln!(writer, "{record}")
+    if let Ok(record) = record.to_any_record::<FieldData<'_>>() {
+        writeln!(writer, "{}", RecordText(&record))
     } else if let Ok(record) = record.to_any_record::<UnknownRecordData<&[u8]>>() {
-        writeln!(writer, "{record}")
+        print_octets(writer, &record)
     } else {
-        writer.write_all(b"unreadable data\n")
+        writer.write_all(b"; unreadable data\n")
     }
+}
+
+/// Prints the line of a record with its RDATA as octets.
+fn print_octets<W: Write>(
+    writer: &mut W,
+    record: &Record<ParsedName<'_>, UnknownRecordData<&[u8]>>,
+) -> io::Result<()>
+    ensures { OnOk result (Appends (W.contents writer.old) (W.contents writer.new)
+        (octets_line unknown_rtype_of unknown_octets «record».now)) }
+{
+    let owner = ZoneName(*record.owner());
+    let ttl = record.ttl().as_secs();
+    let class = record.class();
+    let rtype = TypeName(record.rtype());
+    let octets = record.data();
+    writeln!(writer, "{owner} {ttl} {class} {rtype} {octets}")
 }
 
 /// Prints that octets are left over, if all records could be read.
@@ -80,7 +91,7 @@ fn print_ending<W: Write>(writer: &mut W, items: &[Item<'_>], rest: &[u8]) -> io
     if rest.is_empty() || !is_whole(items) {
         return Ok(());
     }
-    writer.write_all(b"unreadable message\n")
+    writer.write_all(b"; unreadable message\n")
 }
 
 /// Whether all items are records.
