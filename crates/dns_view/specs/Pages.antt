@@ -1,5 +1,5 @@
 -- What `print_page` prints for rows. The words for their meanings, and those of the title, are left open.
-use Rattle.std.specs.Prelude.{◌≡◌, ℕ, ◌+◌, ◌%◌, ◌==◌, nat_lt, if◌then◌else◌, List, [], ◌∷◌, ◌++◌, length, count_by, codes, decimal}
+use Rattle.std.specs.Prelude.{◌≡◌, ℕ, ◌/◌, ◌%◌, ◌==◌, nat_lt, if◌then◌else◌, List, [], ◌∷◌, ◌++◌, length, count_by, codes, decimal}
 use Rattle.std.specs.List.{concat, enumerate_from, flat_map, AllZip}
 use Rattle.dns_rows.specs.Rows.{is_pointer, row_octets, target_in}
 use Rattle.dns_view.specs.Digits.{octet_text}
@@ -26,9 +26,9 @@ top_text words = HEAD.now ++ escaped words ++ STYLE.now ++ escaped words ++ LEGE
 abbrev pub pointer_count : List Row → ℕ
 pointer_count rows = count_by (λ row. is_pointer row.kind) rows
 
--- the start of the grid, with the offset of the first line; the class `few` draws all arrows
+-- the start of the grid; the class `few` draws all arrows
 abbrev pub opening_text : List Row → List ℕ
-opening_text rows = if nat_lt (pointer_count rows) 20 then codes "<main class=few>\n<pre class=grid><s>0</s>" else codes "<main>\n<pre class=grid><s>0</s>"
+opening_text rows = if nat_lt (pointer_count rows) 20 then codes "<main class=few>\n<div class=grid>" else codes "<main>\n<div class=grid>"
 
 -- the attribute for a field's class in the page's style sheet
 abbrev pub field_class : Field → List ℕ
@@ -63,26 +63,40 @@ arrow_text from target = codes " style=--f:" ++ decimal from ++ codes ";--t:" ++
 abbrev pub mark_text : List ℕ → Row → List ℕ
 mark_text message row = if is_pointer row.kind then arrow_text row.start (target_in (row_octets message row)) else class_text row.kind
 
--- what precedes an octet: a new line with its offset if it is the first of sixteen, else a space
-abbrev pub separator : ℕ → List ℕ
-separator offset = if offset % 16 == 0 then codes "\n<s>" ++ decimal offset ++ codes "</s>" else codes " "
+-- what begins at an offset before its octet: a part of the grid, whose octets are 256; else a line with the offset, whose octets are sixteen; else nothing
+abbrev pub line_start : ℕ → List ℕ
+line_start offset =
+    if offset % 256 == 0 then codes "\n<p><s>" ++ decimal offset ++ codes "</s>"
+    else if offset % 16 == 0 then codes "\n<s>" ++ decimal offset ++ codes "</s>"
+    else []
 
--- the cell of an octet, given with its offset, and what precedes the next
-abbrev pub cell_text : ℕ × ℕ → List ℕ
-cell_text (offset, octet) = octet_text octet ++ separator (offset + 1)
+-- the attributes of a link to a row, and the end of its tag
+abbrev pub link_text : List ℕ → Row → List ℕ
+link_text message row = codes " href=#" ++ decimal row.start ++ mark_text message row ++ codes ">"
 
--- the cells of consecutive octets, the first at offset `start`
-abbrev pub octet_cells : ℕ → List ℕ → List ℕ
-octet_cells start octets = flat_map cell_text (enumerate_from start octets)
+-- what precedes the first octet of a row: the start of the row's link
+abbrev pub first_link : List ℕ → Row → List ℕ
+first_link message row = line_start row.start ++ codes "<a id=c" ++ decimal row.start ++ link_text message row
 
--- the cells of a row with octets, as a link to the row
-abbrev pub linked_cells : List ℕ → Row → List ℕ
-linked_cells message row =
-    codes "<a id=c" ++ decimal row.start ++ codes " href=#" ++ decimal row.start ++ mark_text message row ++ codes ">" ++ octet_cells row.start (row_octets message row) ++ codes "</a>"
+-- the row's link ends, and its next one begins in the part of the grid that begins at an offset
+abbrev pub next_link : List ℕ → Row → ℕ → List ℕ
+next_link message row offset = codes "</a>" ++ line_start offset ++ codes "<a" ++ link_text message row
 
--- the cells of a row; nothing if it has no octets
+-- what precedes an octet of a row
+abbrev pub cell_start : List ℕ → Row → ℕ → List ℕ
+cell_start message row offset = if offset == row.start then first_link message row else if offset % 256 == 0 then next_link message row offset else line_start offset
+
+-- the cell of an octet of a row, given with its offset, and what precedes it
+abbrev pub cell_text : List ℕ → Row → ℕ × ℕ → List ℕ
+cell_text message row (offset, octet) = cell_start message row offset ++ octet_text octet ++ codes " "
+
+-- the cells of the octets of a row
+abbrev pub octet_cells : List ℕ → Row → List ℕ → List ℕ
+octet_cells message row octets = flat_map (cell_text message row) (enumerate_from row.start octets)
+
+-- the cells of a row, in links to the row; nothing if it has no octets
 abbrev pub row_cells : List ℕ → Row → List ℕ
-row_cells message row = if length (row_octets message row) == 0 then [] else linked_cells message row
+row_cells message row = if length (row_octets message row) == 0 then [] else octet_cells message row (row_octets message row) ++ codes "</a>"
 
 -- octets in digits
 abbrev pub digits : List ℕ → List ℕ
@@ -90,7 +104,7 @@ digits octets = flat_map octet_text octets
 
 -- a row of the list without octets: its words
 abbrev pub heading_row_text : Row → List ℕ → List ℕ
-heading_row_text row words = codes "<b" ++ class_text row.kind ++ codes ">" ++ escaped words ++ codes "</b>\n"
+heading_row_text row words = codes "<b" ++ class_text row.kind ++ codes ">" ++ escaped words ++ codes "</b>"
 
 -- the start of a row's link to its cells, with its offset
 abbrev pub field_link_text : List ℕ → Row → List ℕ
@@ -98,15 +112,23 @@ field_link_text message row = codes "<a id=" ++ decimal row.start ++ codes " hre
 
 -- any other row of the list: the link, with its octets and words
 abbrev pub field_row_text : List ℕ → Row → List ℕ → List ℕ
-field_row_text message row words = field_link_text message row ++ digits (row_octets message row) ++ codes "\t" ++ escaped words ++ codes "</a>\n"
+field_row_text message row words = field_link_text message row ++ digits (row_octets message row) ++ codes "\t" ++ escaped words ++ codes "</a>"
 
--- a row of the list, with some words
+-- what precedes a row of the list: the start of a part, if a multiple of 64 is past the row's start and up to its end; else nothing
+abbrev pub part_start : Row → List ℕ
+part_start row = if row.start / 64 == row.end / 64 then [] else codes "\n<p>"
+
+-- a row with some words
+abbrev pub row_text : List ℕ → Row → List ℕ → List ℕ
+row_text message row words = if length (row_octets message row) == 0 then heading_row_text row words else field_row_text message row words
+
+-- a row of the list, with some words, and what precedes it
 abbrev pub IsListRow : List ℕ → Row → List ℕ → Type 0
-IsListRow message row text = (words : List ℕ) × (text ≡ (if length (row_octets message row) == 0 then heading_row_text row words else field_row_text message row words))
+IsListRow message row text = (words : List ℕ) × (text ≡ part_start row ++ row_text message row words)
 
 -- the text of a page: a title of some words, the grid with the cells of all rows, and the list of all rows
 pub record IsPage (message : List ℕ) (rows : List Row) (text : List ℕ) : Type 0 where
   pub title : List ℕ
   pub list : List (List ℕ)
   pub are_rows : AllZip (IsListRow message) rows list
-  pub is : text ≡ top_text title ++ opening_text rows ++ flat_map (row_cells message) rows ++ codes "\n</pre>\n<pre class=list>\n" ++ concat list ++ codes "</pre>\n</main>\n</body>\n</html>\n"
+  pub is : text ≡ top_text title ++ opening_text rows ++ flat_map (row_cells message) rows ++ codes "\n</div>\n<div class=list>\n<p>" ++ concat list ++ codes "\n</div>\n</main>\n</body>\n</html>\n"

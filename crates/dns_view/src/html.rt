@@ -3,7 +3,7 @@
 ghost use Rattle.std.specs.Prelude.{◌≡◌, ◌+◌, ◌^◌, ◌<◌, length, OnOk};
 ghost use Rattle.std.specs.Io.KnownBytes.{Appends};
 ghost use Rattle.std.specs.List.{flat_map};
-ghost use Rattle.dns_view.specs.Pages.{arrow_text, cell_text, class_text, digits, escaped, escaped_octet, field_class, field_link_text, field_row_text, heading_row_text, mark_text, octet_cells, opening_text, pointer_count, row_cells, separator, top_text, IsListRow, IsPage};
+ghost use Rattle.dns_view.specs.Pages.{arrow_text, cell_start, cell_text, class_text, digits, escaped, escaped_octet, field_class, field_link_text, field_row_text, first_link, heading_row_text, line_start, link_text, mark_text, next_link, octet_cells, opening_text, part_start, pointer_count, row_cells, row_text, top_text, IsListRow, IsPage};
 ghost use Rattle.dns_view.specs.Printed.{Prints, PrintsEach};
 
 use crate::meaning::Meaning;
@@ -16,6 +16,12 @@ use std::io::Write;
 
 /// The octets on a line of the grid.
 const OCTETS: usize = 16;
+
+/// The octets in a part of the grid. A browser lays out only the parts that it shows.
+const PART: usize = 256;
+
+/// The octets of the rows in a part of the list, about.
+const LIST_PART: usize = 64;
 
 /// A page with fewer pointers draws all their arrows.
 const FEW: usize = 20;
@@ -30,7 +36,8 @@ const HEAD: &str = "<!DOCTYPE html>
 
 /// The text between the title and the first line, which is the title again. The grid has 8 columns
 /// before the octets of a line, and 3 for each octet. `--f` is the offset of a pointer, and `--t`
-/// the offset where it leads.
+/// the offset where it leads. A part that may draw an arrow is always laid out: any other cuts off
+/// what leaves its box.
 const STYLE: &str = "</title>
 <style>
 :root { color-scheme: light dark; --page: #fff; --text: #111; --dim: #5a6570; --arrow: #b3261e;
@@ -45,10 +52,15 @@ body { margin: 1em; background: var(--page); color: var(--text); font-family: sa
 h1 { font-size: 1.1em; overflow-wrap: anywhere; }
 .legend { display: flex; flex-wrap: wrap; gap: 6px; }
 .legend span { padding: 2px 8px; }
-main { position: relative; display: flex; flex-wrap: wrap; gap: 1em 3ch; align-items: flex-start; }
-main, pre { font: 14px/24px monospace; }
-pre { margin: 0; }
-.list { flex: 1 1 60ch; min-width: 40ch; max-width: 120ch; white-space: normal; }
+main { position: relative; display: flex; flex-wrap: wrap; gap: 1em 2ch; align-items: flex-start;
+font: 14px/24px monospace; }
+main p { margin: 0; content-visibility: auto; }
+main p:hover, main p:focus-within, main p:has(:target), .few .grid p:has([style]) {
+content-visibility: visible; }
+.grid { width: 56ch; }
+.grid p { contain-intrinsic-height: 384px; white-space: pre; }
+.list { flex: 1 1 60ch; min-width: 40ch; max-width: 120ch; }
+.list p { contain-intrinsic-height: auto 720px; padding-left: 2px; }
 .list a, .list b { display: block; white-space: pre-wrap; overflow-wrap: anywhere; tab-size: 19ch; }
 .list a { padding-left: 10ch; text-indent: -10ch; border-top: 1px solid var(--page); }
 .list b { margin-top: 8px; }
@@ -57,7 +69,7 @@ text-align: right; text-indent: 0; color: var(--dim); }
 .grid s { display: inline-block; width: 7ch; padding-right: 1ch; text-align: right;
 text-decoration: none; color: var(--dim); background: var(--page); }
 a, .k { color: inherit; text-decoration: none; background: var(--field); }
-.grid a, .list a, .legend span { box-shadow: -2px 0 var(--edge); }
+.grid a[id], .list a, .legend span { box-shadow: -2px 0 var(--edge); }
 .h { background: var(--header); }
 .n { background: var(--name); }
 .grid .d, .list a.d, span.d { background: var(--data); }
@@ -73,7 +85,7 @@ content: ''; position: absolute; left: calc(mod(var(--f), 16) * 3ch + 9ch);
 top: calc(round(down, var(--f) / 16, 1) * 24px - 1px); width: hypot(var(--x), var(--y));
 height: 10px; background: var(--arrow); transform-origin: 0 50%; rotate: atan2(var(--y), var(--x));
 clip-path: polygon(0 4px, calc(100% - 12px) 4px, calc(100% - 12px) 0, 100% 5px,
-calc(100% - 12px) 10px, calc(100% - 12px) 6px, 0 6px); pointer-events: none; }
+calc(100% - 12px) 10px, calc(100% - 12px) 6px, 0 6px); pointer-events: none; z-index: 1; }
 </style>
 </head>
 <body>
@@ -103,9 +115,9 @@ pub fn print_page<W: Write>(
     print_top(writer, words.as_bytes())?;
     print_opening(writer, rows)?;
     print_cells(writer, message, rows)?;
-    writer.write_all(b"\n</pre>\n<pre class=list>\n")?;
+    writer.write_all(b"\n</div>\n<div class=list>\n<p>")?;
     print_list(alloc, writer, message, rows)?;
-    writer.write_all(b"</pre>\n</main>\n</body>\n</html>\n")
+    writer.write_all(b"\n</div>\n</main>\n</body>\n</html>\n")
 }
 
 /// Prints all before the grid, with some words as the title and the first line.
@@ -126,9 +138,9 @@ fn print_opening<W: Write>(writer: &mut W, rows: &[Row]) -> io::Result<()>
         (opening_text rows.now)) }
 {
     writer.write_all(if pointer_count(rows) < FEW {
-        b"<main class=few>\n<pre class=grid><s>0</s>"
+        b"<main class=few>\n<div class=grid>"
     } else {
-        b"<main>\n<pre class=grid><s>0</s>"
+        b"<main>\n<div class=grid>"
     })
 }
 
@@ -227,46 +239,114 @@ fn print_row_cells<W: Write>(writer: &mut W, message: &[u8], row: &Row) -> io::R
     if octets.is_empty() {
         return Ok(());
     }
-    let start = row.start;
-    write!(writer, "<a id=c{start} href=#{start}")?;
-    print_mark(writer, message, row)?;
-    writer.write_all(b">")?;
-    print_octet_cells(writer, start, octets)?;
+    print_octet_cells(writer, message, row, octets)?;
     writer.write_all(b"</a>")
 }
 
-/// Prints the cells of consecutive octets, the first at offset `start`.
-fn print_octet_cells<W: Write>(writer: &mut W, start: usize, octets: &[u8]) -> io::Result<()>
-    requires { start + length octets.now < 2 ^ 64 }
+/// Prints the cells of the octets of a row, and the starts of its links.
+fn print_octet_cells<W: Write>(
+    writer: &mut W,
+    message: &[u8],
+    row: &Row,
+    octets: &[u8],
+) -> io::Result<()>
+    requires { row.now.start + length octets.now < 2 ^ 64 }
     ensures { OnOk result (Appends (W.contents writer.old) (W.contents writer.new)
-        (octet_cells start octets.now)) }
+        (octet_cells message.now row.now octets.now)) }
 {
     for (index, octet) in octets.iter().enumerate() {
-        print_cell(writer, start + index, *octet)?;
+        print_cell(writer, message, row, row.start + index, *octet)?;
     }
     Ok(())
 }
 
-/// Prints the cell of an octet, and what separates it from the next.
-fn print_cell<W: Write>(writer: &mut W, offset: usize, octet: u8) -> io::Result<()>
-    requires { offset + 1 < 2 ^ 64 }
+/// Prints the cell of an octet of a row, and what precedes it.
+fn print_cell<W: Write>(
+    writer: &mut W,
+    message: &[u8],
+    row: &Row,
+    offset: usize,
+    octet: u8,
+) -> io::Result<()>
     ensures { OnOk result (Appends (W.contents writer.old) (W.contents writer.new)
-        (cell_text (offset, octet))) }
+        (cell_text message.now row.now (offset, octet))) }
 {
+    print_cell_start(writer, message, row, offset)?;
     print_octet(writer, octet)?;
-    print_separator(writer, offset + 1)
+    writer.write_all(b" ")
 }
 
-/// Prints what precedes an octet: a new line with its offset if it is the first on a line, else a
-/// space.
-fn print_separator<W: Write>(writer: &mut W, offset: usize) -> io::Result<()>
+/// Prints what precedes an octet of a row. The row's link begins before its first octet, and anew
+/// in each part of the grid.
+fn print_cell_start<W: Write>(
+    writer: &mut W,
+    message: &[u8],
+    row: &Row,
+    offset: usize,
+) -> io::Result<()>
     ensures { OnOk result (Appends (W.contents writer.old) (W.contents writer.new)
-        (separator offset)) }
+        (cell_start message.now row.now offset)) }
 {
-    if offset % OCTETS != 0 {
-        return writer.write_all(b" ");
+    if offset == row.start {
+        return print_first_link(writer, message, row);
     }
-    write!(writer, "\n<s>{offset}</s>")
+    if offset % PART == 0 {
+        return print_next_link(writer, message, row, offset);
+    }
+    print_line_start(writer, offset)
+}
+
+/// Prints the start of a row's first link.
+fn print_first_link<W: Write>(writer: &mut W, message: &[u8], row: &Row) -> io::Result<()>
+    ensures { OnOk result (Appends (W.contents writer.old) (W.contents writer.new)
+        (first_link message.now row.now)) }
+{
+    let start = row.start;
+    print_line_start(writer, start)?;
+    write!(writer, "<a id=c{start}")?;
+    print_link(writer, message, row)
+}
+
+/// Ends a row's link, and begins its next one in the part of the grid that begins at an offset.
+fn print_next_link<W: Write>(
+    writer: &mut W,
+    message: &[u8],
+    row: &Row,
+    offset: usize,
+) -> io::Result<()>
+    ensures { OnOk result (Appends (W.contents writer.old) (W.contents writer.new)
+        (next_link message.now row.now offset)) }
+{
+    writer.write_all(b"</a>")?;
+    print_line_start(writer, offset)?;
+    writer.write_all(b"<a")?;
+    print_link(writer, message, row)
+}
+
+/// Prints the attributes of a link to a row, and ends its tag.
+fn print_link<W: Write>(writer: &mut W, message: &[u8], row: &Row) -> io::Result<()>
+    ensures { OnOk result (Appends (W.contents writer.old) (W.contents writer.new)
+        (link_text message.now row.now)) }
+{
+    let start = row.start;
+    write!(writer, " href=#{start}")?;
+    print_mark(writer, message, row)?;
+    writer.write_all(b">")
+}
+
+/// Prints what begins at an offset before its octet: a part of the grid, a line with the offset,
+/// or nothing.
+fn print_line_start<W: Write>(writer: &mut W, offset: usize) -> io::Result<()>
+    ensures { OnOk result (Appends (W.contents writer.old) (W.contents writer.new)
+        (line_start offset)) }
+{
+    if offset % PART == 0 {
+        return write!(writer, "\n<p><s>{offset}</s>");
+    }
+    if offset % OCTETS == 0 {
+        return write!(writer, "\n<s>{offset}</s>");
+    }
+    Ok(())
 }
 
 /// Prints the rows of the list.
@@ -285,7 +365,7 @@ fn print_list<W: Write>(
     Ok(())
 }
 
-/// Prints a row of the list.
+/// Prints a row of the list, and what precedes it.
 fn print_list_row<W: Write>(
     alloc: Global,
     writer: &mut W,
@@ -297,10 +377,30 @@ fn print_list_row<W: Write>(
 {
     let meaning = Meaning { message, row: *row };
     let words = format!(in alloc; "{meaning}")?;
+    print_part_start(writer, row)?;
+    print_row(writer, message, row, words.as_bytes())
+}
+
+/// Prints the start of a part of the list, if a row is the first in one.
+fn print_part_start<W: Write>(writer: &mut W, row: &Row) -> io::Result<()>
+    ensures { OnOk result (Appends (W.contents writer.old) (W.contents writer.new)
+        (part_start row.now)) }
+{
+    if row.start / LIST_PART == row.end / LIST_PART {
+        return Ok(());
+    }
+    writer.write_all(b"\n<p>")
+}
+
+/// Prints a row with some words.
+fn print_row<W: Write>(writer: &mut W, message: &[u8], row: &Row, words: &[u8]) -> io::Result<()>
+    ensures { OnOk result (Appends (W.contents writer.old) (W.contents writer.new)
+        (row_text message.now row.now words.now)) }
+{
     if octets_of(message, row).is_empty() {
-        print_heading_row(writer, row, words.as_bytes())
+        print_heading_row(writer, row, words)
     } else {
-        print_field_row(writer, message, row, words.as_bytes())
+        print_field_row(writer, message, row, words)
     }
 }
 
@@ -313,7 +413,7 @@ fn print_heading_row<W: Write>(writer: &mut W, row: &Row, words: &[u8]) -> io::R
     writer.write_all(class_of(row.kind).as_bytes())?;
     writer.write_all(b">")?;
     print_escaped(writer, words)?;
-    writer.write_all(b"</b>\n")
+    writer.write_all(b"</b>")
 }
 
 /// Prints any other row, as a link to its cells: its octets and what they mean. Its offset is its
@@ -331,7 +431,7 @@ fn print_field_row<W: Write>(
     print_digits(writer, octets_of(message, row))?;
     writer.write_all(b"\t")?;
     print_escaped(writer, words)?;
-    writer.write_all(b"</a>\n")
+    writer.write_all(b"</a>")
 }
 
 /// Prints the start of a row's link to its cells.

@@ -73,33 +73,34 @@ const COUNTS: &[Count] = &[
 
 /// The grid, with a link for each field: each octet once, sixteen on a line after the offset.
 const GRID: &str = "<main class=few>
-<pre class=grid><s>0</s>\
+<div class=grid>
+<p><s>0</s>\
 <a id=c0 href=#0 class=h>00 01 </a><a id=c2 href=#2 class=h>84 00 </a>\
 <a id=c4 href=#4 class=h>00 01 </a><a id=c6 href=#6 class=h>00 02 </a>\
 <a id=c8 href=#8 class=h>00 00 </a><a id=c10 href=#10 class=h>00 00 </a>\
-<a id=c12 href=#12 class=n>05 61 3c 62
+<a id=c12 href=#12 class=n>05 61 3c 62 \n\
 <s>16</s>3e 26 </a><a id=c18 href=#18 class=n>01 63 </a><a id=c20 href=#20 class=n>00 </a>\
 <a id=c21 href=#21>00 01 </a><a id=c23 href=#23>00 01 </a>\
 <a id=c25 href=#25 style=--f:25;--t:12>c0 0c </a><a id=c27 href=#27>00 05 </a>\
-<a id=c29 href=#29>00 01 </a><a id=c31 href=#31>00
+<a id=c29 href=#29>00 01 </a><a id=c31 href=#31>00 \n\
 <s>32</s>00 00 3c </a><a id=c35 href=#35>00 04 </a><a id=c37 href=#37 class=n>01 64 </a>\
 <a id=c39 href=#39 style=--f:39;--t:18>c0 12 </a>\
 <a id=c41 href=#41 style=--f:41;--t:37>c0 25 </a><a id=c43 href=#43>00 01 </a>\
-<a id=c45 href=#45>00 01 </a><a id=c47 href=#47>00
+<a id=c45 href=#45>00 01 </a><a id=c47 href=#47>00 \n\
 <s>48</s>00 00 3c </a><a id=c51 href=#51>00 04 </a>\
 <a id=c53 href=#53 class=d>c0 00 02 01 </a><a id=c57 href=#57 class=f>ff </a>
-</pre>
+</div>
 ";
 
-/// Lines of the list: of a field, an item, names as text, pointers and unread octets.
-const LINES: &[&str] = &[
-    "<pre class=list>\n<a id=0 href=#c0 class=h>0001\tidentifier 1</a>\n",
-    "\n<b class=d>question 1</b>\n<a id=12 href=#c12 class=n>05613c623e26\t",
-    "\tname, label of 5 octets: \"a&lt;b&gt;&amp;\"</a>\n",
-    "\n<a id=21 href=#c21>0001\ttype A</a>\n",
-    "\n<a id=25 href=#c25 style=--f:25;--t:12>c00c\towner, pointer to 12: a&lt;b&gt;&amp;.c.</a>\n",
-    "\n<a id=53 href=#c53 class=d>c0000201\taddress 192.0.2.1</a>\n",
-    "\n<a id=57 href=#c57 class=f>ff\tunread, 1 octet</a>\n</pre>\n</main>\n</body>\n</html>\n",
+/// Rows of the list: of a field, an item, names as text, pointers and unread octets.
+const ROWS: &[&str] = &[
+    "<div class=list>\n<p><a id=0 href=#c0 class=h>0001\tidentifier 1</a><a id=2 ",
+    "</a><b class=d>question 1</b><a id=12 href=#c12 class=n>05613c623e26\t",
+    "\tname, label of 5 octets: \"a&lt;b&gt;&amp;\"</a><a id=18 ",
+    "</a><a id=21 href=#c21>0001\ttype A</a><a id=23 ",
+    "</b><a id=25 href=#c25 style=--f:25;--t:12>c00c\towner, pointer to 12: a&lt;b&gt;&amp;.c.</a>",
+    "</a><a id=53 href=#c53 class=d>c0000201\taddress 192.0.2.1</a><a id=57 ",
+    "</a><a id=57 href=#c57 class=f>ff\tunread, 1 octet</a>\n</div>\n</main>\n</body>\n</html>\n",
 ];
 
 #[test]
@@ -110,8 +111,8 @@ fn shows_a_message(rt: HostRuntime) -> Result<(), Fail> {
         assert_count(&rt, case.name, &page, case.text, case.count);
     }
     assert_count(&rt, "the grid", &page, GRID, 1);
-    for line in LINES {
-        assert_count(&rt, line, &page, line, 1);
+    for row in ROWS {
+        assert_count(&rt, row, &page, row, 1);
     }
     Ok(())
 }
@@ -139,6 +140,30 @@ fn draws_all_arrows_below_twenty(rt: HostRuntime) -> Result<(), Fail> {
     let many = page_of_pointers(rt.alloc(), 20)?;
     assert_count(&rt, "20 pointers", &many, "<main>", 1);
     assert_count(&rt, "20 pointers", &many, ";--t:12>", 40);
+    Ok(())
+}
+
+/// Texts where a part begins: of a row whose octets are in two parts of the grid, and of the list.
+const PARTS: &[&str] = &[
+    "<a id=c255 href=#255>00 </a>\n<p><s>256</s><a href=#255>01 </a><a id=c257 ",
+    "</a>\n<p><a id=63 href=#c63>0001\tclass IN</a><b class=d>question 10</b><a id=65 ",
+    "</a>\n<p><a id=127 href=#c127>0001\ttype A</a><a id=129 ",
+    "</b>\n<p><a id=191 href=#c191 style=--f:191;--t:12>c00c\t",
+];
+
+#[test]
+fn begins_parts(rt: HostRuntime) -> Result<(), Fail> {
+    let page = page_of_pointers(rt.alloc(), 45)?;
+    assert_count(
+        &rt,
+        "two parts of the grid and five of the list",
+        &page,
+        "\n<p>",
+        7,
+    );
+    for part in PARTS {
+        assert_count(&rt, part, &page, part, 1);
+    }
     Ok(())
 }
 

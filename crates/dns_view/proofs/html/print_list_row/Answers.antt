@@ -1,0 +1,7 @@
+use Rattle.dns_view.proofs.PageTexts.{list_row_printed}
+use Rattle.dns_view.proofs.html.print_list_row.Goals as goal
+
+pub returns : goal.returns
+returns g c =
+    list_row_printed c.print_row.result _ _ _ c.args.message.now c.args.row.now c.as_bytes.result.now c.in_ok-print_part_start.ensures
+    c.print_row.ensures
