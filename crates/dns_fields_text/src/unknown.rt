@@ -3,9 +3,10 @@ ghost use Rattle.std.specs.Prelude.{◌≡◌, length};
 ghost use Rattle.std.specs.Fmt.{WritesOnOk};
 ghost use Rattle.std.specs.List.{flat_map};
 ghost use Rattle.dns_data.specs.Printing.{hex_octet, opaque_text};
+ghost use Rattle.dns_fields.specs.DataOrders.{part_octets};
 ghost use Rattle.dns_fields.specs.EncodedFields.{part_of};
 ghost use Rattle.dns_fields_text.specs.DataTexts.{data_fields};
-ghost use Rattle.dns_fields_text.specs.FieldTexts.{fields_octets, part_octets};
+ghost use Rattle.dns_fields_text.specs.FieldTexts.{fields_octets};
 ghost use Rattle.dns_name.specs.Names.{framed, uncompressed};
 ghost use Rattle.dns_name.specs.ParsedName.{label_octets, labels};
 
