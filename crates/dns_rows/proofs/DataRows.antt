@@ -1,88 +1,137 @@
 -- The rows of RDATA.
 use Rattle.dns_rows.specs.Data.OptionRows.{none as no_options_rows, option}
-use Rattle.std.proofs.Common.{refl, ◌≡◌, ℕ, ◌+◌, ◌<◌, ◌≤◌, List, [], ◌∷◌, ◌++◌, length, OnOk, Result, Ok, Err, ◌∙◌, ap, subst, sym, arith, append_assoc, append-nil, take, length-take, slice_get, Option, Some, None, inl, inr}
+use Rattle.std.proofs.Common.{refl, ◌≡◌, ℕ, ◌+◌, ◌-◌, ◌<◌, ◌≤◌, List, [], ◌∷◌, ◌++◌, length, ◌∙◌, ap, subst, sym, arith, append_assoc, append-nil, take, drop, get_or, length-take, slice_get, OnOk, Result, Ok, Err, Option, Some, None, inl, inr}
 use Rattle.std.proofs.lemmas.Bool.Decides.{nat_tests}
 use Rattle.std.proofs.lemmas.Grind.{common_steps}
+use Rattle.std.proofs.lemmas.List.{take_all}
 use Rattle.std.proofs.lemmas.Option.{slice_get_cases}
 use Rattle.std.specs.Int.{w16}
 use Rattle.dns_name.specs.Parsers.{number_at}
-use Rattle.dns_rows.specs.Data.{option_data_rows, option_rows, shape_of, Shape, ShowsData, TextRows, LacksOption, ShowsOption}
+use Rattle.dns_fields.specs.Table as table
+use Rattle.dns_rows.specs.Data.{octets_rows, option_data_rows, option_rows, opt_type, FormStops, LacksOption, ShowsData, ShowsFields, ShowsForm, ShowsName, ShowsOctets, ShowsOption, TextRows}
 use Rattle.dns_rows.specs.Data.TextRows.{none as no_text, text}
-use Rattle.dns_rows.specs.Data.Shape.{End, Octets, Named, Options, Rest, Texts}
-use Rattle.dns_rows.specs.Data.ShowsData.{done, octets as more_octets, short, name, no_name, no_option, nothing, options, rest, texts, text_short}
+use Rattle.dns_rows.specs.Data.ShowsData.{fields as field_data, options as option_data}
+use Rattle.dns_rows.specs.Data.ShowsFields.{none as no_fields, field as more_fields, stops as no_field}
+use Rattle.dns_rows.specs.Data.ShowsOptions.{all as options_end, stops as no_option}
 use Rattle.dns_rows.specs.Fields.{field_row}
-use Rattle.dns_rows.specs.Walks.{at, octets, Adds, CutsFields, LacksField, MarksData, MarksWithin, MissesName, MissesOption, CoversName, CoversTexts, CoversOption, CoversOptions}
+use Rattle.dns_rows.specs.Forms.{form_at}
+use Rattle.dns_rows.specs.Walks.{at, octets, Adds, CutsFields, LacksField, MarksData, MarksFields, MarksOptions, MarksWithin, MissesField, MissesName, MissesOctets, MissesOption, MissesText, CoversAllTexts, CoversField, CoversName, CoversOctets, CoversTexts, CoversOption, CoversOptions}
+use Rattle.dns_rows.specs.declared.form.Form as forms
+use Rattle.dns_rows.specs.declared.form.Form.TheVariants.{Name, Octets, Texts}
 use Rattle.dns_rows.specs.declared.row.Fault.{Fault as RowFault}
-use Rattle.dns_rows.specs.declared.row.Fault.TheVariants.{Short}
 use Rattle.dns_rows.specs.declared.row.Field.{Field}
-use Rattle.dns_rows.specs.declared.row.Field.TheVariants.{Data as DataField, OptionCode, OptionData, OptionLength, Text}
-use Rattle.dns_rows.specs.declared.walk.Stop.{Stop}
-use Rattle.dns_rows.specs.declared.row.NameOf.{NameOf}
+use Rattle.dns_rows.specs.declared.row.Field.TheVariants.{Named, OptionCode, OptionData, OptionLength, Text}
+use Rattle.dns_rows.specs.declared.row.NameOf.TheVariants as names
 use Rattle.dns_rows.specs.declared.row.Row.{Row}
+use Rattle.dns_rows.specs.declared.walk.Stop.{Stop}
 use Rattle.dns_rows.specs.declared.walk.Walk.{Walk}
 use Rattle.dns_rows.proofs.Cuts.{cut_after, cut_here, walk_within}
 use Rattle.dns_rows.proofs.Names.{adds_row, adds_then}
 
-pub data_done : (old : Walk) → MarksData End None old old
-data_done old = record { rows = []; adds = sym (append-nil old.rows.items); shows = done }
+-- no octets have no row, and others have one
+no_octets_row : (p : ℕ) (field : Field) → [] ≡ octets_rows p p field
+no_octets_row p field = grind (arith, nat_tests, common_steps)
 
--- a field of n octets, and then the remaining fields
-pub octets_then : (n : ℕ) (field : Field) (shape : Shape) (stop : Option RowFault) (old mid new : Walk) → Adds (field_row (at old) (at old + n) field ∷ []) (at old + n) old mid
-    → at old + n ≤ length (octets old) → MarksData shape stop mid new → MarksData (Octets n field shape) stop old new
-octets_then n field shape stop old mid new h within k =
-    let P : List ℕ → ℕ → Type 0 = λ b p. ShowsData b shape stop p (at new) k.rows in
-    let after : P (octets old) (at old + n) = subst (λ b. P b (at old + n)) h.seen (subst (λ p. P (octets mid) p) h.offset k.shows) in
-    record {
-      rows = field_row (at old) (at old + n) field ∷ k.rows;
-      adds = k.adds ∙ ap (λ rows. rows ++ k.rows) h.rows ∙ append_assoc old.rows.items (field_row (at old) (at old + n) field ∷ []) k.rows;
-      shows = more_octets within after;
-    }
+octets_row : (p q : ℕ) (field : Field) → p < q → field_row p q field ∷ [] ≡ octets_rows p q field
+octets_row p q field some = grind (arith, nat_tests, common_steps)
 
--- an incomplete field of n octets
-pub octets_short : (n : ℕ) (field : Field) (shape : Shape) (old new : Walk) (fault : RowFault) → LacksField field (octets old) (at old + n) fault → new ≡ old
-    → MarksData (Octets n field shape) (Some fault) old new
-octets_short n field shape old new fault h same =
-    let here : MarksData (Octets n field shape) (Some (Short field)) old old = record { rows = []; adds = sym (append-nil old.rows.items); shows = short h.1 } in
-    let there = subst (λ new. MarksData (Octets n field shape) (Some (Short field)) old new) (sym same) here in
-    subst (λ fault. MarksData (Octets n field shape) (Some fault) old new) (sym h.0) there
+-- a field without octets, a field with some, and an incomplete one
+pub octets_none : (field : Field) (old : Walk) → CoversOctets field 0 old old
+octets_none field old = record {
+  rows = [];
+  adds = record { rows = sym (append-nil old.rows.items); seen = refl; offset = refl };
+  shows = record { end = omega arith; within = walk_within old; made = no_octets_row (at old) field };
+}
 
--- a name, and then the remaining fields
-pub name_then : (of : NameOf) (shape : Shape) (stop : Option RowFault) (old mid new : Walk) → CoversName of old mid → MarksData shape stop mid new → MarksData (Named of shape) stop old new
-name_then of shape stop old mid new h k =
-    let after : ShowsData (octets old) shape stop (at mid) (at new) k.rows = subst (λ b. ShowsData b shape stop (at mid) (at new) k.rows) h.adds.seen k.shows in
+octets_some : (field : Field) (n : ℕ) (old new : Walk) → 0 < n → Adds (field_row (at old) (at old + n) field ∷ []) (at old + n) old new → at old + n ≤ length (octets old)
+    → CoversOctets field n old new
+octets_some field n old new some h within =
+    let rows = field_row (at old) (at old + n) field ∷ [] in
+    let P : ℕ → Type 0 = λ q. ShowsOctets (octets old) field n (at old) q rows in
+    let there : P (at old + n) = record { end = refl; within = within; made = octets_row (at old) (at old + n) field (omega (arith, some)) } in
+    record { rows = rows; adds = record { rows = h.rows; seen = h.seen; offset = refl }; shows = subst P (sym h.offset) there }
+
+pub some_octets : (field : Field) (n : ℕ) (old new : Walk) (r : Result Unit Stop) → 0 < n → OnOk r (Adds (field_row (at old) (at old + n) field ∷ []) (at old + n) old new)
+    → OnOk r (at old + n ≤ length (octets old)) → OnOk r (CoversOctets field n old new)
+some_octets field n old new (Ok v) some h within = octets_some field n old new some h within
+some_octets field n old new (Err stop) some h within = tt
+
+pub octets_missing : (field : Field) (n : ℕ) (old new : Walk) (fault : RowFault) → LacksField field (octets old) (at old + n) fault → new ≡ old → MissesOctets field n old new fault
+octets_missing field n old new fault h same = record {
+  rows = [];
+  adds = ap (λ (w : Walk). w.rows.items) same ∙ sym (append-nil old.rows.items);
+  stops = record { here = ap (λ (w : Walk). at w) same; short = h.1; reported = h.0; none = refl };
+}
+
+-- a field of RDATA by its form
+module _ (field : table.Field) (form : forms.Form) (old new : Walk) (is : form ≡ form_at (octets old) (at old) field.1) where
+  covers_form : (rows : List Row) → Adds rows (at new) old new → ShowsForm (octets old) field form (at old) (at new) rows → CoversField field old new
+  covers_form rows h k = record { rows = rows; adds = h; shows = subst (λ form. ShowsForm (octets old) field form (at old) (at new) rows) is k }
+
+  misses_form : (fault : RowFault) (rows : List Row) → new.rows.items ≡ old.rows.items ++ rows → FormStops (octets old) field form (at old) (at new) fault rows → MissesField field old new fault
+  misses_form fault rows h k = record { rows = rows; adds = h; stops = subst (λ form. FormStops (octets old) field form (at old) (at new) fault rows) is k }
+
+pub covers_name : (field : table.Field) (old new : Walk) → Name ≡ form_at (octets old) (at old) field.1 → CoversName (names.Field field.0) old new → CoversField field old new
+covers_name field old new is h =
+    let shows : ShowsName (octets old) (names.Field field.0) (at old) (at new) h.rows = record { labels = h.labels; encoded = h.encoded; ends = h.name_ends; shows = h.shows } in
+    covers_form field Name old new is h.rows h.adds shows
+
+pub misses_name : (field : table.Field) (old new : Walk) (fault : RowFault) → Name ≡ form_at (octets old) (at old) field.1 → MissesName (names.Field field.0) old new fault → MissesField field old new fault
+misses_name field old new fault is h = misses_form field Name old new is fault h.rows h.adds (h.f, h.lacks)
+
+pub covers_texts : (field : table.Field) (old new : Walk) → Texts ≡ form_at (octets old) (at old) field.1 → CoversAllTexts old new → CoversField field old new
+covers_texts field old new is h = covers_form field Texts old new is h.rows h.adds h.shows
+
+pub misses_texts : (field : table.Field) (old new : Walk) (fault : RowFault) → Texts ≡ form_at (octets old) (at old) field.1 → MissesText old new fault → MissesField field old new fault
+misses_texts field old new fault is h = misses_form field Texts old new is fault h.rows h.adds h.stops
+
+pub covers_octets : (field : table.Field) (n : ℕ) (old new : Walk) → Octets n ≡ form_at (octets old) (at old) field.1 → CoversOctets (Named field.0 field.1) n old new → CoversField field old new
+covers_octets field n old new is h = covers_form field (Octets n) old new is h.rows h.adds h.shows
+
+pub misses_octets : (field : table.Field) (n : ℕ) (old new : Walk) (fault : RowFault) → Octets n ≡ form_at (octets old) (at old) field.1 → MissesOctets (Named field.0 field.1) n old new fault
+    → MissesField field old new fault
+misses_octets field n old new fault is h = misses_form field (Octets n) old new is fault h.rows h.adds h.stops
+
+-- no fields
+pub fields_none : (fields : List table.Field) (old : Walk) → length fields < 1 → MarksFields fields None old old
+fields_none [] old few = record { rows = []; adds = sym (append-nil old.rows.items); shows = no_fields }
+fields_none (field ∷ fields) old few = absurd (omega (arith, few))
+
+-- a field, and then the remaining fields
+pub fields_then : (field : table.Field) (fields : List table.Field) (stop : Option RowFault) (old mid new : Walk) → CoversField field old mid → MarksFields fields stop mid new
+    → MarksFields (field ∷ fields) stop old new
+fields_then field fields stop old mid new h k =
+    let after : ShowsFields (octets old) fields stop (at mid) (at new) k.rows = subst (λ b. ShowsFields b fields stop (at mid) (at new) k.rows) h.adds.seen k.shows in
     record {
       rows = h.rows ++ k.rows;
       adds = k.adds ∙ ap (λ rows. rows ++ k.rows) h.adds.rows ∙ append_assoc old.rows.items h.rows k.rows;
-      shows = name h.rows k.rows h.encoded h.name_ends h.shows after;
+      shows = more_fields h.rows k.rows h.shows after;
     }
 
--- a name that can't be read
-pub name_missing : (of : NameOf) (shape : Shape) (old new : Walk) (fault : RowFault) → MissesName of old new fault → MarksData (Named of shape) (Some fault) old new
-name_missing of shape old new fault h = record { rows = h.rows; adds = h.adds; shows = no_name h.lacks }
+-- a field that can't be read
+pub field_stops : (field : table.Field) (fields : List table.Field) (old new : Walk) (fault : RowFault) → MissesField field old new fault → MarksFields (field ∷ fields) (Some fault) old new
+field_stops field fields old new fault h = record { rows = h.rows; adds = h.adds; shows = no_field h.stops }
 
--- no octets remain
-pub rest_none : (old : Walk) → length (octets old) ≤ at old → MarksData Rest None old old
-rest_none old h = record { rows = []; adds = sym (append-nil old.rows.items); shows = nothing h }
+-- fields are the first and the fields after it
+pub first_field : (fields : List table.Field) (other : table.Field) → 1 ≤ length fields → fields ≡ get_or fields 0 other ∷ take (length fields - 1) (drop 1 fields)
+first_field [] other some = absurd (omega (arith, some))
+first_field (field ∷ fields) other some =
+    let all : take (length (field ∷ fields) - 1) fields ≡ fields = take_all (length (field ∷ fields) - 1) fields (let e : length fields ≤ length (field ∷ fields) - 1 = omega arith in e) in
+    ap (λ (others : List table.Field). field ∷ others) (sym all)
 
--- the remaining octets are one field
-pub rest_rows : (n : ℕ) (old new : Walk) (r : Result Unit Stop) → 0 < n → at old + n ≡ length (octets old)
-    → OnOk r (Adds (field_row (at old) (at old + n) DataField ∷ []) (at old + n) old new) → OnOk r (MarksData Rest None old new)
-rest_rows n old new (Ok v) some end h =
-    let within : at old < length (octets old) = omega (arith, some, end) in
-    let P : ℕ → Type 0 = λ q. ShowsData (octets old) Rest None (at old) q (field_row (at old) q DataField ∷ []) in
-    let shows : P (at old + n) = subst P (sym end) (rest within) in
-    record {
-      rows = field_row (at old) (at old + n) DataField ∷ [];
-      adds = h.rows;
-      shows = subst (λ q. ShowsData (octets old) Rest None (at old) q (field_row (at old) (at old + n) DataField ∷ [])) (sym h.offset) shows;
-    }
-rest_rows n old new (Err stop) some end h = tt
+-- the RDATA of OPT, and that of any other type
+pub data_options : (rtype : ℕ) (stop : Option RowFault) (old new : Walk) → rtype ≡ opt_type → MarksOptions stop old new → MarksData rtype stop old new
+data_options rtype stop old new is h = record { rows = h.rows; adds = h.adds; shows = option_data is h.shows }
+
+pub data_fields : (rtype : ℕ) (known : List table.Field) (stop : Option RowFault) (old new : Walk) → (rtype ≡ opt_type → ⊥) → table.definitions known ≡ table.definitions_of rtype
+    → MarksFields known stop old new → MarksData rtype stop old new
+data_fields rtype known stop old new other is h = record { rows = h.rows; adds = h.adds; shows = field_data known other is h.shows }
 
 -- the rows of a walk up to the end of the RDATA are rows of the record
 pub within_rows : (rtype len : ℕ) (stop : Option RowFault) (old mid new : Walk) → octets mid ≡ take (at old + len) (octets old) → at mid ≡ at old → mid.rows.items ≡ old.rows.items
-    → MarksData (shape_of rtype) stop mid new → MarksWithin rtype len stop old new
+    → MarksData rtype stop mid new → MarksWithin rtype len stop old new
 within_rows rtype len stop old mid new seen offset rows h =
-    let P : List ℕ → ℕ → Type 0 = λ b p. ShowsData b (shape_of rtype) stop p (at new) h.rows in
+    let P : List ℕ → ℕ → Type 0 = λ b p. ShowsData b rtype stop p (at new) h.rows in
     record {
       rows = h.rows;
       adds = h.adds ∙ ap (λ rows. rows ++ h.rows) rows;
@@ -113,20 +162,23 @@ one_more_text n old mid new h there k within =
       texts = subst P (sym k.offset) (text h.rows h.texts there_too within_too);
     }
 
-pub all_texts : (old new : Walk) → CoversTexts old new → slice_get (octets new) (at new) ≡ None → MarksData Texts None old new
+pub all_texts : (old new : Walk) → CoversTexts old new → slice_get (octets new) (at new) ≡ None → CoversAllTexts old new
 all_texts old new h none =
     let none_too : slice_get (octets old) (at new) ≡ None = subst (λ b. slice_get b (at new) ≡ None) h.adds.seen none in
     let end : length (octets old) ≤ at new = elim (slice_get_cases (octets old) (at new)).1 [ inl x ↦ absurd (cc (none_too, x.2)) | inr x ↦ x.0 ] in
-    record { rows = h.rows; adds = h.adds.rows; shows = texts h.texts end }
+    record { rows = h.rows; adds = h.adds; shows = record { texts = h.texts; end = end } }
 
 pub text_stops : (n : ℕ) (old mid new : Walk) (fault : RowFault) → CoversTexts old mid → slice_get (octets mid) (at mid) ≡ Some n → LacksField Text (octets mid) (at mid + (1 + n)) fault → new ≡ mid
-    → MarksData Texts (Some fault) old new
+    → MissesText old new fault
 text_stops n old mid new fault h there long same =
     let there_too : slice_get (octets old) (at mid) ≡ Some n = subst (λ b. slice_get b (at mid) ≡ Some n) h.adds.seen there in
     let long_too : length (octets old) < at mid + (1 + n) = subst (λ (b : List ℕ). length b < at mid + (1 + n)) h.adds.seen long.1 in
-    let here : MarksData Texts (Some (Short Text)) old mid = record { rows = h.rows; adds = h.adds.rows; shows = text_short h.texts there_too long_too } in
-    let there = subst (λ new. MarksData Texts (Some (Short Text)) old new) (sym same) here in
-    subst (λ fault. MarksData Texts (Some fault) old new) (sym long.0) there
+    let here : MissesText old mid fault = record {
+      rows = h.rows;
+      adds = h.adds.rows;
+      stops = record { texts = h.texts; len = n; len_there = there_too; short = long_too; reported = long.0 };
+    } in
+    subst (λ new. MissesText old new fault) (sym same) here
 
 -- consecutive options
 pub no_options : (old : Walk) → CoversOptions old old
@@ -141,13 +193,13 @@ one_more_option old mid new h k =
       options = option h.rows k.rows h.options (subst P h.adds.seen k.shows);
     }
 
-pub all_options : (old new : Walk) → CoversOptions old new → length (octets new) ≤ at new → MarksData Options None old new
+pub all_options : (old new : Walk) → CoversOptions old new → length (octets new) ≤ at new → MarksOptions None old new
 all_options old new h end =
     let same = ap length h.adds.seen in
     let end_too : length (octets old) ≤ at new = omega (arith, same, end) in
-    record { rows = h.rows; adds = h.adds.rows; shows = options h.options end_too }
+    record { rows = h.rows; adds = h.adds.rows; shows = options_end h.options end_too }
 
-pub option_stops : (old mid new : Walk) (fault : RowFault) → CoversOptions old mid → at mid < length (octets mid) → MissesOption mid new fault → MarksData Options (Some fault) old new
+pub option_stops : (old mid new : Walk) (fault : RowFault) → CoversOptions old mid → at mid < length (octets mid) → MissesOption mid new fault → MarksOptions (Some fault) old new
 option_stops old mid new fault h some k =
     let P : List ℕ → Type 0 = λ b. (at mid < length b) × LacksOption b (at mid) (at new) fault k.rows in
     let there = subst P h.adds.seen (some, k.cut) in

@@ -5,7 +5,7 @@ use Rattle.std.specs.Prelude.{Result, Ok, Err}
 use Rattle.dns_name.specs.Names.{Fault}
 use Rattle.dns_name.specs.Names.Fault.{ShortInput}
 use Rattle.dns_name.specs.Parsers.{number_at}
-use Rattle.dns_rows.specs.Data.{shape_of, ShowsData}
+use Rattle.dns_rows.specs.Data.{ShowsData}
 use Rattle.dns_rows.specs.Walks.StopsWithin.{missing, stopped}
 use Rattle.dns_question.specs.AfterNames.FieldsFaultAt.{name as name_fault, short as short_fields}
 use Rattle.dns_code.specs.HeaderCounts.{Counts}
@@ -255,7 +255,7 @@ data_stops part number rtype len old a b new _ records h k (stopped stop there w
     let seen = k.adds.seen ∙ h.adds.seen in
     let same = ap length seen in
     let there_too : r + 10 + len ≤ length (octets old) = omega (arith, there, same, k.adds.offset) in
-    let P : List ℕ → ℕ → Type 0 = λ b p. ShowsData (take (p + len) b) (shape_of rtype) stop p (at new) w.rows in
+    let P : List ℕ → ℕ → Type 0 = λ b p. ShowsData (take (p + len) b) rtype stop p (at new) w.rows in
     let x = entry_of h.labels (octets old) r rtype len in
     let row = item_row part number (at old) in
     let front = row ∷ h.rows in
@@ -290,7 +290,7 @@ marks_record part number rtype len old a b new records h k g seen offset within 
     let front = item_row part number (at old) ∷ h.rows in
     let rows = front ++ (number_rows rtype r ++ g.rows) in
     let joined : (front ++ number_rows rtype r) ++ g.rows ≡ rows = append_assoc front (number_rows rtype r) g.rows in
-    let P : List ℕ → ℕ → ℕ → Type 0 = λ b from to. ShowsData (take (from + len) b) (shape_of rtype) None from to g.rows in
+    let P : List ℕ → ℕ → ℕ → Type 0 = λ b from to. ShowsData (take (from + len) b) rtype None from to g.rows in
     let value : P (octets old) (r + 10) (r + 10 + len) =
     subst (λ from. P (octets old) from (r + 10 + len)) k.adds.offset (subst (λ o. P o (at b) (r + 10 + len)) (k.adds.seen ∙ h.adds.seen) (subst (λ to. P (octets b) (at b) to) to g.shows)) in
     let x = entry_of h.labels (octets old) r rtype len in

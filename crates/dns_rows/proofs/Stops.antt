@@ -1,5 +1,5 @@
 -- What holds if a step of a walk stops.
-use Rattle.std.specs.Prelude.{Result, Ok, Err}
+use Rattle.std.specs.Prelude.{OnOk, Result, Ok, Err}
 use Rattle.dns_rows.specs.Walks.{OnFaultOf}
 use Rattle.dns_rows.specs.declared.row.Fault.{Fault as RowFault}
 use Rattle.dns_rows.specs.declared.walk.Stop.{Stop}
@@ -14,3 +14,8 @@ pub on_fault_2 : {T : Type 0} (r : Result T Stop) (P Q R : RowFault → Type 0) 
 on_fault_2 (Ok v) P Q R f h k = tt
 on_fault_2 (Err (Fault fault)) P Q R f h k = f fault h k
 on_fault_2 (Err Memory) P Q R f h k = tt
+
+-- what holds if a step ends without a fault
+pub on_ok : {T : Type 0} (r : Result T Stop) (P Q : Type 0) → (P → Q) → OnOk r P → OnOk r Q
+on_ok (Ok v) P Q f h = f h
+on_ok (Err stop) P Q f h = tt

@@ -13,7 +13,7 @@ use Rattle.dns_item.specs.RecordReading.{up_to_rdata_end}
 use Rattle.dns_section.specs.QuestionsFrom.{questions_from}
 use Rattle.dns_section.specs.RecordsFrom.{records_from}
 use Rattle.dns_section.specs.Sections.{question_count, answer_count, authority_count, additional_count, AnswersStart, AuthoritiesStart, AdditionalsStart}
-use Rattle.dns_rows.specs.Data.{shape_of, ShowsData}
+use Rattle.dns_rows.specs.Data.{opt_type, ShowsData}
 use Rattle.dns_rows.specs.Faults.{LacksName}
 use Rattle.dns_rows.specs.Fields.{field_row, CutRows}
 use Rattle.dns_rows.specs.Named.{NameRows}
@@ -41,10 +41,6 @@ pub record ShowsQuestion (b : List ℕ) (number : ℕ) (x : QuestionItem) (p q :
   pub name : NameRows b names.Question p p reads.skips.name_end name_rows
   pub made : rows ≡ item_row Question number p ∷ (name_rows ++ question_rows reads.skips.name_end)
 
--- the type of OPT records. RFC 6891 section 6.1.1.
-abbrev pub opt_type : ℕ
-opt_type = 41
-
 -- the rows at p of an OPT record, in place of CLASS and TTL. RFC 6891 sections 6.1.2 and 6.1.3.
 abbrev pub opt_rows : ℕ → List Row
 opt_rows p =
@@ -64,7 +60,7 @@ pub record ShowsRecord (b : List ℕ) (part : Part) (number : ℕ) (x : RecordEn
   pub owner_rows : List Row
   pub owner : NameRows b names.Owner p p reads.skips.name_end owner_rows
   pub data_rows : List Row
-  pub value : ShowsData (up_to_rdata_end b x) (shape_of x.rtype) None x.rdata_start x.rdata_end data_rows
+  pub value : ShowsData (up_to_rdata_end b x) x.rtype None x.rdata_start x.rdata_end data_rows
   pub made : let r = reads.skips.name_end in
       rows ≡ item_row part number p ∷ (owner_rows ++ (number_rows x.rtype r ++ data_rows))
 
@@ -81,7 +77,7 @@ pub record DataStops (b : List ℕ) (x : RecordEntry) (p offset : ℕ) (fault : 
   pub owner : NameRows b names.Owner p p reads.skips.name_end owner_rows
   pub data_rows : List Row
   pub stop : Option rows.Fault
-  pub value : ShowsData (up_to_rdata_end b x) (shape_of x.rtype) stop x.rdata_start offset data_rows
+  pub value : ShowsData (up_to_rdata_end b x) x.rtype stop x.rdata_start offset data_rows
   pub left_over : stop ≡ None → offset < x.rdata_end
   pub reported : fault ≡ data_fault stop
   pub made : shown ≡ owner_rows ++ (number_rows x.rtype reads.skips.name_end ++ data_rows)

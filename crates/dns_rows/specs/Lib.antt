@@ -2,6 +2,7 @@ pub mod Data
 pub mod Entries
 pub mod Faults
 pub mod Fields
+pub mod Forms
 pub mod Named
 pub mod Rows
 pub mod Shown

@@ -1,5 +1,6 @@
 -- What each step of a walk over a message does. In each definition, `old` is the walk before the step and `new` the walk after it.
-use Rattle.dns_rows.specs.Data.{option_rows, shape_of, Shape, ShowsData, TextRows, OptionRows, ShowsOption}
+use Rattle.dns_rows.specs.Data.{option_rows, FieldStops, OctetsStop, TextsStop, ShowsData, ShowsField, ShowsFields, ShowsOctets, ShowsOptions, ShowsTexts, TextRows, OptionRows, ShowsOption}
+use Rattle.dns_fields.specs.Table as table
 use Rattle.dns_rows.specs.Named.{LabelRows, NameRows}
 use Rattle.std.specs.Prelude.{◌<◌, ◌≡◌, suc, Bool, true, false, ℕ, ◌+◌, ◌-◌, ◌≤◌, List, ◌++◌, ◌∷◌, length, ⊤, Option, Some, None, Result, Ok, Err, take}
 use Rattle.std.specs.Int.{w16}
@@ -222,21 +223,77 @@ pub record MarksParts (parts : List Part) (stop : Option rows.Fault) (old new : 
   pub adds : new.rows.items ≡ old.rows.items ++ rows
   pub shows : ShowsParts (octets old) parts stop (at old) (at new) rows
 
--- the walk went over the fields of RDATA, or stopped in one
-pub record MarksData (shape : Shape) (stop : Option rows.Fault) (old new : Walk) : Type 0 where
+-- the walk went over a field of n octets
+pub record CoversOctets (field : Field) (n : ℕ) (old new : Walk) : Type 0 where
+  pub rows : List Row
+  pub adds : Adds rows (at new) old new
+  pub shows : ShowsOctets (octets old) field n (at old) (at new) rows
+
+-- the walk stopped at a field of n octets
+pub record MissesOctets (field : Field) (n : ℕ) (old new : Walk) (fault : rows.Fault) : Type 0 where
   pub rows : List Row
   pub adds : new.rows.items ≡ old.rows.items ++ rows
-  pub shows : ShowsData (octets old) shape stop (at old) (at new) rows
+  pub stops : OctetsStop (octets old) field n (at old) (at new) fault rows
 
--- the walk stopped in the fields of RDATA with this fault
-abbrev pub StopsData : Shape → Walk → Walk → rows.Fault → Type 0
-StopsData shape old new fault = MarksData shape (Some fault) old new
+-- the walk went over character strings, up to the end
+pub record CoversAllTexts (old new : Walk) : Type 0 where
+  pub rows : List Row
+  pub adds : Adds rows (at new) old new
+  pub shows : ShowsTexts (octets old) (at old) (at new) rows
+
+-- the walk stopped in character strings
+pub record MissesText (old new : Walk) (fault : rows.Fault) : Type 0 where
+  pub rows : List Row
+  pub adds : new.rows.items ≡ old.rows.items ++ rows
+  pub stops : TextsStop (octets old) (at old) (at new) fault rows
+
+-- the walk went over a field of RDATA
+pub record CoversField (field : table.Field) (old new : Walk) : Type 0 where
+  pub rows : List Row
+  pub adds : Adds rows (at new) old new
+  pub shows : ShowsField (octets old) field (at old) (at new) rows
+
+-- the walk stopped in a field of RDATA
+pub record MissesField (field : table.Field) (old new : Walk) (fault : rows.Fault) : Type 0 where
+  pub rows : List Row
+  pub adds : new.rows.items ≡ old.rows.items ++ rows
+  pub stops : FieldStops (octets old) field (at old) (at new) fault rows
+
+-- the walk went over fields of RDATA, or stopped in one
+pub record MarksFields (fields : List table.Field) (stop : Option rows.Fault) (old new : Walk) : Type 0 where
+  pub rows : List Row
+  pub adds : new.rows.items ≡ old.rows.items ++ rows
+  pub shows : ShowsFields (octets old) fields stop (at old) (at new) rows
+
+-- the walk stopped in fields of RDATA with this fault
+abbrev pub StopsFields : List table.Field → Walk → Walk → rows.Fault → Type 0
+StopsFields fields old new fault = MarksFields fields (Some fault) old new
+
+-- the walk went over options, or stopped in one
+pub record MarksOptions (stop : Option rows.Fault) (old new : Walk) : Type 0 where
+  pub rows : List Row
+  pub adds : new.rows.items ≡ old.rows.items ++ rows
+  pub shows : ShowsOptions (octets old) (at old) stop (at new) rows
+
+-- the walk stopped in options with this fault
+abbrev pub StopsOptions : Walk → Walk → rows.Fault → Type 0
+StopsOptions old new fault = MarksOptions (Some fault) old new
+
+-- the walk went over the RDATA of a record of this type, or stopped in it
+pub record MarksData (rtype : ℕ) (stop : Option rows.Fault) (old new : Walk) : Type 0 where
+  pub rows : List Row
+  pub adds : new.rows.items ≡ old.rows.items ++ rows
+  pub shows : ShowsData (octets old) rtype stop (at old) (at new) rows
+
+-- the walk stopped in the RDATA of a record of this type with this fault
+abbrev pub StopsData : ℕ → Walk → Walk → rows.Fault → Type 0
+StopsData rtype old new fault = MarksData rtype (Some fault) old new
 
 -- the walk went over the RDATA of a record, of `len` octets, or stopped in it
 pub record MarksWithin (rtype len : ℕ) (stop : Option rows.Fault) (old new : Walk) : Type 0 where
   pub rows : List Row
   pub adds : new.rows.items ≡ old.rows.items ++ rows
-  pub shows : ShowsData (take (at old + len) (octets old)) (shape_of rtype) stop (at old) (at new) rows
+  pub shows : ShowsData (take (at old + len) (octets old)) rtype stop (at old) (at new) rows
 
 -- why a walk stopped at the RDATA of a record: the RDATA is incomplete, a field in it can't be read, or octets follow its last field
 pub data StopsWithin (rtype len : ℕ) (old new : Walk) : rows.Fault → Type 0 where

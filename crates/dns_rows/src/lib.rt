@@ -7,8 +7,14 @@
 //! item, the rows of the fields before the fault are shown: the labels up to where the name can't
 //! be read, or all fields before the first that is incomplete. Then come the row of the fault,
 //! which says what is wrong, and the row of the remaining octets.
+//!
+//! The fields of RDATA are those of the record type in `dns_fields::TABLE`, and the options of OPT.
+//! A name is shown with its pointer also where its type allows none. A field that takes all
+//! remaining octets is one row whatever they are, unless it has character strings, which are a row
+//! each.
 #![tactic(auto)]
 
+mod form;
 mod octets;
 mod row;
 mod shown;
@@ -16,5 +22,5 @@ mod tile;
 mod walk;
 
 pub use octets::{octets_of, target_of};
-pub use row::{Fault, Field, Kind, NameOf, Part, Row, ZoneNumber};
+pub use row::{Fault, Field, Kind, NameOf, Part, Row};
 pub use shown::rows;

@@ -1,4 +1,5 @@
 //! Rows, and what their octets are.
+use dns_fields::Kind as FieldKind;
 
 /// Consecutive octets of a message, from offset `start` up to but not including `end`.
 #[derive(Clone, Copy, Debug, PartialEq, Eq)]
@@ -56,28 +57,8 @@ pub enum NameOf {
     Question,
     /// The owner of a record.
     Owner,
-    /// The name server in NS RDATA.
-    Server,
-    /// The canonical name in CNAME RDATA.
-    Canonical,
-    /// The name in PTR RDATA.
-    Target,
-    /// The mail exchanger in MX RDATA.
-    Exchange,
-    /// MNAME in SOA RDATA: the name server that is the source of the zone.
-    Primary,
-    /// RNAME in SOA RDATA: the mailbox of the person responsible for the zone.
-    Mailbox,
-}
-
-/// A number in SOA RDATA (RFC 1035 section 3.3.13).
-#[derive(Clone, Copy, Debug, PartialEq, Eq)]
-pub enum ZoneNumber {
-    Serial,
-    Refresh,
-    Retry,
-    Expire,
-    Minimum,
+    /// The name that is this field of RDATA, by the field's name in `dns_fields::TABLE`.
+    Field(&'static str),
 }
 
 /// A field of a message, or a part of one.
@@ -105,18 +86,12 @@ pub enum Field {
     Ttl,
     /// RDLENGTH of a record.
     RdLength,
-    /// An IPv4 address, of 4 octets.
-    Address,
-    /// An IPv6 address, of 16 octets.
-    LongAddress,
-    /// PREFERENCE in MX RDATA.
-    Preference,
-    /// A number in SOA RDATA.
-    Zone(ZoneNumber),
-    /// A character string with its length octet.
-    Text,
-    /// RDATA of any other type.
+    /// RDATA as a whole.
     Data,
+    /// A field of RDATA that isn't a name, with its name and its kind in `dns_fields::TABLE`.
+    Named(&'static str, FieldKind),
+    /// A character string with its length octet, in a field of character strings.
+    Text,
     /// The UDP payload size in octets, which an OPT record has as its CLASS.
     PayloadSize,
     /// The upper 8 bits of the extended RCODE in an OPT record.

@@ -1,6 +1,6 @@
 //! A walk over a message that makes a row of each field (RFC 1035 sections 3.3 and 4.1, RFC 6891
 //! section 6.1.2).
-ghost use Rattle.std.specs.Prelude.{◌≡◌, ◌+◌, ◌<◌, ◌≤◌, ◌∷◌, ◌++◌, ℕ, [], IsNone, OnOk, IfOk, IfSome, IsTrue, Ok, ◌-◌, length, slice_get, Some, None};
+ghost use Rattle.std.specs.Prelude.{◌≡◌, ◌+◌, ◌<◌, ◌≤◌, ◌∷◌, ◌++◌, ℕ, [], IsNone, OnOk, IfOk, IfSome, IsTrue, Ok, ◌-◌, length, slice_get, slice_index, Some, None};
 ghost use Rattle.std.specs.Int.{w16};
 ghost use Rattle.dns_name.specs.Names.{head_at};
 ghost use Rattle.dns_name.specs.declared.head.Head.TheVariants as Head;
@@ -9,15 +9,16 @@ ghost use Rattle.dns_code.specs.HeaderCounts.{counts};
 ghost use Rattle.dns_code.specs.HeaderSection.{header_size};
 ghost use Rattle.dns_rows.specs.Faults.{StopsName};
 ghost use Rattle.dns_rows.specs.Fields.{items_at, IsField, field_row};
-ghost use Rattle.dns_rows.specs.Data.{exchange_shape, shape_of, zone_shape};
-ghost use Rattle.dns_rows.specs.Data.Shape.{End, Octets, Named, Options, Rest, Texts};
+ghost use Rattle.dns_rows.specs.Forms.{form_at, rest_form};
 ghost use Rattle.dns_rows.specs.Entries.{all_parts, class_rows, holds_records, item_row, number_rows, opt_rows};
-ghost use Rattle.dns_rows.specs.Walks.{at, octets, items, sum_of, AreCountsOf, IsMarked, Comes, CutsFields, Adds, OnFault, OnFaultOf, LacksField, LacksFields, IsEnd, IsLabelAt, HasName, CoversAllLabels, CoversEnd, CoversName, CoversItemName, MissesName, MissesItemName, MissesOption, CoversNumbers, MarksItem, MarksStop, MarksFirst, MarksAmong, MarksParts, MarksData, MarksWithin, StopsData, StopsWithin, CoversOption};
+ghost use Rattle.dns_rows.specs.Walks.{at, octets, items, sum_of, AreCountsOf, IsMarked, Comes, CutsFields, Adds, OnFault, OnFaultOf, LacksField, LacksFields, IsEnd, IsLabelAt, HasName, CoversAllLabels, CoversEnd, CoversName, CoversItemName, MissesName, MissesItemName, MissesOption, CoversNumbers, MarksItem, MarksStop, MarksFirst, MarksAmong, MarksParts, MarksData, MarksFields, MarksOptions, MarksWithin, StopsData, StopsFields, StopsOptions, StopsWithin, CoversAllTexts, CoversField, CoversOctets, CoversOption, MissesField, MissesOctets, MissesText};
 
+use crate::form::Form;
 use crate::octets::target_of;
-use crate::row::{Fault, Field, NameOf, Part, Row, ZoneNumber};
+use crate::row::{Fault, Field, NameOf, Part, Row};
 use crate::tile;
 use dns_code::{HeaderCounts, Rtype};
+use dns_fields::{Kind as FieldKind, Shape, fields_of};
 use dns_name::{ParsedName, Parser};
 use std::alloc::Global;
 
@@ -338,9 +339,13 @@ impl<'a> Walk<'a> {
         ensures stops { OnFaultOf result (MarksStop part number self.old self.new) }
     {
         self.item(part, number, NameOf::Owner)?;
-        let (rtype, len) = self.record_fields()?;
-        self.within(rtype, usize::from(len))?;
-        Ok(())
+        match self.record_fields() {
+            Ok(numbers) => {
+                self.within(numbers.0, usize::from(numbers.1))?;
+                Ok(())
+            }
+            Err(stop) => Err(stop),
+        }
     }
 
     /// Walks over the ten octets after the owner of a record, and returns the record's type and
@@ -423,101 +428,103 @@ impl<'a> Walk<'a> {
         requires { IsMarked self.old }
         ensures comes { Comes 0 self.old self.new }
         ensures sees { OnOk result (octets self.new ≡ octets self.old) }
-        ensures shows { OnOk result (MarksData (shape_of rtype) None self.old self.new) }
-        ensures stops { OnFaultOf result (StopsData (shape_of rtype) self.old self.new) }
+        ensures shows { OnOk result (MarksData rtype None self.old self.new) }
+        ensures stops { OnFaultOf result (StopsData rtype self.old self.new) }
     {
-        match rtype {
-            Rtype::A => self.only_octets(4, Field::Address),
-            Rtype::AAAA => self.only_octets(16, Field::LongAddress),
-            Rtype::NS => self.only_name(NameOf::Server),
-            Rtype::CNAME => self.only_name(NameOf::Canonical),
-            Rtype::PTR => self.only_name(NameOf::Target),
-            Rtype::MX => self.exchange(),
-            Rtype::SOA => self.zone(),
-            Rtype::TXT => self.texts(),
-            Rtype::OPT => self.options(),
-            _ => self.rest(),
+        if rtype != Rtype::OPT {
+            return self.fields(fields_of(rtype.to_int()));
+        }
+        self.options()
+    }
+
+    /// Walks over fields of RDATA, in order.
+    fn fields(&mut self, fields: &'static [(&'static str, FieldKind)]) -> Result<(), Stop>
+        requires { IsMarked self.old }
+        ensures comes { Comes 0 self.old self.new }
+        ensures sees { OnOk result (octets self.new ≡ octets self.old) }
+        ensures shows { OnOk result (MarksFields fields.now None self.old self.new) }
+        ensures stops { OnFaultOf result (StopsFields fields.now self.old self.new) }
+    {
+        let [field, after @ ..] = fields else {
+            return Ok(());
+        };
+        self.field(field.0, field.1)?;
+        self.fields(after)
+    }
+
+    /// Walks over a field of RDATA, with this name and this kind.
+    fn field(&mut self, name: &'static str, kind: FieldKind) -> Result<(), Stop>
+        requires { IsMarked self.old }
+        ensures comes { Comes 0 self.old self.new }
+        ensures covers { OnOk result (CoversField (name.entry, kind) self.old self.new) }
+        ensures misses { OnFaultOf result (MissesField (name.entry, kind) self.old self.new) }
+    {
+        match self.form(kind) {
+            Form::Name => self.name(NameOf::Field(name)),
+            Form::Texts => self.texts(),
+            Form::Octets(n) => self.some_octets(n, Field::Named(name, kind)),
         }
     }
 
-    /// Walks over RDATA that is one field of `n` octets.
-    fn only_octets(&mut self, n: usize, field: Field) -> Result<(), Stop>
+    /// How a field of this kind that begins here is shown.
+    fn form(&self, kind: FieldKind) -> Form
+        ensures { result ≡ form_at (octets self.now) (at self.now) kind }
+    {
+        match kind.shape() {
+            Shape::Octets(n) => Form::Octets(n),
+            Shape::Counted => Form::Octets(1 + self.first_or_zero()),
+            Shape::Sized => Form::Octets(2 + (self.first_or_zero() * 256 + self.second_or_zero())),
+            Shape::Name | Shape::UncompressedName(_, _) => Form::Name,
+            Shape::Rest => self.rest_form(kind),
+        }
+    }
+
+    /// How a field of this kind that takes all remaining octets is shown.
+    fn rest_form(&self, kind: FieldKind) -> Form
+        ensures { result ≡ rest_form (octets self.now) (at self.now) kind }
+    {
+        match kind {
+            FieldKind::Strings => Form::Texts,
+            _ => Form::Octets(self.parser.remaining()),
+        }
+    }
+
+    /// The octet at this offset, or 0 if there is none.
+    fn first_or_zero(&self) -> usize
+        ensures octet { result ≡ slice_index (octets self.now) (at self.now) }
+        ensures small { result < 256 }
+    {
+        usize::from(self.first().unwrap_or(0))
+    }
+
+    /// The octet after the one at this offset, or 0 if there is none.
+    fn second_or_zero(&self) -> usize
+        ensures octet { result ≡ slice_index (octets self.now) (at self.now + 1) }
+        ensures small { result < 256 }
+    {
+        usize::from(self.second().unwrap_or(0))
+    }
+
+    /// Walks over a field of `n` octets, which has no row if `n` is 0.
+    fn some_octets(&mut self, n: usize, field: Field) -> Result<(), Stop>
         requires marked { IsMarked self.old }
-        requires some { 0 < n }
         requires plain { items_at field ≡ 0 }
         ensures comes { Comes 0 self.old self.new }
-        ensures sees { OnOk result (octets self.new ≡ octets self.old) }
-        ensures shows { OnOk result (MarksData (Octets n field End) None self.old self.new) }
-        ensures stops { OnFaultOf result (StopsData (Octets n field End) self.old self.new) }
+        ensures covers { OnOk result (CoversOctets field n self.old self.new) }
+        ensures misses { OnFaultOf result (MissesOctets field n self.old self.new) }
     {
-        self.octets(n, field)?;
-        Ok(())
-    }
-
-    /// Walks over RDATA that is a name.
-    fn only_name(&mut self, name: NameOf) -> Result<(), Stop>
-        requires { IsMarked self.old }
-        ensures comes { Comes 0 self.old self.new }
-        ensures sees { OnOk result (octets self.new ≡ octets self.old) }
-        ensures shows { OnOk result (MarksData (Named name End) None self.old self.new) }
-        ensures stops { OnFaultOf result (StopsData (Named name End) self.old self.new) }
-    {
-        self.name(name)?;
-        Ok(())
-    }
-
-    /// Walks over RDATA that is one field of all remaining octets, if there are any.
-    fn rest(&mut self) -> Result<(), Stop>
-        requires { IsMarked self.old }
-        ensures comes { Comes 0 self.old self.new }
-        ensures sees { OnOk result (octets self.new ≡ octets self.old) }
-        ensures shows { OnOk result (MarksData Rest None self.old self.new) }
-        ensures stops { OnFaultOf result (StopsData Rest self.old self.new) }
-    {
-        match self.parser.remaining() {
+        match n {
             0 => Ok(()),
-            len => self.octets(len, Field::Data),
+            len => self.octets(len, field),
         }
     }
 
-    /// Walks over the RDATA of an MX record (RFC 1035 section 3.3.9).
-    fn exchange(&mut self) -> Result<(), Stop>
-        requires { IsMarked self.old }
-        ensures comes { Comes 0 self.old self.new }
-        ensures sees { OnOk result (octets self.new ≡ octets self.old) }
-        ensures shows { OnOk result (MarksData exchange_shape None self.old self.new) }
-        ensures stops { OnFaultOf result (StopsData exchange_shape self.old self.new) }
-    {
-        self.number(Field::Preference)?;
-        self.name(NameOf::Exchange)?;
-        Ok(())
-    }
-
-    /// Walks over the RDATA of an SOA record (RFC 1035 section 3.3.13).
-    fn zone(&mut self) -> Result<(), Stop>
-        requires { IsMarked self.old }
-        ensures comes { Comes 0 self.old self.new }
-        ensures sees { OnOk result (octets self.new ≡ octets self.old) }
-        ensures shows { OnOk result (MarksData zone_shape None self.old self.new) }
-        ensures stops { OnFaultOf result (StopsData zone_shape self.old self.new) }
-    {
-        self.name(NameOf::Primary)?;
-        self.name(NameOf::Mailbox)?;
-        self.octets(4, Field::Zone(ZoneNumber::Serial))?;
-        self.octets(4, Field::Zone(ZoneNumber::Refresh))?;
-        self.octets(4, Field::Zone(ZoneNumber::Retry))?;
-        self.octets(4, Field::Zone(ZoneNumber::Expire))?;
-        self.octets(4, Field::Zone(ZoneNumber::Minimum))?;
-        Ok(())
-    }
-
-    /// Walks over the RDATA of a TXT record (RFC 1035 section 3.3.14).
+    /// Walks over character strings, up to the end of the parser (RFC 1035 section 3.3.14).
     fn texts(&mut self) -> Result<(), Stop>
         requires { IsMarked self.old }
         ensures comes { Comes 0 self.old self.new }
-        ensures sees { OnOk result (octets self.new ≡ octets self.old) }
-        ensures shows { OnOk result (MarksData Texts None self.old self.new) }
-        ensures stops { OnFaultOf result (StopsData Texts self.old self.new) }
+        ensures covers { OnOk result (CoversAllTexts self.old self.new) }
+        ensures misses { OnFaultOf result (MissesText self.old self.new) }
     {
         'texts: while let Some(len) = self.first() {
             self.octets(1 + usize::from(len), Field::Text)?;
@@ -530,8 +537,8 @@ impl<'a> Walk<'a> {
         requires { IsMarked self.old }
         ensures comes { Comes 0 self.old self.new }
         ensures sees { OnOk result (octets self.new ≡ octets self.old) }
-        ensures shows { OnOk result (MarksData Options None self.old self.new) }
-        ensures stops { OnFaultOf result (StopsData Options self.old self.new) }
+        ensures shows { OnOk result (MarksOptions None self.old self.new) }
+        ensures stops { OnFaultOf result (StopsOptions self.old self.new) }
     {
         'options: while self.parser.remaining() > 0 {
             self.option()?;

@@ -13,11 +13,12 @@ mod meaning;
 mod option;
 mod program;
 mod quoted;
+mod rdata;
 mod request;
 mod summary;
 mod text;
 
-pub use dns_rows::{Fault, Field, Kind, NameOf, Part, Row, ZoneNumber, rows};
+pub use dns_rows::{Fault, Field, Kind, NameOf, Part, Row, rows};
 pub use html::print_page;
 pub use program::{USAGE, tool};
 pub use request::file_of;

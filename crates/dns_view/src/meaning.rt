@@ -1,12 +1,13 @@
 //! What rows mean, in words.
 use crate::codes::{OpcodeName, OptionName, RcodeName};
 use crate::option::OptionData;
-use crate::quoted::{Quoted, octet_count, second_count, write_address};
+use crate::quoted::{Quoted, octet_count, second_count};
+use crate::rdata::{RdataField, Words};
 use dns_message::code::{Class, OptRcode, Rtype};
 use dns_message::header::Header;
 use dns_message::name::ParsedName;
 use dns_message::wire::Parser;
-use dns_rows::{Fault, Field, Kind, NameOf, Part, Row, ZoneNumber, octets_of, target_of};
+use dns_rows::{Fault, Field, Kind, NameOf, Part, Row, octets_of, target_of};
 use std::fmt;
 
 /// DO, the highest bit of the flags of an OPT record (RFC 3225).
@@ -52,16 +53,11 @@ fn word_of(part: Part) -> &'static str {
 }
 
 /// The words for a name of an item.
-fn words_of(name: NameOf) -> &'static str {
+fn words_of(name: NameOf) -> Words {
     match name {
-        NameOf::Question => "name",
-        NameOf::Owner => "owner",
-        NameOf::Server => "name server",
-        NameOf::Canonical => "canonical name",
-        NameOf::Target => "target",
-        NameOf::Exchange => "mail exchange",
-        NameOf::Primary => "primary server",
-        NameOf::Mailbox => "mailbox",
+        NameOf::Question => Words("name"),
+        NameOf::Owner => Words("owner"),
+        NameOf::Field(name) => Words(name),
     }
 }
 
@@ -110,9 +106,9 @@ impl<'a> Meaning<'a> {
                 write_name(f, self.message, start)
             }
             Field::Pointer(name, start) => self.write_pointer(f, name, start),
-            Field::Address | Field::LongAddress => {
-                f.write_str("address ")?;
-                write_address(f, octets)
+            Field::Named(name, kind) => {
+                let field = RdataField { name, kind, octets };
+                write!(f, "{field}")
             }
             Field::Text => write_text(f, octets),
             Field::ExtendedRcode => write_extended(f, self.message, octets),
@@ -178,20 +174,16 @@ impl fmt::Display for FaultWords<'_> {
 }
 
 /// The words for a field that may be incomplete.
-fn field_words(field: Field) -> &'static str {
-    match field {
-        Field::Label(name) | Field::Root(name, _) | Field::Pointer(name, _) => words_of(name),
+fn field_words(field: Field) -> Words {
+    Words(match field {
+        Field::Label(name) | Field::Root(name, _) | Field::Pointer(name, _) => {
+            return words_of(name);
+        }
+        Field::Named(name, _) => name,
         Field::Type => "type",
         Field::Class => "class",
         Field::Ttl => "TTL",
         Field::RdLength => "data length",
-        Field::Address | Field::LongAddress => "address",
-        Field::Preference => "preference",
-        Field::Zone(ZoneNumber::Serial) => "serial",
-        Field::Zone(ZoneNumber::Refresh) => "refresh",
-        Field::Zone(ZoneNumber::Retry) => "retry",
-        Field::Zone(ZoneNumber::Expire) => "expire",
-        Field::Zone(ZoneNumber::Minimum) => "minimum",
         Field::Text => "text",
         Field::PayloadSize => "UDP payload size",
         Field::ExtendedRcode => "extended rcode",
@@ -201,7 +193,7 @@ fn field_words(field: Field) -> &'static str {
         Field::OptionLength(_) => "option length",
         Field::OptionData(_) => "option data",
         _ => "data",
-    }
+    })
 }
 
 /// Prints the absolute name at an offset, or nothing if no name can be read there.
@@ -350,8 +342,6 @@ fn write_number<W: fmt::Write>(
             write!(f, "TTL {seconds}")
         }
         Field::RdLength => write!(f, "data length {number}"),
-        Field::Preference => write!(f, "preference {number}"),
-        Field::Zone(part) => write_zone_number(f, part, number),
         Field::PayloadSize => write!(f, "UDP payload size {number}"),
         Field::Version => write!(f, "EDNS version {number}"),
         Field::OptFlags => write_opt_flags(f, number),
@@ -359,22 +349,6 @@ fn write_number<W: fmt::Write>(
             let count = octet_count(octets.len());
             write!(f, "data, {count}")
         }
-    }
-}
-
-/// Prints a number in SOA RDATA. All but the serial are in seconds (RFC 1035 section 3.3.13).
-fn write_zone_number<W: fmt::Write>(
-    f: &mut fmt::Formatter<W>,
-    part: ZoneNumber,
-    number: u32,
-) -> fmt::Result {
-    let seconds = second_count(number);
-    match part {
-        ZoneNumber::Serial => write!(f, "serial {number}"),
-        ZoneNumber::Refresh => write!(f, "refresh {seconds}"),
-        ZoneNumber::Retry => write!(f, "retry {seconds}"),
-        ZoneNumber::Expire => write!(f, "expire {seconds}"),
-        ZoneNumber::Minimum => write!(f, "minimum {seconds}"),
     }
 }
 

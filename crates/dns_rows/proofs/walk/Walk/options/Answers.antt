@@ -1,6 +1,5 @@
 use Rattle.std.proofs.Common.{◌<◌, ◌≤◌, ◌∙◌, arith, ap, length, refl, rules}
-use Rattle.dns_rows.specs.Data.Shape.{Options}
-use Rattle.dns_rows.specs.Walks.{at, octets, MissesOption, StopsData}
+use Rattle.dns_rows.specs.Walks.{at, octets, MissesOption, StopsOptions}
 use Rattle.dns_rows.proofs.DataRows.{all_options, no_options, one_more_option, option_stops}
 use Rattle.dns_rows.proofs.Stops.{on_fault}
 use Rattle.dns_rows.proofs.walk.Walk.options.Goals as goal
@@ -26,7 +25,7 @@ returns-in_err-option-clause-stops c =
     let mid = c.options.self in
     let new = c.option.new.self in
     let some : at mid < length (octets mid) = omega arith in
-    on_fault c.from_residual.result (MissesOption mid new) (StopsData Options old new)
+    on_fault c.from_residual.result (MissesOption mid new) (StopsOptions old new)
     (λ fault h. option_stops old mid new fault c.options.invariant.covers some h) (search rules)
 
 pub returns-clause-shows : goal.returns-clause-shows

@@ -1,4 +1,4 @@
-use Rattle.std.proofs.Common.{ℕ, ◌+◌, ◌≤◌, ◌∙◌, ap, subst, length, None, rules}
+use Rattle.std.proofs.Common.{ℕ, ◌+◌, ◌≤◌, ◌∙◌, ap, subst, length, None, Err, rules}
 use Rattle.std.specs.Int.{w16}
 use Rattle.dns_name.specs.Parsers.{number_at}
 use Rattle.dns_rows.specs.Entries.{item_row, number_rows}
@@ -15,31 +15,31 @@ returns-in_err-item-clause-stops c =
     on_fault c.from_residual.result (MissesItemName names.Owner (item_row c.args.part c.args.number (at old)) old new) (MarksStop c.args.part c.args.number old new)
     (λ fault h. record_unnamed c.args.part c.args.number old new fault c.requires.part h) (search rules)
 
-pub returns-in_err-rtype-clause-stops : goal.returns-in_err-rtype-clause-stops
-returns-in_err-rtype-clause-stops c =
+pub returns-in-Err-clause-stops : goal.returns-in-Err-clause-stops
+returns-in-Err-clause-stops c =
     let old = c.args.self.now in
     let mid = c.item.new.self in
     let new = c.record_fields.new.self in
-    on_fault_2 c.from_residual-in_err-rtype.result (LacksFields (octets mid) (at mid + 10)) (CutsFields (number_rows (number_at w16 (octets mid) (at mid)) (at mid)) mid new) (MarksStop c.args.part c.args.number old new)
+    on_fault_2 {T = Unit} (Err c.in-Err.stop) (LacksFields (octets mid) (at mid + 10)) (CutsFields (number_rows (number_at w16 (octets mid) (at mid)) (at mid)) mid new) (MarksStop c.args.part c.args.number old new)
     (λ fault short cut. numbers_short c.args.part c.args.number old mid new fault c.requires.part c.in_ok-item.ensures.covers short cut) (search rules) (search rules)
 
-pub returns-in_err-within-clause-stops : goal.returns-in_err-within-clause-stops
-returns-in_err-within-clause-stops c =
+pub returns-in_err-within-in-Ok-clause-stops : goal.returns-in_err-within-in-Ok-clause-stops
+returns-in_err-within-in-Ok-clause-stops c =
     let old = c.args.self.now in
     let a = c.item.new.self in
     let b = c.record_fields.new.self in
     let new = c.within.new.self in
-    on_fault c.from_residual-in_err-within.result (StopsWithin c.in_ok-rtype.rtype c.from.result b new) (MarksStop c.args.part c.args.number old new)
+    on_fault c.from_residual-in_err-within-in-Ok.result (StopsWithin c.in-Ok.numbers.0 c.from.result b new) (MarksStop c.args.part c.args.number old new)
     (λ fault h.
-    let P : ℕ → Type 0 = λ len. StopsWithin c.in_ok-rtype.rtype len b new fault in
-    data_stops c.args.part c.args.number c.in_ok-rtype.rtype c.in_ok-rtype.len old a b new fault c.requires.part c.in_ok-item.ensures.covers c.in_ok-rtype.ensures.covers (subst P c.from.ensures h)) (search rules)
+    let P : ℕ → Type 0 = λ len. StopsWithin c.in-Ok.numbers.0 len b new fault in
+    data_stops c.args.part c.args.number c.in-Ok.numbers.0 c.in-Ok.numbers.1 old a b new fault c.requires.part c.in_ok-item.ensures.covers c.in-Ok.ensures.covers (subst P c.from.ensures h)) (search rules)
 
-pub returns-clause-shows : goal.returns-clause-shows
-returns-clause-shows c =
+pub returns-in_ok-within-in-Ok-clause-shows : goal.returns-in_ok-within-in-Ok-clause-shows
+returns-in_ok-within-in-Ok-clause-shows c =
     let b = c.record_fields.new.self in
     let new = c.within.new.self in
     let P : ℕ → Type 0 = λ len. at b + len ≤ length (octets b) in
-    let Q : ℕ → Type 0 = λ len. MarksWithin c.in_ok-rtype.rtype len None b new in
-    marks_record c.args.part c.args.number c.in_ok-rtype.rtype c.in_ok-rtype.len c.args.self.now c.item.new.self b new c.requires.part
-    c.in_ok-item.ensures.covers c.in_ok-rtype.ensures.covers (subst Q c.from.ensures c.in_ok-within.ensures.shows) c.in_ok-within.ensures.seen
-    (c.in_ok-within.ensures.offset ∙ ap (λ n. at b + n) c.from.ensures) (subst P c.from.ensures c.in_ok-within.ensures.there)
+    let Q : ℕ → Type 0 = λ len. MarksWithin c.in-Ok.numbers.0 len None b new in
+    marks_record c.args.part c.args.number c.in-Ok.numbers.0 c.in-Ok.numbers.1 c.args.self.now c.item.new.self b new c.requires.part
+    c.in_ok-item.ensures.covers c.in-Ok.ensures.covers (subst Q c.from.ensures c.in_ok-within-in-Ok.ensures.shows) c.in_ok-within-in-Ok.ensures.seen
+    (c.in_ok-within-in-Ok.ensures.offset ∙ ap (λ n. at b + n) c.from.ensures) (subst P c.from.ensures c.in_ok-within-in-Ok.ensures.there)

@@ -1,6 +1,5 @@
 use Rattle.std.proofs.Common.{◌≡◌, ◌+◌, ◌∙◌, ap, rules, slice_get, Some, sym, refl}
-use Rattle.dns_rows.specs.Data.Shape.{Texts}
-use Rattle.dns_rows.specs.Walks.{at, octets, LacksField, StopsData}
+use Rattle.dns_rows.specs.Walks.{at, octets, LacksField, MissesText}
 use Rattle.dns_rows.specs.declared.row.Field.TheVariants.{Text}
 use Rattle.dns_rows.proofs.DataRows.{all_texts, no_texts, one_more_text, text_stops}
 use Rattle.dns_rows.proofs.Stops.{on_fault_2}
@@ -19,14 +18,14 @@ texts-preserved c =
       covers = one_more_text c.from.result c.args.self.now mid c.octets.new.self c.texts.invariant.covers there c.in_ok-octets.ensures.adds c.in_ok-octets.ensures.within;
     }
 
-pub returns-in_err-octets-clause-stops : goal.returns-in_err-octets-clause-stops
-returns-in_err-octets-clause-stops c =
+pub returns-in_err-octets-clause-misses : goal.returns-in_err-octets-clause-misses
+returns-in_err-octets-clause-misses c =
     let old = c.args.self.now in
     let mid = c.texts.self in
     let new = c.octets.new.self in
     let there : slice_get (octets mid) (at mid) ≡ Some c.from.result = c.first.ensures ∙ c.in-Some.is ∙ ap (λ n. Some n) (sym c.from.ensures) in
-    on_fault_2 c.from_residual.result (LacksField Text (octets mid) (at mid + (1 + c.from.result))) (λ _. new ≡ mid) (StopsData Texts old new)
+    on_fault_2 c.from_residual.result (LacksField Text (octets mid) (at mid + (1 + c.from.result))) (λ _. new ≡ mid) (MissesText old new)
     (λ fault long same. text_stops c.from.result old mid new fault c.texts.invariant.covers there long same) (search rules) (search rules)
 
-pub returns-clause-shows : goal.returns-clause-shows
-returns-clause-shows c = all_texts c.args.self.now c.texts.self c.texts.invariant.covers (c.first.ensures ∙ c.in_default.is)
+pub returns-clause-covers : goal.returns-clause-covers
+returns-clause-covers c = all_texts c.args.self.now c.texts.self c.texts.invariant.covers (c.first.ensures ∙ c.in_default.is)

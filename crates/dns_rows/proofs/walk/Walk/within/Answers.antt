@@ -1,6 +1,5 @@
 use Rattle.std.proofs.Common.{◌≡◌, ◌+◌, ◌<◌, ◌≤◌, ◌∙◌, arith, length, refl, rules, Some, None, take}
 use Rattle.dns_name.specs.Parsers.{offset}
-use Rattle.dns_rows.specs.Data.{shape_of}
 use Rattle.dns_rows.specs.Walks.{at, octets, StopsData, StopsWithin}
 use Rattle.dns_rows.specs.Walks.StopsWithin.{missing, stopped}
 use Rattle.dns_rows.specs.declared.walk.Walk.{Walk}
@@ -16,7 +15,7 @@ returns-in_err-data-clause-stops c =
     let there : at old + c.args.len ≤ length (octets old) = search rules in
     let seen : octets mid ≡ take (at old + c.args.len) (octets old) = search rules in
     let same_offset : at mid ≡ at old = search rules in
-    on_fault c.from_residual.result (StopsData (shape_of c.args.rtype) mid new) (StopsWithin c.args.rtype c.args.len old new)
+    on_fault c.from_residual.result (StopsData c.args.rtype mid new) (StopsWithin c.args.rtype c.args.len old new)
     (λ fault h. stopped (Some fault) there (within_rows c.args.rtype c.args.len (Some fault) old mid new seen same_offset refl h) (λ e. absurd (cc e))) (search rules)
 
 pub returns-then-pos-clause-stops : goal.returns-then-pos-clause-stops

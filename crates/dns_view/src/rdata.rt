@@ -1,0 +1,217 @@
+//! Fields of RDATA in words: their names in `dns_fields::TABLE`, and their values.
+use crate::meaning::number_of;
+use crate::quoted::{Quoted, octet_count, second_count, write_address};
+use base64::display::Base64Display;
+use base64::engine::general_purpose::STANDARD;
+use dns_fields_text::{
+    AddressPrefixes, ParameterText, Parameters, PrefixText, SmallTypeMap, TypeMap, TypeName,
+};
+use dns_message::code::Rtype;
+use dns_message::fields::Kind;
+use dns_value_text::{Base32, Eui, Hex, Location, Locator64, Timestamp};
+use std::fmt;
+
+/// The name of a field of RDATA, printed in words: each hyphen is printed as a space. Names in
+/// RDATA that RFC 1035 section 3.3 abbreviates are written out.
+#[derive(Clone, Copy)]
+pub(crate) struct Words(pub(crate) &'static str);
+
+/// The name of a field of RDATA, without abbreviations of RFC 1035.
+fn written_out(name: &'static str) -> &'static str {
+    match name {
+        "nsdname" => "name server",
+        "cname" => "canonical name",
+        "ptrdname" => "target",
+        "exchange" => "mail exchange",
+        "mname" => "primary server",
+        "rname" => "mailbox",
+        other => other,
+    }
+}
+
+impl fmt::Display for Words {
+    fn fmt<W: fmt::Write>(&self, f: &mut fmt::Formatter<W>) -> fmt::Result {
+        for letter in written_out(self.0).chars() {
+            f.write_char(if letter == '-' { ' ' } else { letter })?;
+        }
+        Ok(())
+    }
+}
+
+/// A field of RDATA that isn't a name, printed in words: its name, and its value. If its octets
+/// have no text, their number is printed.
+#[derive(Clone, Copy)]
+pub(crate) struct RdataField<'a> {
+    pub(crate) name: &'static str,
+    pub(crate) kind: Kind,
+    pub(crate) octets: &'a [u8],
+}
+
+impl fmt::Display for RdataField<'_> {
+    fn fmt<W: fmt::Write>(&self, f: &mut fmt::Formatter<W>) -> fmt::Result {
+        let words = Words(self.name);
+        write!(f, "{words}")?;
+        match self.kind {
+            Kind::CharacterString | Kind::Tag | Kind::Salt | Kind::Hash => {
+                write_string(f, self.kind, self.octets.get(1..).unwrap_or(&[]))
+            }
+            Kind::SizedOctets => write_string(f, self.kind, self.octets.get(2..).unwrap_or(&[])),
+            Kind::Text | Kind::Hexadecimal | Kind::Base64 => {
+                f.write_str(": ")?;
+                write_octets(f, self.kind, self.octets)
+            }
+            Kind::TypeBitMap
+            | Kind::SmallTypeBitMap
+            | Kind::ServiceParameters
+            | Kind::AddressPrefixes => self.write_items(f),
+            _ => self.write_number(f),
+        }
+    }
+}
+
+impl RdataField<'_> {
+    /// Prints a number, an address or a location.
+    fn write_number<W: fmt::Write>(&self, f: &mut fmt::Formatter<W>) -> fmt::Result {
+        let number = number_of(self.octets);
+        match (self.kind, self.octets) {
+            (Kind::Number8 | Kind::Number16 | Kind::Number32, _) => write!(f, " {number}"),
+            (Kind::Number48, [a, b, c, d, e, g]) => {
+                let number = u64::from_be_bytes([0, 0, *a, *b, *c, *d, *e, *g]);
+                write!(f, " {number}")
+            }
+            (Kind::Seconds, _) => {
+                let seconds = second_count(number);
+                write!(f, " {seconds}")
+            }
+            (Kind::Time, _) => {
+                let time = Timestamp(number);
+                write!(f, " {time}")
+            }
+            (Kind::RecordType, [high, low]) => {
+                let rtype = TypeName(Rtype::from_int(u16::from_be_bytes([*high, *low])));
+                write!(f, " {rtype}")
+            }
+            _ => self.write_address(f),
+        }
+    }
+
+    /// Prints an address or a location.
+    fn write_address<W: fmt::Write>(&self, f: &mut fmt::Formatter<W>) -> fmt::Result {
+        match self.kind {
+            Kind::Ipv4 | Kind::Ipv6 => {
+                f.write_str(" ")?;
+                write_address(f, self.octets)
+            }
+            Kind::Eui48 | Kind::Eui64 => {
+                let address = Eui(self.octets);
+                write!(f, " {address}")
+            }
+            Kind::Locator64 => match <[u8; 8]>::try_from(self.octets) {
+                Ok(octets) => {
+                    let locator = Locator64(octets);
+                    write!(f, " {locator}")
+                }
+                Err(_) => self.write_count(f),
+            },
+            Kind::Location => match Location::from_octets(self.octets) {
+                Some(location) => write!(f, " {location}"),
+                None => self.write_count(f),
+            },
+            _ => self.write_count(f),
+        }
+    }
+
+    /// Prints types, service parameters or address prefixes, each after a space.
+    fn write_items<W: fmt::Write>(&self, f: &mut fmt::Formatter<W>) -> fmt::Result {
+        if !self.kind.accepts(self.octets) {
+            return self.write_count(f);
+        }
+        match self.kind {
+            Kind::TypeBitMap => {
+                let types = TypeMap(self.octets);
+                write!(f, ":{types}")
+            }
+            Kind::SmallTypeBitMap => match SmallTypeMap::from_octets(self.octets) {
+                Some(types) => write!(f, ":{types}"),
+                None => self.write_count(f),
+            },
+            Kind::ServiceParameters => write_parameters(f, self.octets),
+            _ => self.write_prefixes(f),
+        }
+    }
+
+    fn write_prefixes<W: fmt::Write>(&self, f: &mut fmt::Formatter<W>) -> fmt::Result {
+        for prefix in AddressPrefixes::new(self.octets) {
+            if !PrefixText(prefix).is_printable() {
+                return self.write_count(f);
+            }
+        }
+        f.write_str(":")?;
+        for prefix in AddressPrefixes::new(self.octets) {
+            let prefix = PrefixText(prefix);
+            write!(f, " {prefix}")?;
+        }
+        Ok(())
+    }
+
+    /// Prints the number of octets, and whether their form isn't that of the field.
+    fn write_count<W: fmt::Write>(&self, f: &mut fmt::Formatter<W>) -> fmt::Result {
+        let count = octet_count(self.octets.len());
+        if !self.kind.accepts(self.octets) {
+            f.write_str(", malformed")?;
+        }
+        write!(f, ", {count}")
+    }
+}
+
+/// Prints how many octets follow their length, and the octets. Digits are left out if there are no
+/// octets.
+fn write_string<W: fmt::Write>(
+    f: &mut fmt::Formatter<W>,
+    kind: Kind,
+    octets: &[u8],
+) -> fmt::Result {
+    let count = octet_count(octets.len());
+    write!(f, " of {count}")?;
+    if octets.is_empty() && !matches!(kind, Kind::CharacterString | Kind::Tag) {
+        return Ok(());
+    }
+    f.write_str(": ")?;
+    write_octets(f, kind, octets)
+}
+
+/// Prints octets in base32, in base64, in hexadecimal, or in quotation marks.
+fn write_octets<W: fmt::Write>(
+    f: &mut fmt::Formatter<W>,
+    kind: Kind,
+    octets: &[u8],
+) -> fmt::Result {
+    match kind {
+        Kind::Hash => {
+            let digits = Base32(octets);
+            write!(f, "{digits}")
+        }
+        Kind::Base64 | Kind::SizedOctets => {
+            let digits = Base64Display::new(octets, &STANDARD);
+            write!(f, "{digits}")
+        }
+        Kind::Salt | Kind::Hexadecimal => {
+            let digits = Hex(octets);
+            write!(f, "{digits}")
+        }
+        _ => {
+            let text = Quoted(octets);
+            write!(f, "{text}")
+        }
+    }
+}
+
+/// Prints service parameters, each after a space.
+fn write_parameters<W: fmt::Write>(f: &mut fmt::Formatter<W>, octets: &[u8]) -> fmt::Result {
+    f.write_str(":")?;
+    for parameter in Parameters::new(octets) {
+        let parameter = ParameterText(parameter);
+        write!(f, " {parameter}")?;
+    }
+    Ok(())
+}
