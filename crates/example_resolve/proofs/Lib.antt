@@ -1,3 +1,4 @@
 mod AcceptedLemmas
+mod AddressLemmas
 mod FoundLemmas
 mod QueryLemmas

@@ -1,18 +1,18 @@
--- Queries for the addresses of a name, and the addresses that a message gives. RFC 1034 section 3.6.2, RFC 1035 sections 3.4.1 and 4.1.
-use Rattle.std.specs.Prelude.{◌≡◌, ◌≢◌, ◌⊎◌, ◌==◌, ◌&&◌, Bool, true, false, ℕ, List, [], ◌∷◌, map, filter, take, Option, Some, None, Result, Ok, Err}
+-- Queries for the addresses of a name, and the addresses that a message gives. RFC 1034 section 3.6.2, RFC 1035 section 4.1, RFC 3596 section 2.
+use Rattle.std.specs.Prelude.{◌≡◌, ◌≢◌, ◌==◌, ◌&&◌, Bool, true, false, ℕ, List, [], ◌∷◌, map, filter, take, Option, Some, None, Result, Ok, Err}
 use Rattle.std.specs.List.{filter_map}
 use Rattle.std.specs.Result.{result_ok}
+use Rattle.std.specs.declared.net.ip_addr.IpAddr.{IpAddr}
 use Rattle.dns_message.specs.Names.{Fault, Labels, fault_of, names_equal}
-use Rattle.dns_message.specs.Data.{Part, Octets, address_of, Layout, Fixed, End, only}
 use Rattle.dns_message.specs.Targets.{Plain}
 use Rattle.dns_message.specs.Headers.{HeaderFields, fields_in}
-use Rattle.dns_message.specs.declared.data.A.{A}
 use Rattle.dns_message.specs.Questions.{QuestionItem}
 use Rattle.dns_message.specs.Records.{RecordItem}
 use Rattle.dns_message.specs.Sections.{limited}
 use Rattle.dns_message.specs.declared.message.Section.TheVariants.{Answer}
 use Rattle.dns_message.specs.Messages.{opt_rcode_of, CanonicalName, cname_layout, answers_query, asked_first, records_of}
 use Rattle.dns_message.specs.Builders.{ReadsBack, InQuestion, State, encode, no_limit}
+use Rattle.example_resolve.specs.Addresses.{address_layout, address_parts, is_address_type}
 use Rattle.example_resolve.specs.declared.resolving.NoAddresses.{NoAddresses}
 use Rattle.example_resolve.specs.declared.resolving.NoAddresses.TheVariants.{OtherMessage, Failed, Truncated, OtherType, NoName, Unreadable, OutOfMemory}
 
@@ -53,13 +53,6 @@ pub record IsQuery (id : ℕ) (asked : QuestionItem) (b : List ℕ) : Type 0 whe
 
 -- Addresses.
 
--- the RDATA of an A record: RFC 1035 section 3.4.1
-abbrev pub a_layout : ℕ → Option Layout
-a_layout = only 1 (Fixed 4 End)
-
-abbrev pub a_parts : A → List Part
-a_parts a = Octets (address_of a) ∷ []
-
 -- the first fault of a reading
 abbrev pub first_fault : {X : Type 0} → List (Result X Fault) → Option Fault
 first_fault [] = None
@@ -70,10 +63,10 @@ first_fault (Err f ∷ xs) = Some f
 abbrev pub is_owned : Labels → ℕ → RecordItem → Bool
 is_owned name class x = names_equal x.owner name && (x.class == class)
 
--- The addresses of a name in a class, in a reading of A records without a fault: the RDATA of those that the name owns, in order.
-pub record Finds (name : Labels) (class : ℕ) (reading : List (Result RecordItem Fault)) (found : List A) : Type 0 where
+-- The addresses of a name in a class, in a reading of address records without a fault: the RDATA of those that the name owns, in order.
+pub record Finds (name : Labels) (class : ℕ) (reading : List (Result RecordItem Fault)) (found : List IpAddr) : Type 0 where
   pub readable : first_fault reading ≡ None
-  pub addresses : map a_parts found ≡ map (λ x. x.parts) (filter (is_owned name class) (filter_map result_ok reading))
+  pub addresses : map address_parts found ≡ map (λ x. x.parts) (filter (is_owned name class) (filter_map result_ok reading))
 
 -- Why none are found: the first fault of a record or its RDATA, or a failed allocation.
 abbrev pub StopsAt : List (Result RecordItem Fault) → NoAddresses → Type 0
@@ -85,9 +78,9 @@ StopsAt reading Truncated = ⊥
 StopsAt reading OtherType = ⊥
 StopsAt reading NoName = ⊥
 
--- the A records of a message's answer section
-abbrev pub address_records : List ℕ → List (Result RecordItem Fault)
-address_records b = limited a_layout (records_of Answer b)
+-- the records of a message's answer section that are addresses of this type
+abbrev pub address_records : ℕ → List ℕ → List (Result RecordItem Fault)
+address_records rtype b = limited (address_layout rtype) (records_of Answer b)
 
 -- the CNAME records of a message's answer section
 abbrev pub alias_records : List ℕ → List (Result RecordItem Fault)
@@ -99,26 +92,27 @@ pub record IsAccepted (query b : List ℕ) : Type 0 where
   pub no_error : opt_rcode_of b ≡ 0
   pub whole : (fields_in (take 4 b)).tc ≡ false
 
--- These are the addresses that an accepted message gives to a query for type A, which is 1: those of the canonical name of its first question, in the class of that question. All CNAME records of the answer section can be read.
-pub record Gives (query b : List ℕ) (found : List A) : Type 0 where
+-- These are the addresses that an accepted message gives to a query for type A or AAAA: those of this type that the canonical name of its first question owns, in the class of that question. All CNAME records of the answer section can be read.
+pub record Gives (query b : List ℕ) (found : List IpAddr) : Type 0 where
   pub accepted : IsAccepted query b
   pub asked : QuestionItem
   pub asks : asked_first b ≡ Some asked
-  pub for_addresses : asked.rtype ≡ 1
+  pub for_addresses : is_address_type asked.rtype ≡ true
   pub aliases : first_fault (alias_records b) ≡ None
   pub name : Labels
   pub canonical : CanonicalName b (Some name)
-  pub finds : Finds name asked.class (address_records b) found
+  pub finds : Finds name asked.class (address_records asked.rtype b) found
 
--- the first fault of the CNAME records of a message's answer section, or of its A records
-abbrev pub IsFault : List ℕ → Fault → Type 0
-IsFault b f = (first_fault (alias_records b) ≡ Some f) ⊎ (first_fault (address_records b) ≡ Some f)
+-- The first fault of the CNAME records of a message's answer section, or of its address records of the type that the first question asks for.
+pub data IsFault (b : List ℕ) (f : Fault) : Type 0 where
+  of_aliases : first_fault (alias_records b) ≡ Some f → IsFault b f
+  of_addresses : (asked : QuestionItem) → asked_first b ≡ Some asked → is_address_type asked.rtype ≡ true → first_fault (address_records asked.rtype b) ≡ Some f → IsFault b f
 
--- the first question of a message is for another record type than A
+-- the first question of a message is for another record type than A and AAAA
 pub record AsksForOther (b : List ℕ) : Type 0 where
   pub asked : QuestionItem
   pub asks : asked_first b ≡ Some asked
-  pub other : asked.rtype ≢ 1
+  pub other : is_address_type asked.rtype ≡ false
 
 -- Why a message gives no addresses.
 abbrev pub IsReason : List ℕ → List ℕ → NoAddresses → Type 0

@@ -1,16 +1,18 @@
 //! The program `example_resolve` is the core of a stub resolver (RFC 1034 section 5.3.1), without
 //! the network:
 //!
-//!     example_resolve < NAME
+//!     example_resolve < NAME-AND-TYPE
 //!     example_resolve < QUERY-AND-ANSWER
 //!
-//! For one line with a name, it prints the query for the IPv4 addresses of that name in hexadecimal
-//! digits. For two lines, a query and a received message in hexadecimal digits, it prints the
-//! addresses, one a line. If there are none, it exits with status 1 and a reason on standard error.
+//! For one line with a name and perhaps a record type, it prints the query for them in hexadecimal
+//! digits. The type is A by default. For two lines, a query for type A or AAAA and a received
+//! message in hexadecimal digits, it prints the addresses, one a line. If there are none, it exits
+//! with status 1 and a reason on standard error.
 //! The contract of `resolving::query` says that a query has at most 512 octets, and that of
 //! `resolving::addresses` which addresses are found.
 #![tactic(auto)]
 
+mod address;
 mod resolving;
 
 use crate::resolving::{addresses, query};
@@ -37,10 +39,14 @@ fn main(rt: HostRuntime) -> Result<()> {
     Ok(())
 }
 
-/// Prints the query for the IPv4 addresses of a name.
-fn print_query(rt: &(impl Print + AllocGlobal), name: &str) -> Result<()> {
+/// Prints the query of a line: for a name, and for type A if no type follows it.
+fn print_query(rt: &(impl Print + AllocGlobal), line: &str) -> Result<()> {
+    let (name, rtype) = match line.split_once(' ') {
+        Some((name, rtype)) => (name, rtype.trim_ascii().parse()?),
+        None => (line, Rtype::A),
+    };
     let name = Name::vec_from_str(rt.alloc(), name)?;
-    let digits = hex::encode(rt.alloc(), query(ID, &name, Rtype::A).as_slice())?;
+    let digits = hex::encode(rt.alloc(), query(ID, &name, rtype).as_slice())?;
     println!(rt; "{digits}")?;
     Ok(())
 }
