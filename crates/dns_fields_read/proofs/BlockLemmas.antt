@@ -61,7 +61,7 @@ block_shrinks (window ∷ size ∷ octets) after block e =
     ] e
 
 -- a block and the octets after it
-drop_seam : (xs ys : List ℕ) → drop (length xs) (xs ++ ys) ≡ ys
+pub drop_seam : (xs ys : List ℕ) → drop (length xs) (xs ++ ys) ≡ ys
 drop_seam [] ys = refl
 drop_seam (x ∷ xs) ys = drop_seam xs ys
 

@@ -13,4 +13,5 @@ mod SaltLaws
 mod StringLaws
 mod TypeLaws
 mod TypeLemmas
+mod TypeMapLaws
 mod TypeMapLemmas

@@ -239,17 +239,17 @@ module _ (p : ℕ → Bool) where
   appends_blocks window old middle new u (Err e) small a b = b
 
 -- types of words
-or_true : (b : Bool) → b || true ≡ true
+pub or_true : (b : Bool) → b || true ≡ true
 or_true true = refl
 or_true false = refl
 
 module _ (word : Bor (List ℕ)) (words : List (Bor (List ℕ))) (k : ℕ) (types : List ℕ) (is : (n : ℕ) → IsTypeWord word.now n ↔ (Some k ≡ Some n))
     (others : (n : ℕ) → has types n ≡ true ↔ HasType words n) where
-  has_type : (n : ℕ) (b : Bool) → (k == n) ≡ b → b || has types n ≡ true → HasType (word ∷ words) n
+  pub has_type : (n : ℕ) (b : Bool) → (k == n) ≡ b → b || has types n ≡ true → HasType (word ∷ words) n
   has_type n true e h = inl ((is n).1 (ap (λ (m : ℕ). Some m) (eqb-true k n e)))
   has_type n false e h = inr ((others n).0 h)
 
-  type_has : (n : ℕ) → HasType (word ∷ words) n → (k == n) || has types n ≡ true
+  pub type_has : (n : ℕ) → HasType (word ∷ words) n → (k == n) || has types n ≡ true
   type_has n (inl w) =
       let same : k ≡ n = (let e = (is n).0 w in cc e) in
       ap (λ (b : Bool). b || has types n) (eq-eqb k n same)

@@ -4,6 +4,7 @@ use Rattle.std.specs.Borrow.{Bor}
 use Rattle.std.specs.List.{list_any}
 use Rattle.dns_fields_text.specs.Prefixes.{is_trimmed}
 use Rattle.dns_fields_text.specs.TypeMaps.{ends_nonzero, map_types, octet_types}
+use Rattle.dns_fields_text.specs.TypeNames.{type_word}
 use Rattle.dns_value_text.specs.declared.text_error.TextError.{TextError}
 use Rattle.dns_value_text.specs.declared.text_error.TextError.TheVariants.{BadWord, OutOfMemory}
 use Rattle.dns_fields_read.specs.TypeWords.{IsTypeWord}
@@ -33,6 +34,13 @@ pub record IsTypeMap (words : List (Bor (List ℕ))) (octets : List ℕ) : Type 
   pub types : AreTypes words
   pub blocks : AreBlocks 0 octets
   pub bits : (n : ℕ) → n < 2 ^ 16 → has (map_types octets) n ≡ true ↔ HasType words n
+
+-- the words are the printed words of these types
+abbrev pub AreTypeTexts : List (Bor (List ℕ)) → List ℕ → Type 0
+AreTypeTexts [] [] = Unit {0}
+AreTypeTexts [] (rtype ∷ types) = ⊥
+AreTypeTexts (word ∷ words) [] = ⊥
+AreTypeTexts (word ∷ words) (rtype ∷ types) = (word.now ≡ type_word rtype) × AreTypeTexts words types
 
 -- the octet of `count` types from `first` on, the first of which has the highest bit
 abbrev pub octet_bits : (ℕ → Bool) → ℕ → ℕ → ℕ
