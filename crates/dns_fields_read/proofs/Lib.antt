@@ -1,5 +1,6 @@
 mod AddressLaws
 mod Base32Lemmas
+mod BlockLemmas
 mod Calendar
 mod EuiLemmas
 mod LocatorLemmas
@@ -12,3 +13,5 @@ mod SaltLaws
 mod StringLaws
 mod TypeLaws
 mod TypeLemmas
+mod TypeMapLaws
+mod TypeMapLemmas

@@ -62,7 +62,7 @@ pub table_distinct : is_distinct table_mnemonics ≡ true
 unfolding table_mnemonics
 table_distinct = refl
 
-types_distinct : is_distinct type_mnemonics ≡ true
+pub types_distinct : is_distinct type_mnemonics ≡ true
 unfolding type_mnemonics
 types_distinct = refl
 
@@ -72,7 +72,7 @@ unfolding table_mnemonics
 not_numbered text k n h x = apart (codes "TYPE") text table_mnemonics k n refl h x
 
 -- a text of `Rtype` that is a mnemonic of the table has that number
-one_type : (text : List ℕ) (k n : ℕ) → IsMnemonic table_mnemonics text k → SpellsType text n → k ≡ n
+pub one_type : (text : List ℕ) (k n : ℕ) → IsMnemonic table_mnemonics text k → SpellsType text n → k ≡ n
 one_type text k n h s = elim s [
   | inl m ↦ same_number text table_mnemonics type_mnemonics k n tables_agree table_distinct types_distinct h m
   | inr x ↦ absurd (not_numbered text k n h x)

@@ -1,5 +1,6 @@
 -- What is printed of a value reads back as that value.
 use Rattle.std.specs.Prelude.{◌≡◌, ℕ, ◌<◌, ◌≤◌, ◌^◌, true, List, length, All}
+use Rattle.std.specs.Borrow.{Bor}
 use Rattle.std.specs.Net.Addr.{segments_of}
 use Rattle.std.specs.Net.Grammar.{IsDotted}
 use Rattle.std.specs.Net.Text.{ipv4_text, ipv6_text}
@@ -14,6 +15,7 @@ use Rattle.dns_value_text.specs.Time.{time_text}
 use Rattle.dns_fields_text.specs.FieldTexts.{salt_text}
 use Rattle.dns_fields_text.specs.PrefixItems.{PrefixItem}
 use Rattle.dns_fields_text.specs.Prefixes.{has_word, prefix_text}
+use Rattle.dns_fields_text.specs.TypeMaps.{map_types}
 use Rattle.dns_fields_text.specs.TypeNames.{type_word}
 use Rattle.dns_fields_text.specs.ZoneNames.{zone_name_text}
 use Rattle.dns_fields_read.specs.Addresses.{IsIpv6Word}
@@ -22,6 +24,7 @@ use Rattle.dns_fields_read.specs.LocatorWords.{IsLocatorWord}
 use Rattle.dns_fields_read.specs.PrefixWords.{IsPrefixWord}
 use Rattle.dns_fields_read.specs.Salts.{IsCounted, IsHashWord, IsSaltWord}
 use Rattle.dns_fields_read.specs.TimeWords.{IsTimeWord}
+use Rattle.dns_fields_read.specs.TypeMapWords.{AreBlocks, AreTypeTexts, IsTypeMap}
 use Rattle.dns_fields_read.specs.TypeWords.{IsTypeWord}
 
 -- record types
@@ -71,3 +74,7 @@ TimesReadBack = (seconds : ℕ) → seconds < 2 ^ 32 → IsTimeWord (time_text s
 -- address prefixes that have a presentation format
 abbrev pub PrefixesReadBack : Type 0
 PrefixesReadBack = (item : PrefixItem) → IsBytes item.address → has_word item ≡ true → IsPrefixWord (prefix_text item) item
+
+-- type bit maps of blocks in order, none of them empty or with zero octets at the end
+abbrev pub TypeMapsReadBack : Type 0
+TypeMapsReadBack = (words : List (Bor (List ℕ))) (octets : List ℕ) → AreBlocks 0 octets → AreTypeTexts words (map_types octets) → IsTypeMap words octets

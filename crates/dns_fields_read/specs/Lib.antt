@@ -8,4 +8,5 @@ pub mod PrefixWords
 pub mod Reading
 pub mod Salts
 pub mod TimeWords
+pub mod TypeMapWords
 pub mod TypeWords

@@ -11,6 +11,7 @@ mod name;
 mod prefix;
 mod salt;
 mod time;
+mod type_map;
 mod type_name;
 
 pub use address::{read_ipv4, read_ipv6};
@@ -20,4 +21,5 @@ pub use name::read_name;
 pub use prefix::read_prefixes;
 pub use salt::{read_hash, read_salt};
 pub use time::read_time;
+pub use type_map::read_type_map;
 pub use type_name::read_type;

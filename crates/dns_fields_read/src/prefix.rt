@@ -10,7 +10,7 @@ use dns_value_text::{TextError, read_number};
 use std::alloc::Global;
 
 /// The octets up to the last one that isn't zero.
-fn trimmed(octets: &[u8]) -> &[u8]
+pub(crate) fn trimmed(octets: &[u8]) -> &[u8]
     ensures trimmed { is_trimmed result.now ≡ true }
     ensures zeros { octets.now
         ≡ result.now ++ replicate (length octets.now - length result.now) 0 }

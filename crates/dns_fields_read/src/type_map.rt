@@ -1,0 +1,116 @@
+//! Type bit maps (RFC 4034 section 4.1.2).
+ghost use Rattle.std.specs.Prelude.{◌≡◌, ◌==◌, ◌≤◌, ◌+◌, ◌*◌, ◌/◌, ◌++◌, length};
+ghost use Rattle.std.specs.List.{list_any};
+ghost use Rattle.dns_fields_read.specs.TypeMapWords.{AppendsBlock, AppendsBlocks, AppendsTypes, IsTypeMap, has, octet_bits, octets_bits};
+ghost use Rattle.dns_value_text.specs.Reading.{ReadsOctets};
+
+use crate::prefix::trimmed;
+use crate::type_name::read_type;
+use arrayvec::ArrayVec;
+use dns_value_text::TextError;
+use std::alloc::Global;
+
+/// The octet of `count` types from `first` on, the first of which has the highest bit.
+fn octet_bits(types: &[u16], first: u32, count: u8) -> u8
+    requires few { count ≤ 8 }
+    requires types { first + count ≤ 65536 }
+    ensures { result ≡ octet_bits (has types.now) first count }
+{
+    if count == 0 {
+        return 0;
+    }
+    let low = octet_bits(types, first + 1, count - 1) / 2;
+    let rtype = first as u16;
+    if types.contains(&rtype) {
+        128 + low
+    } else {
+        low
+    }
+}
+
+/// Appends `count` octets of the types from `first` on.
+fn push_octets(octets: &mut ArrayVec<u8, 32>, types: &[u16], first: u32, count: u8)
+    requires room { length octets.old.items + count ≤ 32 }
+    requires types { first + 8 * count ≤ 65536 }
+    ensures { octets.new.items ≡ octets.old.items ++ octets_bits (has types.now) first count }
+{
+    if count == 0 {
+        return;
+    }
+    octets.push(octet_bits(types, first, 8));
+    push_octets(octets, types, first + 8, count - 1);
+}
+
+/// Whether one of the types is in the window.
+fn has_window(types: &[u16], window: u32) -> bool
+    ensures { result ≡ list_any (λ rtype. rtype / 256 == window) types.now }
+{
+    types.iter().any(|rtype| u32::from(*rtype) / 256 == window)
+}
+
+/// Appends the block of a window, if one of the types is in it.
+fn push_block(map: &mut Vec<u8>, types: &[u16], window: u8) -> Result<(), TextError>
+    ensures { AppendsBlock (has types.now) window map.old.items map.new.items result }
+{
+    if !has_window(types, u32::from(window)) {
+        return Ok(());
+    }
+    let mut octets = ArrayVec::new();
+    push_octets(&mut octets, types, u32::from(window) * 256, 32);
+    let bits = trimmed(octets.as_slice());
+    if bits.is_empty() {
+        return Ok(());
+    }
+    if map.extend_from_slice(&[window, bits.len() as u8]).is_err() {
+        return Err(TextError::OutOfMemory);
+    }
+    if map.extend_from_slice(bits).is_err() {
+        return Err(TextError::OutOfMemory);
+    }
+    Ok(())
+}
+
+/// Appends the blocks of the windows from this one on.
+fn push_blocks(map: &mut Vec<u8>, types: &[u16], window: u16) -> Result<(), TextError>
+    requires { window ≤ 256 }
+    ensures { AppendsBlocks (has types.now) window map.old.items map.new.items result }
+{
+    if window == 256 {
+        return Ok(());
+    }
+    match push_block(map, types, window as u8) {
+        Ok(()) => push_blocks(map, types, window + 1),
+        Err(error) => Err(error),
+    }
+}
+
+/// Appends the types of words.
+fn push_types(types: &mut Vec<u16>, words: &[&str]) -> Result<(), TextError>
+    ensures { AppendsTypes words.now types.old.items types.new.items result }
+{
+    let [word, after @ ..] = words else {
+        return Ok(());
+    };
+    let Some(rtype) = read_type(word) else {
+        return Err(TextError::BadWord);
+    };
+    if types.push(rtype.to_int()).is_err() {
+        return Err(TextError::OutOfMemory);
+    }
+    push_types(types, after)
+}
+
+/// The type bit map of the types of words.
+pub fn read_type_map(alloc: Global, words: &[&str]) -> Result<Vec<u8>, TextError>
+    ensures { ReadsOctets (IsTypeMap words.now) result }
+{
+    let mut types = Vec::new(alloc);
+    if let Err(error) = push_types(&mut types, words) {
+        return Err(error);
+    }
+    let mut map = Vec::new(alloc);
+    match push_blocks(&mut map, &types, 0) {
+        Ok(()) => Ok(map),
+        Err(error) => Err(error),
+    }
+}
