@@ -59,7 +59,7 @@ EXPECTED
 
 cat >"$build/expected_data" <<'EXPECTED'
 MX 10 mail.example.com.
-SRV 0 5 5222 chat.example.com.
+TYPE33 0 5 5222 chat.example.com.
 EXPECTED
 
 # The messages that the examples write, in hexadecimal.
