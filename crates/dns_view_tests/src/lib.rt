@@ -27,6 +27,8 @@ mod printed;
 #[cfg(test)]
 mod program;
 #[cfg(test)]
+mod rdata;
+#[cfg(test)]
 mod runs;
 #[cfg(test)]
 mod shown;
