@@ -1,5 +1,5 @@
 -- The layout of RDATA with these kinds of fields, and where a field is encoded.
-use Rattle.std.specs.Prelude.{◌≡◌, ℕ, ◌+◌, ◌<◌, ◌≤◌, ◌⊎◌, Bool, true, false, List, [], ◌∷◌, length, drop, slice_range}
+use Rattle.std.specs.Prelude.{◌≡◌, ℕ, ◌+◌, ◌<◌, ◌≤◌, ◌⊎◌, ◌&&◌, not, Bool, true, false, List, [], ◌∷◌, length, drop, slice_range}
 use Rattle.dns_name.specs.Names.{Fault, Labels, NameAt, NameEndsAt, FaultAt}
 use Rattle.dns_name.specs.Names.Fault.{ShortInput, Form}
 use Rattle.dns_wire.specs.Parts.{Part}
@@ -29,6 +29,17 @@ field_layout Rest test others = RestLayout test
 unfoldable pub layout_of : List Kind → Layout
 layout_of [] = End
 layout_of (kind ∷ kinds) = field_layout (shape_of kind) (accepts kind) (layout_of kinds)
+
+-- whether a field takes all remaining octets
+abbrev pub takes_rest : Shape → Bool
+takes_rest Rest = true
+takes_rest _ = false
+
+-- whether a field that takes all remaining octets is the last
+abbrev pub rest_is_last : List Kind → Bool
+rest_is_last [] = true
+rest_is_last (kind ∷ []) = true
+rest_is_last (kind ∷ next ∷ kinds) = not (takes_rest (shape_of kind)) && rest_is_last (next ∷ kinds)
 
 -- fields as RDATA: uncompressed they take at most 65,535 octets
 abbrev pub rdata_layout : List Kind → Layout

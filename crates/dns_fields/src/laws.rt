@@ -1,11 +1,12 @@
 //! Theorems on the record types. Each contract is a theorem.
-ghost use Rattle.std.specs.Prelude.{◌≡◌, Some, [], ◌∷◌, ◌++◌, map};
-ghost use Rattle.std.specs.List.{range_with_len};
+ghost use Rattle.std.specs.Prelude.{◌≡◌, Some, [], ◌∷◌, ◌++◌, map, true};
+ghost use Rattle.std.specs.List.{list_all, range_with_len};
 ghost use Rattle.dns_number.specs.Mnemonics.{mnemonic};
 ghost use Rattle.dns_number.specs.Registry.{registered_types};
+ghost use Rattle.dns_fields.specs.Layouts.{rest_is_last};
 ghost use Rattle.dns_fields.specs.NamesOfTypes.{types_with, may_be_compressed, may_have_pointer, is_lowercased};
 ghost use Rattle.dns_fields.specs.RecordTypes.{record_types};
-ghost use Rattle.dns_fields.specs.Table.{table_types};
+ghost use Rattle.dns_fields.specs.Table.{kinds_in, table_types};
 
 /// `TABLE` has the record types of `specs/RecordTypes.antt`: their numbers, mnemonics and fields.
 #[tactic(auto, unfolding(crate::specs::Table::table_types, crate::specs::RecordTypes::record_types))]
@@ -32,4 +33,10 @@ pub fn names_of_types()
         ++ (17 ∷ 18 ∷ 21 ∷ 24 ∷ 26 ∷ 30 ∷ 33 ∷ 35 ∷ []) }
     ensures lowercased { types_with is_lowercased ≡ range_with_len 2 8 ++ (12 ∷ 14 ∷ 15 ∷ [])
         ++ (17 ∷ 18 ∷ 21 ∷ 24 ∷ 26 ∷ 30 ∷ 33 ∷ 35 ∷ []) ++ (36 ∷ 39 ∷ 46 ∷ []) }
+{}
+
+/// If a field of a record type takes all remaining octets, it is the type's last.
+#[tactic(auto, unfolding(crate::specs::RecordTypes::record_types))]
+pub fn rest_fields_are_last()
+    ensures { list_all (λ type. rest_is_last (kinds_in type.fields)) record_types ≡ true }
 {}

@@ -1,8 +1,8 @@
 //! RDATA of a record type that is a list of fields of one's own.
-ghost use Rattle.std.specs.Prelude.{◌≡◌, ◌≤◌, ℕ, List};
+ghost use Rattle.std.specs.Prelude.{◌≡◌, ◌≤◌, ℕ, List, true};
 ghost use Rattle.dns_wire.specs.Parts.{parts_size};
 ghost use Rattle.dns_fields.specs.FieldData.{AreAt, parts_at};
-ghost use Rattle.dns_fields.specs.Layouts.{most};
+ghost use Rattle.dns_fields.specs.Layouts.{most, rest_is_last};
 ghost use Rattle.dns_fields.specs.Table.{Definition, definitions, kinds_in};
 
 use crate::compose::compose;
@@ -29,9 +29,11 @@ pub trait RecordFields {
     fn number() -> Rtype
         ensures { result ≡ number };
 
-    /// The names and kinds of the fields, in order.
+    /// The names and kinds of the fields, in order. If one takes all remaining octets, it is the
+    /// last.
     fn fields() -> &'static [(&'static str, Kind)]
-        ensures { definitions result.now ≡ defined };
+        ensures defined { definitions result.now ≡ defined }
+        ensures last { rest_is_last (kinds_in defined) ≡ true };
 }
 
 /// RDATA of the record type `T`, as a view of the message. Nothing is copied.
@@ -106,6 +108,12 @@ impl<'a, T: RecordFields> ParseRecordData<'a> for DataOf<'a, T> {
 impl<T: RecordFields> Copy for DataOf<'_, T> {}
 
 impl<T: RecordFields> Clone for DataOf<'_, T> {
+    ghost use Rattle.std.specs.Bool.{⊤};
+
+    ghost is_clone = { λ «data» clone. clone ≡ «data» };
+
+    ghost is_infallible = { λ _. ⊤ };
+
     fn clone(&self) -> Result<Self, AllocError> {
         Ok(*self)
     }

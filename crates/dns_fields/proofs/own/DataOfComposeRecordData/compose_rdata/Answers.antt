@@ -11,12 +11,12 @@ pub returns-clause-composes : goal.returns-clause-composes
 returns-clause-composes g c =
     let T = g.C.Composer in
     let d = c.args.self.now in
-    let h = data_at c.fields.result.now _ c.fields.ensures d.parser d.encoded in
+    let h = data_at c.fields.result.now _ c.fields.ensures.defined d.parser d.encoded in
     subst (λ (ps : List Part). Composes T.capacity T.grows (encode_parts T.rule ps) (T.written c.args.target.now) (T.written c.compose.new.target) {X = Unit {0}} c.compose.result)
     (as_they_are (own_parts_of d)) (c.compose.ensures h.0 (own_parts_of d) h.1)
 
 pub returns-clause-is_data : goal.returns-clause-is_data
 returns-clause-is_data g c =
     let d = c.args.self.now in
-    let h = data_at c.fields.result.now _ c.fields.ensures d.parser d.encoded in
+    let h = data_at c.fields.result.now _ c.fields.ensures.defined d.parser d.encoded in
     record { names = encoded_parts _ _ _ _ _ h.1; short = d.short }
