@@ -55,8 +55,8 @@ fn push_last(octets: &mut Vec<u8>, size: u8, number: u64) -> Result<(), TextErro
     Ok(())
 }
 
-/// The number of octets that this number of digits represents, and one more than the greatest number
-/// of their spare bits.
+/// The number of octets that this number of digits represents, and one more than the greatest
+/// number of their spare bits.
 fn group_size(digits: usize) -> Option<(u8, u64)>
     ensures { MatchOption result
         ((size spare : ℕ) → ¬ (IsGroupSize digits size spare))

@@ -1,5 +1,5 @@
-//! Values of record data from words of presentation format (RFC 1035 section 5.1). Numbers, octets and
-//! strings are read by `dns_value_text`.
+//! Values of record data from words of presentation format (RFC 1035 section 5.1). Numbers, octets
+//! and strings are read by `dns_value_text`.
 #![tactic(auto)]
 
 mod address;

@@ -203,7 +203,8 @@ pub mod data {
 /// }
 /// ```
 ///
-/// `limit_to::<DataOf<'_, WeightedHost>>()` then reads its records. The greatest weight:
+/// `limit_to::<DataOf<'_, WeightedHost>>()` then reads its records. The greatest weight before the
+/// first malformed one:
 ///
 /// ```rust
 /// for record in answers.limit_to::<DataOf<'_, WeightedHost>>() {

@@ -46,7 +46,8 @@ fn read_host<'a>(
     DataOf::parse_rdata(rtype, parser)
 }
 
-/// The greatest weight of a host in the answer section. Returns 0 if there is none.
+/// The greatest weight in the answer section, of the hosts before the first malformed one. Returns 0
+/// if there is none.
 fn greatest_weight<Octs: Octets>(message: &Message<Octs>) -> u64 {
     let mut greatest = 0;
     let Ok(answers) = message.answer() else {

@@ -3,8 +3,8 @@
 //! its length in two octets (RFC 1035 section 4.2.2).
 //!
 //! The contract of `print::print_transfer` says that each record of the answer sections is printed
-//! once, in order, up to the first that can't be read, by the text of `RecordText`, and that a
-//! transfer that ends early is reported.
+//! once, in order, up to the first that can't be read, by the text of `RecordText` if its RDATA is
+//! the fields of its type, and that a stream that ends within a message is reported.
 #![tactic(auto)]
 
 mod print;
