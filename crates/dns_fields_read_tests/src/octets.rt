@@ -1,0 +1,83 @@
+//! Words of octets.
+use dns_fields_read::{read_hash, read_prefixes, read_salt};
+use std::test::Fail;
+
+/// The test vectors of RFC 4648 section 10 for base32 with the extended hexadecimal alphabet, without
+/// their padding.
+const BASE32: &[(&str, &[u8])] = &[
+    ("CO", b"f"),
+    ("CPNG", b"fo"),
+    ("CPNMU", b"foo"),
+    ("CPNMUOG", b"foob"),
+    ("CPNMUOJ1", b"fooba"),
+    ("cpnmuoj1e8", b"foobar"),
+];
+
+/// No digits, other numbers of digits, other digits, and spare bits.
+const NOT_BASE32: &[&str] = &["", "C", "CPN", "CPNMUO", "CW", "CP", "CPNMUOJ1E"];
+
+#[test]
+fn hashes(rt: HostRuntime) -> Result<(), Fail> {
+    for (word, octets) in BASE32 {
+        let Ok(read) = read_hash(rt.alloc(), word) else {
+            panic!(rt; "no octets");
+        };
+        assert_eq!(rt; read.as_slice(), *octets);
+    }
+    for word in NOT_BASE32 {
+        assert!(rt; read_hash(rt.alloc(), word).is_err());
+    }
+    Ok(())
+}
+
+#[test]
+fn salts(rt: HostRuntime) -> Result<(), Fail> {
+    let Ok(salt) = read_salt(rt.alloc(), "aabbccdd") else {
+        panic!(rt; "no salt");
+    };
+    assert_eq!(rt; salt.as_slice(), b"\xaa\xbb\xcc\xdd".as_slice());
+    let Ok(empty) = read_salt(rt.alloc(), "-") else {
+        panic!(rt; "no salt");
+    };
+    assert_eq!(rt; empty.as_slice(), b"".as_slice());
+    assert!(rt; read_salt(rt.alloc(), "-a").is_err());
+    assert!(rt; read_salt(rt.alloc(), "").is_err());
+    Ok(())
+}
+
+/// The prefixes of RFC 3123 section 8.
+#[test]
+fn prefixes(rt: HostRuntime) -> Result<(), Fail> {
+    let words = ["1:192.168.32.0/21", "!1:192.168.38.0/28"];
+    let Ok(read) = read_prefixes(rt.alloc(), &words) else {
+        panic!(rt; "no prefixes");
+    };
+    assert_eq!(rt;
+        read.as_slice(),
+        b"\x00\x01\x15\x03\xc0\xa8\x20\x00\x01\x1c\x83\xc0\xa8\x26".as_slice()
+    );
+    let Ok(multicast) = read_prefixes(rt.alloc(), &["2:FF00:0:0:0:0:0:0:0/8"]) else {
+        panic!(rt; "no prefixes");
+    };
+    assert_eq!(rt; multicast.as_slice(), b"\x00\x02\x08\x01\xff".as_slice());
+    Ok(())
+}
+
+/// A size and families that don't exist, and missing parts.
+const NOT_PREFIXES: &[&str] = &[
+    "1:192.168.32.0/33",
+    "3:192.168.32.0/21",
+    "01:192.168.32.0/21",
+    "1:192.168.32.0",
+    "192.168.32.0/21",
+    "!!1:192.168.32.0/21",
+    "1:::/21",
+];
+
+#[test]
+fn words_of_no_prefix(rt: HostRuntime) -> Result<(), Fail> {
+    for word in NOT_PREFIXES {
+        assert!(rt; read_prefixes(rt.alloc(), &[*word]).is_err());
+    }
+    Ok(())
+}
