@@ -1,5 +1,5 @@
 //! Words of octets.
-use dns_fields_read::{read_hash, read_prefixes, read_salt};
+use dns_fields_read::{read_hash, read_prefixes, read_salt, read_type_map};
 use std::test::Fail;
 
 /// The test vectors of RFC 4648 section 10 for base32 with the extended hexadecimal alphabet, without
@@ -80,4 +80,18 @@ fn words_of_no_prefix(rt: HostRuntime) -> Result<(), Fail> {
         assert!(rt; read_prefixes(rt.alloc(), &[*word]).is_err());
     }
     Ok(())
+}
+
+/// The types of RFC 4034 section 4.3, in another order.
+#[test]
+fn type_maps(rt: HostRuntime) {
+    let words = ["TYPE1234", "mx", "A", "NSEC", "RRSIG"];
+    let Ok(map) = read_type_map(rt.alloc(), &words) else {
+        panic!(rt; "no map");
+    };
+    assert_eq!(rt;
+        map.as_slice(),
+        b"\x00\x06\x40\x01\x00\x00\x00\x03\x04\x1b\x00\x00\x00\x00\x00\x00\x00\x00\x00\x00\x00\x00\x00\x00\x00\x00\x00\x00\x00\x00\x00\x00\x00\x00\x00\x00\x20".as_slice()
+    );
+    assert!(rt; read_type_map(rt.alloc(), &["A", "TYPE65536"]).is_err());
 }
