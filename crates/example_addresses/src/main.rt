@@ -24,8 +24,8 @@ fn main(rt: HostRuntime) -> Result<()> {
     Ok(())
 }
 
-/// Prints a line for each A record of the answer section, with its owner and its address, up to the
-/// first record that can't be read.
+/// Prints a line for each A record of the answer section: its owner and its address, or that it is
+/// malformed. A record that can't be read has the last line.
 fn print_addresses<W: Write>(output: &mut W, message: &Message<Vec<u8>>) -> io::Result<()>
     ensures { OnOk result (Appends (W.contents output.old) (W.contents output.new)
         (addresses_text (message_octets message.now))) }
