@@ -1,5 +1,5 @@
 -- Text in a caller's buffer, and the text of RDATA. RFC 1035 section 5.1, RFC 3597 section 5.
-use Rattle.std.specs.Prelude.{◌≡◌, ◌⊎◌, ℕ, ◌≤◌, ◌-◌, ◌^◌, Bool, true, false, List, [], ◌∷◌, ◌++◌, drop, length, take, min, Option, Some, None}
+use Rattle.std.specs.Prelude.{◌≡◌, ℕ, ◌≤◌, ◌-◌, ◌^◌, Bool, true, false, List, [], ◌∷◌, ◌++◌, drop, length, take, min, Option, Some, None}
 use Rattle.std.specs.List.{flat_map}
 use Rattle.dns_name.specs.Names.{Fault, Labels}
 use Rattle.dns_name.specs.NameTexts.{dot, name_text}
@@ -46,14 +46,14 @@ abbrev pub has_plain_fields : ℕ → Option (List Part) → Bool
 has_plain_fields rtype None = true
 has_plain_fields rtype (Some parts) = are_plain (named_parts (definitions_of rtype) parts)
 
--- A text of RDATA: its fields, or its octets if it is malformed. RDATA may also have the text of its octets if a field is no number, IPv4 address or name.
-abbrev pub IsDataText : EncodedRecord → List ℕ → Type 0
-IsDataText r text =
-    let parts : Option (List Part) = data_parts r (type_layout r.entry.rtype) in
-    (text ≡ rdata_text r parts) ⊎ ((has_plain_fields r.entry.rtype parts ≡ false) × (text ≡ rdata_text r None))
+-- the parts of a record's RDATA as the fields of its type; none if it is malformed
+abbrev pub field_parts : EncodedRecord → Option (List Part)
+field_parts r = data_parts r (type_layout r.entry.rtype)
 
--- a text of the RDATA of the record at offset p
-pub record RecordDataText (b : List ℕ) (p : ℕ) (text : List ℕ) : Type 0 where
-  pub entry : RecordEntry
-  pub there : RecordAt b p entry
-  pub is_text : IsDataText (record { octets = b; entry = entry }) text
+-- the text of RDATA: its fields, or its octets if it is malformed
+abbrev pub data_text : List ℕ → RecordEntry → List ℕ
+data_text b x = let r : EncodedRecord = record { octets = b; entry = x } in rdata_text r (field_parts r)
+
+-- the record x has RDATA with a field that is no number, IPv4 address or name
+abbrev pub HasOtherField : List ℕ → RecordEntry → Type 0
+HasOtherField b x = has_plain_fields x.rtype (field_parts (record { octets = b; entry = x })) ≡ false

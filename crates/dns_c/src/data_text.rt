@@ -1,14 +1,14 @@
 //! The text of a record's RDATA.
-ghost use Rattle.std.specs.Prelude.{◌≡◌, ◌≢◌, ◌++◌, ℕ, List, decimal, false, Err, IfOk, IfErr, IfSome, IsNone};
+ghost use Rattle.std.specs.Prelude.{◌≡◌, ◌≢◌, ◌++◌, decimal, false, Err, IfOk, IfErr, IfSome, IsNone};
 ghost use Rattle.dns_name.specs.Names.{fault_of};
 ghost use Rattle.dns_data.specs.Printing.{opaque_text};
 ghost use Rattle.dns_fields_text.specs.DataTexts.{data_fields, data_line};
-ghost use Rattle.dns_item.specs.Items.{RecordFaultAt};
+ghost use Rattle.dns_item.specs.Items.{RecordEntry, RecordFaultAt};
 ghost use Rattle.dns_item.specs.ParsedRecord.{octets_of, parsed_entry, encoded_record};
 ghost use Rattle.dns_tool.specs.Show.{IsRead};
 ghost use Rattle.dns_c.specs.Codes.{number_of};
 ghost use Rattle.dns_c.specs.PlainFields.{are_plain};
-ghost use Rattle.dns_c.specs.Texts.{Holds, IsDataText, NoRecordAt, RecordAt, RecordDataText, data_octets};
+ghost use Rattle.dns_c.specs.Texts.{HasOtherField, Holds, NoRecordAt, RecordAt, data_octets, data_text};
 
 use crate::code::Fault;
 use crate::name_fault::fault_at;
@@ -61,35 +61,40 @@ fn write_fields(data: &FieldData<'_>, out: &mut [u8]) -> Option<End>
     }
 }
 
-/// Writes RDATA by its fields, or as octets if it is malformed.
-fn write_data(found: &ParsedRecord<'_>, opaque: &[u8], out: &mut [u8]) -> End
+/// Writes RDATA by its fields, or as octets if it is malformed. Formatting never fails, as writing
+/// to the buffer never fails.
+fn write_data(found: &ParsedRecord<'_>, opaque: &[u8], out: &mut [u8]) -> Result<End, Fault>
     requires read { IsRead (encoded_record found.now) }
     requires opaque { opaque.now ≡ data_octets (octets_of found.now) (parsed_entry found.now) }
-    ensures { (text : List ℕ) × IsDataText (encoded_record found.now) text
-        × Holds out.new text result }
+    ensures text { IfOk result (λ end.
+        Holds out.new (data_text (octets_of found.now) (parsed_entry found.now)) end) }
+    ensures none { IfErr result (λ fault. (fault ≡ Fault.Unformatted)
+        × HasOtherField (octets_of found.now) (parsed_entry found.now)) }
 {
     let Ok(record) = found.to_any_record::<FieldData<'_>>() else {
-        return write_opaque(opaque, out);
+        return Ok(write_opaque(opaque, out));
     };
     match write_fields(record.data(), out) {
-        Some(end) => end,
-        None => write_opaque(opaque, out),
+        Some(end) => Ok(end),
+        None => Err(Fault::Unformatted),
     }
 }
 
 /// Writes the RDATA of a record. A question has none.
 pub(crate) fn data(octets: &[u8], item: &Item, out: &mut [u8]) -> Result<End, Fault>
     ensures question { item.now.section ≡ 0 → result ≡ Err Fault.BadSection }
-    ensures text { IfOk result (λ end. (text : List ℕ)
-        × RecordDataText octets.now item.now.place text × Holds out.new text end) }
-    ensures none { IfErr result (λ fault. item.now.section ≢ 0
+    ensures text { IfOk result (λ end. (x : RecordEntry) × RecordAt octets.now item.now.place x
+        × Holds out.new (data_text octets.now x) end) }
+    ensures none { IfErr result (λ fault. item.now.section ≢ 0 → fault ≢ Fault.Unformatted
         → NoRecordAt octets.now item.now.place (number_of fault)) }
+    ensures unformatted { result ≡ Err Fault.Unformatted → (x : RecordEntry)
+        × RecordAt octets.now item.now.place x × HasOtherField octets.now x }
 {
     if item.section == 0 {
         return Err(Fault::BadSection);
     }
     match record_at(octets, item.place) {
-        Ok((found, opaque)) => Ok(write_data(&found, opaque, out)),
+        Ok((found, opaque)) => write_data(&found, opaque, out),
         Err(error) => Err(fault_at(octets, item.place, error)),
     }
 }

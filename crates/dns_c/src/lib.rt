@@ -19,7 +19,7 @@ mod text;
 mod walk;
 mod words;
 
-ghost use Rattle.std.specs.Prelude.{ℕ, List, ◌≡◌, ◌≢◌, ◌<◌, ◌≤◌, ◌+◌, ◌-◌, ◌^◌, ◌++◌, ◌∷◌, [], length, take, min, get_or, None, true};
+ghost use Rattle.std.specs.Prelude.{◌≡◌, ◌≢◌, ◌<◌, ◌≤◌, ◌+◌, ◌-◌, ◌^◌, ◌++◌, ◌∷◌, [], length, take, min, get_or, None, true};
 ghost use Rattle.dns_name.specs.NameTexts.{SpellsName, name_text};
 ghost use Rattle.dns_name.specs.Names.{Labels, NameAt, NameEndsAt, uncompressed};
 ghost use Rattle.dns_wire.specs.Encoders.{Tree};
@@ -27,6 +27,7 @@ ghost use Rattle.dns_code.specs.Header.{fields_in};
 ghost use Rattle.dns_code.specs.HeaderSection.{header_size};
 ghost use Rattle.dns_number.specs.Classes.{class_text};
 ghost use Rattle.dns_number.specs.Types.{type_text};
+ghost use Rattle.dns_item.specs.Items.{RecordEntry};
 ghost use Rattle.dns_opt.specs.Options.{OptionBegins, encode_option};
 ghost use Rattle.dns_question.specs.Questions.{QuestionItem};
 ghost use Rattle.dns_c.specs.Built.{HasTooMany, IsBuilt, IsUnbuilt, header_of};
@@ -36,7 +37,7 @@ ghost use Rattle.dns_c.specs.Made.{AsksNothing, AsksOne, HoldsQuery, IsLonger, I
 ghost use Rattle.dns_c.specs.Opts.{HasFields, IsOpt, LacksOption, data_from, option_at};
 ghost use Rattle.dns_c.specs.Statuses.{status_text};
 ghost use Rattle.dns_c.specs.Steps.{IsOpen, Opens, Spans, GivesNext};
-ghost use Rattle.dns_c.specs.Texts.{NoRecordAt, RecordDataText};
+ghost use Rattle.dns_c.specs.Texts.{HasOtherField, NoRecordAt, RecordAt, data_text};
 
 use build::NewItem;
 use code::Fault;
@@ -131,7 +132,8 @@ pub extern "C" fn dnsm_name_octets(
 }
 
 /// Writes the RDATA of a record in presentation format, and a zero octet: by the fields of its
-/// type, or as octets (RFC 3597 section 5) if it is malformed.
+/// type, or as octets (RFC 3597 section 5) if it is malformed. `Unformatted` is never returned, as
+/// writing to the buffer never fails.
 #[unsafe(no_mangle)]
 pub extern "C" fn dnsm_data_text(
     message: &[u8],
@@ -142,15 +144,17 @@ pub extern "C" fn dnsm_data_text(
     ensures length { length out.new ≡ length out.old }
     ensures empty { result ≢ 0 → result ≢ number_of Fault.NoRoom → len.new ≡ 0 }
     ensures ended { result ≡ 0 → (len.new < length out.new) × (get_or out.new len.new 1 ≡ 0) }
-    ensures text { result ≡ 0 → (text : List ℕ)
-        × RecordDataText message.now item.now.place text
-        × (take (len.new + 1) out.new ≡ text ++ 0 ∷ []) }
-    ensures no_room { result ≡ number_of Fault.NoRoom → (text : List ℕ)
-        × RecordDataText message.now item.now.place text
-        × (length out.old < length text + 1) × (len.new ≡ min (length text) (2 ^ 64 - 1)) }
+    ensures text { result ≡ 0 → (x : RecordEntry) × RecordAt message.now item.now.place x
+        × (take (len.new + 1) out.new ≡ data_text message.now x ++ 0 ∷ []) }
+    ensures no_room { result ≡ number_of Fault.NoRoom → (x : RecordEntry)
+        × RecordAt message.now item.now.place x
+        × (length out.old < length (data_text message.now x) + 1)
+        × (len.new ≡ min (length (data_text message.now x)) (2 ^ 64 - 1)) }
     ensures question { item.now.section ≡ 0 → result ≡ number_of Fault.BadSection }
     ensures no_record { item.now.section ≢ 0 → result ≢ 0 → result ≢ number_of Fault.NoRoom
-        → NoRecordAt message.now item.now.place result }
+        → result ≢ number_of Fault.Unformatted → NoRecordAt message.now item.now.place result }
+    ensures unformatted { result ≡ number_of Fault.Unformatted → (x : RecordEntry)
+        × RecordAt message.now item.now.place x × HasOtherField message.now x }
     ensures reported { result ≢ 0 → (fault : Fault) × (result ≡ number_of fault) }
 {
     match data_text::data(message, item, out) {
