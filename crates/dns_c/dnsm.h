@@ -251,9 +251,9 @@ dnsm_status dnsm_respond_a(const uint8_t *query, size_t query_len, bool authorit
                            uint8_t *out, size_t out_len, size_t *len);
 
 /* A question or a record to write. The name is text (see "Names as text"). The data is RDATA in wire format, with names
- * uncompressed. For the 65 types of dnsm_data_text it has to be the fields of the type, whatever the class; for other types it
- * may be any octets. A record of class NONE (254) or ANY (255) may also have no data (RFC 2136 section 2.4). The TTL is in
- * seconds. TTL and data of a question are ignored. */
+ * uncompressed. For the 65 types of dnsm_data_text it has to be the fields of the type, whatever the class, without compression
+ * pointers, which RDATA within a message may have; for other types it may be any octets. A record of class NONE (254) or ANY
+ * (255) may also have no data (RFC 2136 section 2.4). The TTL is in seconds. TTL and data of a question are ignored. */
 typedef struct dnsm_new_item {
     const char *name;
     size_t name_len;

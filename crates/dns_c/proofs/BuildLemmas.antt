@@ -7,6 +7,7 @@ use Rattle.dns_name.proofs.theory.NameTextFaults.{one_text_name}
 use Rattle.dns_wire.specs.Encoders.{Rule}
 use Rattle.dns_wire.specs.Parts.{Part}
 use Rattle.dns_data.proofs.theory.DataReading.{one_rdata_or_fault}
+use Rattle.dns_fields.specs.DataOrders.{octets_of_parts}
 use Rattle.dns_fields.specs.FieldData.{type_layout}
 use Rattle.dns_item.specs.ParsedData.{no_fault}
 use Rattle.dns_octets.specs.declared.error.AppendError.{AppendError}
@@ -26,7 +27,7 @@ use Rattle.dns_build.specs.declared.push_error.PushError.TheVariants as pushing
 use Rattle.dns_c.specs.Codes.{append_fault, number_of, push_fault}
 use Rattle.dns_c.specs.Made.{SpellsNoName}
 use Rattle.dns_c.specs.Walk.{section_at}
-use Rattle.dns_c.specs.Built.{NewEntry, Question, Record, Means, AllMean, IsQuestionOf, IsRecordOf, IsDataOf, HasNoFields, layout_type, LacksFields, IsRefused, FirstRefused, ReturnsRecordPush, RefusesHeader, RefusesQuestion, RefusesRecord, RefusesEntry, IsUnbuilt, HasTooMany, beginning_of, questions_among, records_among}
+use Rattle.dns_c.specs.Built.{NewEntry, Question, Record, Means, AllMean, IsQuestionOf, IsRecordOf, IsDataOf, AreFieldsOf, HasNoFields, layout_type, LacksFields, IsRefused, FirstRefused, ReturnsRecordPush, RefusesHeader, RefusesQuestion, RefusesRecord, RefusesEntry, IsUnbuilt, HasTooMany, beginning_of, questions_among, records_among}
 use Rattle.dns_c.specs.declared.build.NewItem.{NewItem}
 use Rattle.dns_c.specs.declared.code.Fault.TheVariants.{BadSection, BadText, LongData, BadData, NoRoom, TooMany}
 
@@ -40,14 +41,15 @@ same_question item x y h k =
     λ i. record { name = name i; rtype = rtype i; class = class i }
 
 -- its RDATA has one list of parts
-same_parts : (item : NewItem) (xs ys : List Part) → IsDataOf item xs → IsDataOf item ys → xs ≡ ys
-same_parts item xs ys h k =
+same_fields : (item : NewItem) (xs ys : List Part) → AreFieldsOf item xs → AreFieldsOf item ys → xs ≡ ys
+same_fields item xs ys h k =
     let b = item.rdata.now in
     ((one_rdata_or_fault b (type_layout (layout_type item)) 0 (omega arith)).one (length b) (length b) xs ys h k).1
 
 -- and then it has fields
 has_fields : (item : NewItem) (xs : List Part) → IsDataOf item xs → HasNoFields item → ⊥
-has_fields item xs h none = no_fault item.rdata.now (type_layout (layout_type item)) 0 (omega arith) xs none.fault h none.malformed
+has_fields item xs h (inl none) = no_fault item.rdata.now (type_layout (layout_type item)) 0 (omega arith) xs none.0 h.fields none.1
+has_fields item xs h (inr pointed) = pointed.2 (ap octets_of_parts (sym (same_fields item xs pointed.0 h.fields pointed.1)) ∙ h.uncompressed)
 
 same_record : (item : NewItem) (x y : RecordItem) → IsRecordOf item x → IsRecordOf item y → x ≡ y
 same_record item x y h k =
@@ -55,7 +57,7 @@ same_record item x y h k =
     let rtype : x.rtype ≡ y.rtype = h.rtype ∙ sym k.rtype in
     let class : x.class ≡ y.class = h.class ∙ sym k.class in
     let ttl : x.ttl ≡ y.ttl = h.ttl ∙ sym k.ttl in
-    let parts : x.parts ≡ y.parts = same_parts item x.parts y.parts h.parts k.parts in
+    let parts : x.parts ≡ y.parts = same_fields item x.parts y.parts h.parts.fields k.parts.fields in
     λ i. record { owner = owner i; rtype = rtype i; class = class i; ttl = ttl i; parts = parts i }
 
 -- the remaining items, at an index and at the end

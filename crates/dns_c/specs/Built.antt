@@ -1,5 +1,5 @@
 -- What `dnsm_build` writes for the items that C passes, and why it fails. RFC 1035 section 4.1.
-use Rattle.std.specs.Prelude.{◌≡◌, ◌<◌, ◌≤◌, ◌⊎◌, ◌++◌, ◌==◌, ◌||◌, ◌&&◌, if◌then◌else◌, ℕ, Bool, List, [], ◌∷◌, length, Option, Some, None, Result, Err}
+use Rattle.std.specs.Prelude.{◌≡◌, ◌≢◌, ◌<◌, ◌≤◌, ◌⊎◌, ◌++◌, ◌==◌, ◌||◌, ◌&&◌, if◌then◌else◌, ℕ, Bool, List, [], ◌∷◌, length, Option, Some, None, Result, Err}
 use Rattle.std.specs.Int.{to_be_bytes, w16}
 use Rattle.std.specs.List.{filter_map}
 use Rattle.dns_octets.specs.declared.error.AppendError.{AppendError}
@@ -12,6 +12,7 @@ use Rattle.dns_code.specs.Header.{HeaderFields, fields_in}
 use Rattle.dns_code.specs.HeaderSection.{header_size}
 use Rattle.dns_question.specs.Questions.{QuestionItem}
 use Rattle.dns_data.specs.Layout.{DataAt}
+use Rattle.dns_fields.specs.DataOrders.{octets_of_parts}
 use Rattle.dns_fields.specs.FieldData.{type_layout}
 use Rattle.dns_item.specs.Items.{RecordItem}
 use Rattle.dns_item.specs.RecordReading.{WholeDataFaultAt}
@@ -45,14 +46,20 @@ pub record IsQuestionOf (item : NewItem) (x : QuestionItem) : Type 0 where
 abbrev pub layout_type : NewItem → ℕ
 layout_type item = if ((item.class == 254) || (item.class == 255)) && (length item.rdata.now == 0) then 10 else item.rtype
 
--- the parts of an item's RDATA: the fields of its type, which take all its octets
-abbrev pub IsDataOf : NewItem → List Part → Type 0
-IsDataOf item parts = DataAt item.rdata.now (type_layout (layout_type item)) 0 (length item.rdata.now) parts
+-- an item's octets are these parts: the fields of its type, which take all the octets. A name may have a pointer.
+abbrev pub AreFieldsOf : NewItem → List Part → Type 0
+AreFieldsOf item parts = DataAt item.rdata.now (type_layout (layout_type item)) 0 (length item.rdata.now) parts
 
--- its octets aren't these fields
-pub record HasNoFields (item : NewItem) : Type 0 where
-  pub fault : Fault
-  pub malformed : WholeDataFaultAt item.rdata.now (type_layout (layout_type item)) 0 fault
+-- the parts of an item's RDATA: these fields, and the octets are the parts uncompressed, so there is no pointer. RFC 1035 section 4.1.4
+pub record IsDataOf (item : NewItem) (parts : List Part) : Type 0 where
+  pub fields : AreFieldsOf item parts
+  pub uncompressed : octets_of_parts parts ≡ item.rdata.now
+
+-- its octets aren't these fields; or they are, but not uncompressed
+abbrev pub HasNoFields : NewItem → Type 0
+HasNoFields item =
+    ((fault : Fault) × WholeDataFaultAt item.rdata.now (type_layout (layout_type item)) 0 fault)
+    ⊎ ((parts : List Part) × AreFieldsOf item parts × (octets_of_parts parts ≢ item.rdata.now))
 
 -- an item as a record: also its TTL and its RDATA
 pub record IsRecordOf (item : NewItem) (x : RecordItem) : Type 0 where

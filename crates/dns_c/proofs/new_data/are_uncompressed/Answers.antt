@@ -1,0 +1,36 @@
+use Rattle.std.proofs.Common.{◌≡◌, ◌∙◌, ◌∷◌, [], ◌++◌, List, ℕ, ap, sym, rules}
+use Rattle.dns_fields.specs.FieldParts.{NamedPart, fields_left, named_part}
+use Rattle.dns_fields_text.specs.DataTexts.{data_fields}
+use Rattle.dns_c.proofs.NewDataLemmas.{all_compared, more_octets, none_compared, one_compared, other_field}
+use Rattle.dns_c.proofs.new_data.are_uncompressed.Goals as goal
+
+pub loop-field-init : goal.loop-field-init
+loop-field-init c = record {
+  can = tt;
+  finite = tt;
+  compared = none_compared _ _ _ _ (search rules) (search rules);
+}
+
+pub loop-field-preserved : goal.loop-field-preserved
+loop-field-preserved c =
+    let left : fields_left c.loop-field.field-iterator ≡ named_part c.in-Some.field ∷ fields_left c.next.new.self = search rules in
+    record {
+      can = tt;
+      finite = tt;
+      compared = one_compared _ _ _ _ _ _ left c.loop-field.invariant.compared _ c.in-Some-octets_after.ensures.after;
+    }
+
+pub returns-in_default-clause-other : goal.returns-in_default-clause-other
+returns-in_default-clause-other c is same =
+    let left : fields_left c.loop-field.field-iterator ≡ named_part c.in-Some.field ∷ fields_left c.next.new.self = search rules in
+    other_field _ _ _ _ _ _ left c.loop-field.invariant.compared (c.octets_after.ensures.other (search rules)) (c.fields_are_all.ensures c.args.fields.now ∙ same)
+
+pub returns-clause-are : goal.returns-clause-are
+returns-clause-are c is =
+    let none : fields_left c.loop-field.field-iterator ≡ [] = search rules in
+    sym (c.fields_are_all.ensures c.args.fields.now) ∙ all_compared _ _ _ _ none c.loop-field.invariant.compared (sym c.is_empty.ensures ∙ is)
+
+pub returns-clause-other : goal.returns-clause-other
+returns-clause-other c is same =
+    let none : fields_left c.loop-field.field-iterator ≡ [] = search rules in
+    more_octets _ _ _ _ none c.loop-field.invariant.compared (sym c.is_empty.ensures ∙ is) (c.fields_are_all.ensures c.args.fields.now ∙ same)
