@@ -95,13 +95,9 @@ pub data ShowsFields (b : List ℕ) : List table.Field → Option rows.Fault →
   stops : {field : table.Field} {fields : List table.Field} {p offset : ℕ} {fault : rows.Fault} {rows : List Row}
       → FieldStops b field p offset fault rows → ShowsFields b (field ∷ fields) (Some fault) p offset rows
 
--- the row of an option's data from p to q; none if it has no octets
-abbrev pub option_data_rows : ℕ → ℕ → ℕ → List Row
-option_data_rows code p q = if nat_lt p q then field_row p q (OptionData code) ∷ [] else []
-
--- the rows of an option at p: its code, its length, and its data of `len` octets. RFC 6891 section 6.1.2.
+-- the rows of an option at p: its code, its length, and its data of `len` octets, if there are any. RFC 6891 section 6.1.2.
 abbrev pub option_rows : ℕ → ℕ → ℕ → List Row
-option_rows code len p = field_row p (p + 2) OptionCode ∷ field_row (p + 2) (p + 4) (OptionLength code) ∷ option_data_rows code (p + 4) (p + 4 + len)
+option_rows code len p = field_row p (p + 2) OptionCode ∷ field_row (p + 2) (p + 4) (OptionLength code) ∷ octets_rows (p + 4) (p + 4 + len) (OptionData code)
 
 -- an option extends from p to q, and has these rows
 pub record ShowsOption (b : List ℕ) (p q : ℕ) (rows : List Row) : Type 0 where
