@@ -8,7 +8,7 @@ use Rattle.std.proofs.lemmas.Option.{slice_get_cases}
 use Rattle.std.specs.Int.{w16}
 use Rattle.dns_name.specs.Parsers.{number_at}
 use Rattle.dns_fields.specs.Table as table
-use Rattle.dns_rows.specs.Data.{octets_rows, option_data_rows, option_rows, opt_type, FormStops, LacksOption, ShowsData, ShowsFields, ShowsForm, ShowsName, ShowsOctets, ShowsOption, TextRows}
+use Rattle.dns_rows.specs.Data.{octets_rows, option_rows, opt_type, FormStops, LacksOption, ShowsData, ShowsFields, ShowsForm, ShowsName, ShowsOctets, ShowsOption, TextRows}
 use Rattle.dns_rows.specs.Data.TextRows.{none as no_text, text}
 use Rattle.dns_rows.specs.Data.ShowsData.{fields as field_data, options as option_data}
 use Rattle.dns_rows.specs.Data.ShowsFields.{none as no_fields, field as more_fields, stops as no_field}
@@ -210,7 +210,7 @@ option_stops old mid new fault h some k =
     }
 
 -- option data that has octets has a row
-data_row : (code p q : ℕ) → p < q → option_data_rows code p q ≡ field_row p q (OptionData code) ∷ []
+data_row : (code p q : ℕ) → p < q → octets_rows p q (OptionData code) ≡ field_row p q (OptionData code) ∷ []
 data_row code p q some = grind (arith, nat_tests, common_steps)
 
 -- an option whose code, length or data is incomplete
@@ -219,7 +219,7 @@ cut_code old new fault h same =
     let p = at old in
     let code = number_at w16 (octets old) p in
     let len = number_at w16 (octets old) (p + 2) in
-    cut_here p 2 (p + 2) OptionCode (field_row (p + 2) (p + 4) (OptionLength code) ∷ option_data_rows code (p + 4) (p + 4 + len)) old new fault h same refl refl
+    cut_here p 2 (p + 2) OptionCode (field_row (p + 2) (p + 4) (OptionLength code) ∷ octets_rows (p + 4) (p + 4 + len) (OptionData code)) old new fault h same refl refl
 
 pub cut_len : (n : ℕ) (old mid new : Walk) (fault : RowFault) → Adds (field_row (at old) (at old + 2) OptionCode ∷ []) (at old + 2) old mid → n ≡ number_at w16 (octets old) (at old)
     → LacksField (OptionLength n) (octets mid) (at mid + 2) fault → new ≡ mid → MissesOption old new fault
@@ -227,8 +227,8 @@ cut_len n old mid new fault h read k same =
     let p = at old in
     let len = number_at w16 (octets old) (p + 2) in
     let grown : p + 4 ≡ p + 2 + 2 = omega arith in
-    let rows : ℕ → List Row = λ code. field_row (p + 2) (p + 4) (OptionLength code) ∷ option_data_rows code (p + 4) (p + 4 + len) in
-    let cut : CutsFields (rows n) mid new fault = cut_here (p + 2) 2 (p + 4) (OptionLength n) (option_data_rows n (p + 4) (p + 4 + len)) mid new fault k same h.offset grown in
+    let rows : ℕ → List Row = λ code. field_row (p + 2) (p + 4) (OptionLength code) ∷ octets_rows (p + 4) (p + 4 + len) (OptionData code) in
+    let cut : CutsFields (rows n) mid new fault = cut_here (p + 2) 2 (p + 4) (OptionLength n) (octets_rows (p + 4) (p + 4 + len) (OptionData n)) mid new fault k same h.offset grown in
     cut_after (field_row p (p + 2) OptionCode ∷ []) (rows (number_at w16 (octets old) p)) (p + 2) old mid new fault h (subst (λ code. CutsFields (rows code) mid new fault) read cut)
 
 pub cut_value : (n size : ℕ) (old mid last new : Walk) (fault : RowFault) → Adds (field_row (at old) (at old + 2) OptionCode ∷ []) (at old + 2) old mid → n ≡ number_at w16 (octets old) (at old)
@@ -243,7 +243,7 @@ cut_value n size old mid last new fault h read k sized l same =
     let some : p + 4 < p + 4 + size = omega (arith, l.1, walk_within last, both.offset) in
     let one = subst (λ rows. CutsFields rows last new fault) (sym (data_row n (p + 4) (p + 4 + size) some)) cut in
     let whole : CutsFields (option_rows n size p) old new fault =
-    cut_after (front ++ field_row (p + 2) (p + 4) (OptionLength n) ∷ []) (option_data_rows n (p + 4) (p + 4 + size)) (p + 4) old last new fault both one in
+    cut_after (front ++ field_row (p + 2) (p + 4) (OptionLength n) ∷ []) (octets_rows (p + 4) (p + 4 + size) (OptionData n)) (p + 4) old last new fault both one in
     let sized_there : size ≡ number_at w16 (octets old) (p + 2) = sized ∙ ap (λ b. number_at w16 b (at mid)) h.seen ∙ ap (λ p. number_at w16 (octets old) p) h.offset in
     let P : ℕ → ℕ → Type 0 = λ code len. CutsFields (option_rows code len p) old new fault in
     subst (λ code. P code (number_at w16 (octets old) (p + 2))) read (subst (λ len. P n len) sized_there whole)

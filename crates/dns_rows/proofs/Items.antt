@@ -5,7 +5,7 @@ use Rattle.std.specs.Prelude.{Result, Ok, Err}
 use Rattle.dns_name.specs.Names.{Fault}
 use Rattle.dns_name.specs.Names.Fault.{ShortInput}
 use Rattle.dns_name.specs.Parsers.{number_at}
-use Rattle.dns_rows.specs.Data.{ShowsData}
+use Rattle.dns_rows.specs.Data.{layout_type, ShowsData}
 use Rattle.dns_rows.specs.Walks.StopsWithin.{missing, stopped}
 use Rattle.dns_question.specs.AfterNames.FieldsFaultAt.{name as name_fault, short as short_fields}
 use Rattle.dns_code.specs.HeaderCounts.{Counts}
@@ -17,7 +17,7 @@ use Rattle.dns_section.specs.RecordsFrom.{records_from}
 use Rattle.dns_section.proofs.theory.QuestionsFromLemmas.{questions_from_are_read}
 use Rattle.dns_section.proofs.theory.RecordsFromLemmas.{records_from_are_read}
 use Rattle.dns_item.specs.Items.LacksRecord.{fields as lacks_fields, rdata as lacks_data}
-use Rattle.dns_rows.specs.Entries.{all_parts, class_rows, count_of, data_fault, holds_records, item_row, number_rows, opt_rows, question_rows, reading_from, record_rows, DataStops, Entry, ItemStops, LacksItem, PartStarts, ReadingRows, RecordStops, ShowsItem, ShowsParts, ShowsQuestion, ShowsRecord, StopsItem}
+use Rattle.dns_rows.specs.Entries.{all_parts, class_rows, count_of, data_fault, data_type, holds_records, item_row, number_rows, opt_rows, question_rows, reading_from, record_rows, DataStops, Entry, ItemStops, LacksItem, PartStarts, ReadingRows, RecordStops, ShowsItem, ShowsParts, ShowsQuestion, ShowsRecord, StopsItem}
 use Rattle.dns_rows.specs.Entries.LacksItem.{name as name_lacks, short as fields_lack}
 use Rattle.dns_rows.specs.Entries.ReadingRows.{none, entry, stops}
 use Rattle.dns_rows.specs.Entries.ShowsParts.{none as no_more, all as all_shown, fault as fault_among}
@@ -225,17 +225,26 @@ entry_of owner b r rtype len = record {
   rdata_end = r + 10 + len;
 }
 
-abbrev reads_record : (row : Row) (rtype len : ℕ) (old a b : Walk) (h : CoversItemName names.Owner row old a) → CoversNumbers rtype len a b → at a + 10 + len ≤ length (octets old)
+abbrev reads_record : (row : Row) (rtype class len : ℕ) (old a b : Walk) (h : CoversItemName names.Owner row old a) → CoversNumbers rtype class len a b → at a + 10 + len ≤ length (octets old)
     → ReadsRecord (octets old) (at old) (at a + 10 + len) (entry_of h.labels (octets old) (at a) rtype len)
-reads_record row rtype len old a b h k there =
+reads_record row rtype class len old a b h k there =
     let rtype_there : rtype ≡ number_at w16 (octets old) (at a) = subst (λ b. rtype ≡ number_at w16 b (at a)) h.adds.seen k.rtype_there in
     let len_there : len ≡ number_at w16 (octets old) (at a + 8) = subst (λ b. len ≡ number_at w16 b (at a + 8)) h.adds.seen k.len_there in
     let end : at a + 10 + len ≡ at a + (10 + number_at w16 (octets old) (at a + 8)) = omega (arith, len_there) in
     record { skips = record { name_end = at a; name_ends = h.name_ends; end = end; within = there }; owner = h.encoded; rtype = rtype_there; class = refl; ttl = refl; rdata_start = refl; rdata_end = refl }
 
+-- the type whose fields its RDATA has
+abbrev typed : (row : Row) (rtype class len : ℕ) (old a b : Walk) (h : CoversItemName names.Owner row old a) → CoversNumbers rtype class len a b
+    → layout_type class len rtype ≡ data_type (entry_of h.labels (octets old) (at a) rtype len)
+typed row rtype class len old a b h k =
+    let r = at a in
+    let class_there : class ≡ number_at w16 (octets old) (r + 2) = subst (λ b. class ≡ number_at w16 b (r + 2)) h.adds.seen k.class_there in
+    let size : len ≡ r + 10 + len - (r + 10) = omega arith in
+    ap (λ class. layout_type class len rtype) class_there ∙ ap (λ n. layout_type (number_at w16 (octets old) (r + 2)) n rtype) size
+
 -- the RDATA of a record is incomplete
-data_cut : (rtype len : ℕ) (a b new : Walk) → CoversNumbers rtype len a b → length (octets b) < at b + len → new ≡ b → CutsFields (record_rows (octets a) (at a)) a new (Short fields.Data)
-data_cut rtype len a b new k short same =
+data_cut : (rtype class len : ℕ) (a b new : Walk) → CoversNumbers rtype class len a b → length (octets b) < at b + len → new ≡ b → CutsFields (record_rows (octets a) (at a)) a new (Short fields.Data)
+data_cut rtype class len a b new k short same =
     let r = at a in
     let rdata = field_row (r + 10) (r + 10 + len) fields.Data ∷ [] in
     let cut = cut_here (r + 10) len (r + 10 + len) fields.Data [] b new (Short fields.Data) (refl, short) same k.adds.offset refl in
@@ -244,18 +253,19 @@ data_cut rtype len a b new k short same =
     subst (λ n. P n (number_at w16 (octets a) (r + 8))) k.rtype_there (subst (λ m. P rtype m) k.len_there whole)
 
 -- a record whose RDATA is incomplete, or can't be read
-pub data_stops : (part : Part) (number rtype len : ℕ) (old a b new : Walk) (fault : RowFault) → IsTrue (holds_records part) → CoversItemName names.Owner (item_row part number (at old)) old a
-    → CoversNumbers rtype len a b → StopsWithin rtype len b new fault → MarksStop part number old new fault
-data_stops part number rtype len old a b new _ records h k (missing short same) =
+pub data_stops : (part : Part) (number rtype class len : ℕ) (old a b new : Walk) (fault : RowFault) → IsTrue (holds_records part) → CoversItemName names.Owner (item_row part number (at old)) old a
+    → CoversNumbers rtype class len a b → StopsWithin (layout_type class len rtype) len b new fault → MarksStop part number old new fault
+data_stops part number rtype class len old a b new _ records h k (missing short same) =
     let size = ap length k.adds.seen in
     let lacks : LacksRecord (octets a) (at a) = lacks_data k.within (omega (arith, short, k.len_there, size, k.adds.offset)) in
-    record_short part number old a new (Short fields.Data) records h (data_cut rtype len a b new k short same) lacks
-data_stops part number rtype len old a b new _ records h k (stopped stop there w left) =
+    record_short part number old a new (Short fields.Data) records h (data_cut rtype class len a b new k short same) lacks
+data_stops part number rtype class len old a b new _ records h k (stopped stop there w left) =
     let r = at a in
     let seen = k.adds.seen ∙ h.adds.seen in
     let same = ap length seen in
     let there_too : r + 10 + len ≤ length (octets old) = omega (arith, there, same, k.adds.offset) in
-    let P : List ℕ → ℕ → Type 0 = λ b p. ShowsData (take (p + len) b) rtype stop p (at new) w.rows in
+    let P : List ℕ → ℕ → Type 0 = λ b p. ShowsData (take (p + len) b) (layout_type class len rtype) stop p (at new) w.rows in
+    let Q : ℕ → Type 0 = λ n. ShowsData (take (r + 10 + len) (octets old)) n stop (r + 10) (at new) w.rows in
     let x = entry_of h.labels (octets old) r rtype len in
     let row = item_row part number (at old) in
     let front = row ∷ h.rows in
@@ -265,12 +275,12 @@ data_stops part number rtype len old a b new _ records h k (stopped stop there w
     let adds = w.adds ∙ ap (λ rows. rows ++ w.rows) named.rows ∙ append_assoc old.rows.items (front ++ number_rows rtype r) w.rows ∙ ap (λ rows. old.rows.items ++ rows) joined in
     let stops : DataStops (octets old) x (at old) (at new) (data_fault stop) others = record {
       end = r + 10 + len;
-      reads = reads_record row rtype len old a b h k there_too;
+      reads = reads_record row rtype class len old a b h k there_too;
       owner_rows = h.rows;
       owner = h.shows;
       data_rows = w.rows;
       stop = stop;
-      value = subst (λ p. P (octets old) p) k.adds.offset (subst (λ o. P o (at b)) seen w.shows);
+      value = subst Q (typed row rtype class len old a b h k) (subst (λ p. P (octets old) p) k.adds.offset (subst (λ o. P o (at b)) seen w.shows));
       left_over = λ e. omega (arith, left e, k.adds.offset);
       reported = refl;
       made = refl;
@@ -278,10 +288,10 @@ data_stops part number rtype len old a b new _ records h k (stopped stop there w
     marks_stop part number others old new (data_fault stop) adds (record_stops (octets old) part (at old) (at new) (data_fault stop) others records (Ok x, stops))
 
 -- a record with an owner, its numbers and its RDATA
-pub marks_record : (part : Part) (number rtype len : ℕ) (old a b new : Walk) → IsTrue (holds_records part) → CoversItemName names.Owner (item_row part number (at old)) old a
-    → CoversNumbers rtype len a b → MarksWithin rtype len None b new → octets new ≡ octets b → at new ≡ at b + len → at b + len ≤ length (octets b)
+pub marks_record : (part : Part) (number rtype class len : ℕ) (old a b new : Walk) → IsTrue (holds_records part) → CoversItemName names.Owner (item_row part number (at old)) old a
+    → CoversNumbers rtype class len a b → MarksWithin (layout_type class len rtype) len None b new → octets new ≡ octets b → at new ≡ at b + len → at b + len ≤ length (octets b)
     → MarksItem part number old new
-marks_record part number rtype len old a b new records h k g seen offset within =
+marks_record part number rtype class len old a b new records h k g seen offset within =
     let r = at a in
     let same : length (octets b) ≡ length (octets old) = ap length (k.adds.seen ∙ h.adds.seen) in
     let there : r + 10 + len ≤ length (octets old) = omega (arith, within, k.adds.offset, same) in
@@ -290,16 +300,17 @@ marks_record part number rtype len old a b new records h k g seen offset within 
     let front = item_row part number (at old) ∷ h.rows in
     let rows = front ++ (number_rows rtype r ++ g.rows) in
     let joined : (front ++ number_rows rtype r) ++ g.rows ≡ rows = append_assoc front (number_rows rtype r) g.rows in
-    let P : List ℕ → ℕ → ℕ → Type 0 = λ b from to. ShowsData (take (from + len) b) rtype None from to g.rows in
+    let P : List ℕ → ℕ → ℕ → Type 0 = λ b from to. ShowsData (take (from + len) b) (layout_type class len rtype) None from to g.rows in
+    let Q : ℕ → Type 0 = λ n. ShowsData (take (r + 10 + len) (octets old)) n None (r + 10) (r + 10 + len) g.rows in
     let value : P (octets old) (r + 10) (r + 10 + len) =
     subst (λ from. P (octets old) from (r + 10 + len)) k.adds.offset (subst (λ o. P o (at b) (r + 10 + len)) (k.adds.seen ∙ h.adds.seen) (subst (λ to. P (octets b) (at b) to) to g.shows)) in
     let x = entry_of h.labels (octets old) r rtype len in
     let shows : ShowsRecord (octets old) part number x (at old) (r + 10 + len) rows = record {
-      reads = reads_record (item_row part number (at old)) rtype len old a b h k there;
+      reads = reads_record (item_row part number (at old)) rtype class len old a b h k there;
       owner_rows = h.rows;
       owner = h.shows;
       data_rows = g.rows;
-      value = value;
+      value = subst Q (typed (item_row part number (at old)) rtype class len old a b h k) value;
       made = refl;
     } in
     let whole = record_shows (octets old) part number x (at old) (r + 10 + len) rows records shows in

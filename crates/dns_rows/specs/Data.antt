@@ -3,7 +3,7 @@
 -- `b` is the octets of the message up to the end of the RDATA.
 use Rattle.dns_name.specs.Parsers.{number_at}
 use Rattle.std.specs.Int.{w16}
-use Rattle.std.specs.Prelude.{◌≡◌, ℕ, ◌+◌, ◌<◌, ◌≤◌, if◌then◌else◌, List, [], ◌∷◌, ◌++◌, length, slice_get, Option, Some, None, nat_lt}
+use Rattle.std.specs.Prelude.{◌≡◌, ℕ, ◌+◌, ◌<◌, ◌≤◌, ◌==◌, ◌||◌, ◌&&◌, if◌then◌else◌, List, [], ◌∷◌, ◌++◌, length, slice_get, Option, Some, None, nat_lt}
 use Rattle.dns_name.specs.Names.{Fault, Labels, NameAt, NameEndsAt}
 use Rattle.dns_fields.specs.Table as table
 use Rattle.dns_rows.specs.Faults.{LacksName}
@@ -95,13 +95,9 @@ pub data ShowsFields (b : List ℕ) : List table.Field → Option rows.Fault →
   stops : {field : table.Field} {fields : List table.Field} {p offset : ℕ} {fault : rows.Fault} {rows : List Row}
       → FieldStops b field p offset fault rows → ShowsFields b (field ∷ fields) (Some fault) p offset rows
 
--- the row of an option's data from p to q; none if it has no octets
-abbrev pub option_data_rows : ℕ → ℕ → ℕ → List Row
-option_data_rows code p q = if nat_lt p q then field_row p q (OptionData code) ∷ [] else []
-
--- the rows of an option at p: its code, its length, and its data of `len` octets. RFC 6891 section 6.1.2.
+-- the rows of an option at p: its code, its length, and its data of `len` octets, if there are any. RFC 6891 section 6.1.2.
 abbrev pub option_rows : ℕ → ℕ → ℕ → List Row
-option_rows code len p = field_row p (p + 2) OptionCode ∷ field_row (p + 2) (p + 4) (OptionLength code) ∷ option_data_rows code (p + 4) (p + 4 + len)
+option_rows code len p = field_row p (p + 2) OptionCode ∷ field_row (p + 2) (p + 4) (OptionLength code) ∷ octets_rows (p + 4) (p + 4 + len) (OptionData code)
 
 -- an option extends from p to q, and has these rows
 pub record ShowsOption (b : List ℕ) (p q : ℕ) (rows : List Row) : Type 0 where
@@ -131,6 +127,14 @@ pub data ShowsOptions (b : List ℕ) (p : ℕ) : Option rows.Fault → ℕ → L
 -- the type of OPT records. RFC 6891 section 6.1.1.
 abbrev pub opt_type : ℕ
 opt_type = 41
+
+-- the type of NULL records, whose RDATA may be any octets. RFC 1035 section 3.3.10.
+abbrev pub null_type : ℕ
+null_type = 10
+
+-- The type whose fields RDATA of `len` octets has: its own. But it is NULL if the class is NONE (254) or ANY (255) and there are no octets, as an update deletes or asks by it. RFC 2136 section 2.4.
+abbrev pub layout_type : ℕ → ℕ → ℕ → ℕ
+layout_type class len rtype = if ((class == 254) || (class == 255)) && (len == 0) then null_type else rtype
 
 -- The rows of the RDATA of a record of this type, from p to q: those of options, or those of the fields that the type has by its definition. If there is a fault, the rows end where the field that can't be read begins, or where a name can't be read further.
 pub data ShowsData (b : List ℕ) (rtype : ℕ) : Option rows.Fault → ℕ → ℕ → List Row → Type 0 where

@@ -1,7 +1,7 @@
 -- The rows of what reading the sections of a message gives: of questions and records, one for each field, up to a fault. RFC 1035 sections 4.1.1 to 4.1.4.
 --
 -- `b` is the octets of the message.
-use Rattle.std.specs.Prelude.{◌≡◌, ℕ, suc, ◌+◌, ◌<◌, ◌==◌, Bool, true, false, if◌then◌else◌, List, [], ◌∷◌, ◌++◌, Option, Some, None, Result, Ok, Err}
+use Rattle.std.specs.Prelude.{◌≡◌, ℕ, suc, ◌+◌, ◌-◌, ◌<◌, ◌==◌, Bool, true, false, if◌then◌else◌, List, [], ◌∷◌, ◌++◌, Option, Some, None, Result, Ok, Err}
 use Rattle.std.specs.Int.{w16}
 use Rattle.dns_name.specs.Names.{Fault, Labels, NameAt, NameEndsAt}
 use Rattle.dns_name.specs.Names.Fault.{ShortInput}
@@ -13,7 +13,7 @@ use Rattle.dns_item.specs.RecordReading.{up_to_rdata_end}
 use Rattle.dns_section.specs.QuestionsFrom.{questions_from}
 use Rattle.dns_section.specs.RecordsFrom.{records_from}
 use Rattle.dns_section.specs.Sections.{question_count, answer_count, authority_count, additional_count, AnswersStart, AuthoritiesStart, AdditionalsStart}
-use Rattle.dns_rows.specs.Data.{opt_type, ShowsData}
+use Rattle.dns_rows.specs.Data.{layout_type, opt_type, ShowsData}
 use Rattle.dns_rows.specs.Faults.{LacksName}
 use Rattle.dns_rows.specs.Fields.{field_row, CutRows}
 use Rattle.dns_rows.specs.Named.{NameRows}
@@ -54,13 +54,17 @@ class_rows rtype p = if rtype == opt_type then opt_rows p else field_row p (p + 
 abbrev pub number_rows : ℕ → ℕ → List Row
 number_rows rtype r = field_row r (r + 2) fields.Type ∷ (class_rows rtype (r + 2) ++ field_row (r + 8) (r + 10) fields.RdLength ∷ [])
 
+-- the type whose fields the RDATA of a record has
+abbrev pub data_type : RecordEntry → ℕ
+data_type x = layout_type x.class (x.rdata_end - x.rdata_start) x.rtype
+
 -- a record extends from p to q, and has these rows: where it begins, its owner, its numbers, and the fields of its RDATA
 pub record ShowsRecord (b : List ℕ) (part : Part) (number : ℕ) (x : RecordEntry) (p q : ℕ) (rows : List Row) : Type 0 where
   pub reads : ReadsRecord b p q x
   pub owner_rows : List Row
   pub owner : NameRows b names.Owner p p reads.skips.name_end owner_rows
   pub data_rows : List Row
-  pub value : ShowsData (up_to_rdata_end b x) x.rtype None x.rdata_start x.rdata_end data_rows
+  pub value : ShowsData (up_to_rdata_end b x) (data_type x) None x.rdata_start x.rdata_end data_rows
   pub made : let r = reads.skips.name_end in
       rows ≡ item_row part number p ∷ (owner_rows ++ (number_rows x.rtype r ++ data_rows))
 
@@ -77,7 +81,7 @@ pub record DataStops (b : List ℕ) (x : RecordEntry) (p offset : ℕ) (fault : 
   pub owner : NameRows b names.Owner p p reads.skips.name_end owner_rows
   pub data_rows : List Row
   pub stop : Option rows.Fault
-  pub value : ShowsData (up_to_rdata_end b x) x.rtype stop x.rdata_start offset data_rows
+  pub value : ShowsData (up_to_rdata_end b x) (data_type x) stop x.rdata_start offset data_rows
   pub left_over : stop ≡ None → offset < x.rdata_end
   pub reported : fault ≡ data_fault stop
   pub made : shown ≡ owner_rows ++ (number_rows x.rtype reads.skips.name_end ++ data_rows)

@@ -171,10 +171,11 @@ pub record CutsFields (whole : List Row) (old new : Walk) (fault : rows.Fault) :
   pub cut : CutRows (octets old) whole (at new) fault rows
 
 -- the walk went over the numbers of a record, whose type and RDLENGTH are these
-pub record CoversNumbers (rtype len : ℕ) (old new : Walk) : Type 0 where
+pub record CoversNumbers (rtype class len : ℕ) (old new : Walk) : Type 0 where
   pub adds : Adds (number_rows rtype (at old)) (at old + 10) old new
   pub within : at old + 10 ≤ length (octets old)
   pub rtype_there : rtype ≡ number_at w16 (octets old) (at old)
+  pub class_there : class ≡ number_at w16 (octets old) (at old + 2)
   pub len_there : len ≡ number_at w16 (octets old) (at old + 8)
 
 -- the walk went over an item

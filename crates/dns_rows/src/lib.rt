@@ -8,10 +8,13 @@
 //! be read, or all fields before the first that is incomplete. Then come the row of the fault,
 //! which says what is wrong, and the row of the remaining octets.
 //!
-//! The fields of RDATA are those of the record type in `dns_fields::TABLE`, and the options of OPT.
+//! The fields of RDATA are those that `dns_fields::fields_of` returns for the record type, and the
+//! options of OPT. A type that isn't in the table has one field, `data`. RDATA of no octets in class
+//! NONE or ANY has no fields, as an update deletes or asks by it (RFC 2136 section 2.4).
+//!
 //! A name is shown with its pointer also where its type allows none. A field that takes all
 //! remaining octets is one row whatever they are, unless it has character strings, which are a row
-//! each.
+//! each. It has no row if no octets remain.
 #![tactic(auto)]
 
 mod form;

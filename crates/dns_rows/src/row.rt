@@ -57,7 +57,7 @@ pub enum NameOf {
     Question,
     /// The owner of a record.
     Owner,
-    /// The name that is this field of RDATA, by the field's name in `dns_fields::TABLE`.
+    /// The name that is this field of RDATA, by the field's name in `dns_fields::fields_of`.
     Field(&'static str),
 }
 
@@ -88,7 +88,8 @@ pub enum Field {
     RdLength,
     /// RDATA as a whole.
     Data,
-    /// A field of RDATA that isn't a name, with its name and its kind in `dns_fields::TABLE`.
+    /// A field of RDATA that isn't a name, with its name and its kind in `dns_fields::fields_of`.
+    /// Types that aren't in the table have one such field, `data`. A field of no octets has no row.
     Named(&'static str, FieldKind),
     /// A character string with its length octet, in a field of character strings.
     Text,

@@ -11,6 +11,7 @@ ghost use Rattle.dns_rows.specs.Faults.{StopsName};
 ghost use Rattle.dns_rows.specs.Fields.{items_at, IsField, field_row};
 ghost use Rattle.dns_rows.specs.Forms.{form_at, rest_form};
 ghost use Rattle.dns_rows.specs.Entries.{all_parts, class_rows, holds_records, item_row, number_rows, opt_rows};
+ghost use Rattle.dns_rows.specs.Data.{layout_type};
 ghost use Rattle.dns_rows.specs.Walks.{at, octets, items, sum_of, AreCountsOf, IsMarked, Comes, CutsFields, Adds, OnFault, OnFaultOf, LacksField, LacksFields, IsEnd, IsLabelAt, HasName, CoversAllLabels, CoversEnd, CoversName, CoversItemName, MissesName, MissesItemName, MissesOption, CoversNumbers, MarksItem, MarksStop, MarksFirst, MarksAmong, MarksParts, MarksData, MarksFields, MarksOptions, MarksWithin, StopsData, StopsFields, StopsOptions, StopsWithin, CoversAllTexts, CoversField, CoversOctets, CoversOption, MissesField, MissesOctets, MissesText};
 
 use crate::form::Form;
@@ -31,6 +32,17 @@ const MAX_SIZE: usize = 254;
 pub(crate) enum Stop {
     Fault(Fault),
     Memory,
+}
+
+/// The type whose fields RDATA of `len` octets has. It is NULL for RDATA of no octets in class NONE
+/// or ANY, as an update deletes or asks by it (RFC 2136 section 2.4).
+fn layout_type(rtype: Rtype, class: u16, len: u16) -> Rtype
+    ensures { result ≡ layout_type class len rtype }
+{
+    if matches!(class, 254 | 255) && len == 0 {
+        return Rtype::NULL;
+    }
+    rtype
 }
 
 /// An offset in a message, after its header section, with the rows of the fields before it.
@@ -341,34 +353,38 @@ impl<'a> Walk<'a> {
         self.item(part, number, NameOf::Owner)?;
         match self.record_fields() {
             Ok(numbers) => {
-                self.within(numbers.0, usize::from(numbers.1))?;
+                let rtype = layout_type(numbers.0, numbers.1, numbers.2);
+                self.within(rtype, usize::from(numbers.2))?;
                 Ok(())
             }
             Err(stop) => Err(stop),
         }
     }
 
-    /// Walks over the ten octets after the owner of a record, and returns the record's type and
-    /// RDLENGTH.
-    fn record_fields(&mut self) -> Result<(Rtype, u16), Stop>
+    /// Walks over the ten octets after the owner of a record, and returns the record's type, class
+    /// and RDLENGTH.
+    fn record_fields(&mut self) -> Result<(Rtype, u16, u16), Stop>
         requires { IsMarked self.old }
         ensures comes { Comes 0 self.old self.new }
         ensures covers { IfOk result
-            (λ numbers. CoversNumbers numbers.0 numbers.1 self.old self.new) }
+            (λ numbers. CoversNumbers numbers.0 numbers.1 numbers.2 self.old self.new) }
         ensures short { OnFaultOf result (LacksFields (octets self.old) (at self.old + 10)) }
         ensures cuts { OnFaultOf result (CutsFields (number_rows
             (number_at w16 (octets self.old) (at self.old)) (at self.old)) self.old self.new) }
     {
         let rtype = Rtype::from_int(self.number(Field::Type)?);
-        self.class_and_ttl(rtype)?;
+        let class = self.class_and_ttl(rtype)?;
         let len = self.number(Field::RdLength)?;
-        Ok((rtype, len))
+        Ok((rtype, class, len))
     }
 
-    /// Walks over the fields between TYPE and RDLENGTH of a record.
-    fn class_and_ttl(&mut self, rtype: Rtype) -> Result<(), Stop>
+    /// Walks over the fields between TYPE and RDLENGTH of a record, and returns its class, in place
+    /// of which an OPT record has the UDP payload size.
+    fn class_and_ttl(&mut self, rtype: Rtype) -> Result<u16, Stop>
         requires { IsMarked self.old }
         ensures comes { Comes 0 self.old self.new }
+        ensures class { IfOk result
+            (λ class. class ≡ number_at w16 (octets self.old) (at self.old)) }
         ensures adds { OnOk result (Adds (class_rows rtype (at self.old))
             (at self.old + 6) self.old self.new) }
         ensures short { OnFaultOf result (LacksFields (octets self.old) (at self.old + 6)) }
@@ -376,28 +392,30 @@ impl<'a> Walk<'a> {
             (CutsFields (class_rows rtype (at self.old)) self.old self.new) }
     {
         if rtype == Rtype::OPT {
-            self.opt_fields()?;
-        } else {
-            self.number(Field::Class)?;
-            self.octets(4, Field::Ttl)?;
+            return self.opt_fields();
         }
-        Ok(())
+        let class = self.number(Field::Class)?;
+        self.octets(4, Field::Ttl)?;
+        Ok(class)
     }
 
-    /// Walks over the fields that an OPT record has there (RFC 6891 section 6.1.2).
-    fn opt_fields(&mut self) -> Result<(), Stop>
+    /// Walks over the fields that an OPT record has there, and returns the UDP payload size (RFC
+    /// 6891 section 6.1.2).
+    fn opt_fields(&mut self) -> Result<u16, Stop>
         requires { IsMarked self.old }
         ensures comes { Comes 0 self.old self.new }
+        ensures size { IfOk result
+            (λ size. size ≡ number_at w16 (octets self.old) (at self.old)) }
         ensures adds { OnOk result (Adds (opt_rows (at self.old))
             (at self.old + 6) self.old self.new) }
         ensures short { OnFaultOf result (LacksFields (octets self.old) (at self.old + 6)) }
         ensures cuts { OnFaultOf result (CutsFields (opt_rows (at self.old)) self.old self.new) }
     {
-        self.number(Field::PayloadSize)?;
+        let size = self.number(Field::PayloadSize)?;
         self.octets(1, Field::ExtendedRcode)?;
         self.octets(1, Field::Version)?;
         self.octets(2, Field::OptFlags)?;
-        Ok(())
+        Ok(size)
     }
 
     /// Walks over the RDATA of a record, of `len` octets.

@@ -32,3 +32,5 @@ mod rdata;
 mod runs;
 #[cfg(test)]
 mod shown;
+#[cfg(test)]
+mod updates;

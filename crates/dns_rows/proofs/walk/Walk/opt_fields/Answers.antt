@@ -8,8 +8,8 @@ use Rattle.dns_rows.proofs.Items.{opt_cut_2, opt_cut_3, opt_cut_4}
 use Rattle.dns_rows.proofs.Stops.{on_fault_2}
 use Rattle.dns_rows.proofs.walk.Walk.opt_fields.Goals as goal
 
-pub returns-in_err-number-clause-cuts : goal.returns-in_err-number-clause-cuts
-returns-in_err-number-clause-cuts c =
+pub returns-in_err-size-clause-cuts : goal.returns-in_err-size-clause-cuts
+returns-in_err-size-clause-cuts c =
     let old = c.args.self.now in
     let new = c.number.new.self in
     let p = at old in
@@ -23,7 +23,7 @@ returns-in_err-octets-clause-cuts c =
     let a = c.number.new.self in
     let new = c.octets.new.self in
     on_fault_2 c.from_residual-in_err-octets.result (LacksField ExtendedRcode (octets a) (at a + 1)) (λ _. new ≡ a) (CutsFields (opt_rows (at old)) old new)
-    (λ fault h same. opt_cut_2 old a new fault c.in_ok-number.ensures.adds h same) (search rules) (search rules)
+    (λ fault h same. opt_cut_2 old a new fault c.in_ok-size.ensures.adds h same) (search rules) (search rules)
 
 pub returns-in_err-octets-2-clause-cuts : goal.returns-in_err-octets-2-clause-cuts
 returns-in_err-octets-2-clause-cuts c =
@@ -32,7 +32,7 @@ returns-in_err-octets-2-clause-cuts c =
     let b = c.octets.new.self in
     let new = c.octets-2.new.self in
     on_fault_2 c.from_residual-in_err-octets-2.result (LacksField Version (octets b) (at b + 1)) (λ _. new ≡ b) (CutsFields (opt_rows (at old)) old new)
-    (λ fault h same. opt_cut_3 old a b new fault c.in_ok-number.ensures.adds c.in_ok-octets.ensures.adds h same) (search rules) (search rules)
+    (λ fault h same. opt_cut_3 old a b new fault c.in_ok-size.ensures.adds c.in_ok-octets.ensures.adds h same) (search rules) (search rules)
 
 pub returns-in_err-octets-3-clause-cuts : goal.returns-in_err-octets-3-clause-cuts
 returns-in_err-octets-3-clause-cuts c =
@@ -42,4 +42,4 @@ returns-in_err-octets-3-clause-cuts c =
     let d = c.octets-2.new.self in
     let new = c.octets-3.new.self in
     on_fault_2 c.from_residual-in_err-octets-3.result (LacksField OptFlags (octets d) (at d + 2)) (λ _. new ≡ d) (CutsFields (opt_rows (at old)) old new)
-    (λ fault h same. opt_cut_4 old a b d new fault c.in_ok-number.ensures.adds c.in_ok-octets.ensures.adds c.in_ok-octets-2.ensures.adds h same) (search rules) (search rules)
+    (λ fault h same. opt_cut_4 old a b d new fault c.in_ok-size.ensures.adds c.in_ok-octets.ensures.adds c.in_ok-octets-2.ensures.adds h same) (search rules) (search rules)

@@ -29,17 +29,19 @@ returns-in_err-within-in-Ok-clause-stops c =
     let a = c.item.new.self in
     let b = c.record_fields.new.self in
     let new = c.within.new.self in
-    on_fault c.from_residual-in_err-within-in-Ok.result (StopsWithin c.in-Ok.numbers.0 c.from.result b new) (MarksStop c.args.part c.args.number old new)
+    on_fault c.from_residual-in_err-within-in-Ok.result (StopsWithin c.layout_type-rtype.result c.from.result b new) (MarksStop c.args.part c.args.number old new)
     (λ fault h.
-    let P : ℕ → Type 0 = λ len. StopsWithin c.in-Ok.numbers.0 len b new fault in
-    data_stops c.args.part c.args.number c.in-Ok.numbers.0 c.in-Ok.numbers.1 old a b new fault c.requires.part c.in_ok-item.ensures.covers c.in-Ok.ensures.covers (subst P c.from.ensures h)) (search rules)
+    let P : ℕ → Type 0 = λ len. StopsWithin c.layout_type-rtype.result len b new fault in
+    let R : ℕ → Type 0 = λ n. StopsWithin n c.in-Ok.numbers.2 b new fault in
+    data_stops c.args.part c.args.number c.in-Ok.numbers.0 c.in-Ok.numbers.1 c.in-Ok.numbers.2 old a b new fault c.requires.part c.in_ok-item.ensures.covers c.in-Ok.ensures.covers (subst R c.layout_type-rtype.ensures (subst P c.from.ensures h))) (search rules)
 
 pub returns-in_ok-within-in-Ok-clause-shows : goal.returns-in_ok-within-in-Ok-clause-shows
 returns-in_ok-within-in-Ok-clause-shows c =
     let b = c.record_fields.new.self in
     let new = c.within.new.self in
     let P : ℕ → Type 0 = λ len. at b + len ≤ length (octets b) in
-    let Q : ℕ → Type 0 = λ len. MarksWithin c.in-Ok.numbers.0 len None b new in
-    marks_record c.args.part c.args.number c.in-Ok.numbers.0 c.in-Ok.numbers.1 c.args.self.now c.item.new.self b new c.requires.part
-    c.in_ok-item.ensures.covers c.in-Ok.ensures.covers (subst Q c.from.ensures c.in_ok-within-in-Ok.ensures.shows) c.in_ok-within-in-Ok.ensures.seen
+    let Q : ℕ → Type 0 = λ len. MarksWithin c.layout_type-rtype.result len None b new in
+    let R : ℕ → Type 0 = λ n. MarksWithin n c.in-Ok.numbers.2 None b new in
+    marks_record c.args.part c.args.number c.in-Ok.numbers.0 c.in-Ok.numbers.1 c.in-Ok.numbers.2 c.args.self.now c.item.new.self b new c.requires.part
+    c.in_ok-item.ensures.covers c.in-Ok.ensures.covers (subst R c.layout_type-rtype.ensures (subst Q c.from.ensures c.in_ok-within-in-Ok.ensures.shows)) c.in_ok-within-in-Ok.ensures.seen
     (c.in_ok-within-in-Ok.ensures.offset ∙ ap (λ n. at b + n) c.from.ensures) (subst P c.from.ensures c.in_ok-within-in-Ok.ensures.there)

@@ -19,14 +19,14 @@ returns-in_err-number-clause-cuts c =
     on_fault_2 c.from_residual.result (LacksField fields.Type (octets old) (r + 2)) (λ _. new ≡ old) (CutsFields (number_rows n r) old new)
     (λ fault h same. cut_here r 2 (r + 2) fields.Type (class_rows n (r + 2) ++ field_row (r + 8) (r + 10) fields.RdLength ∷ []) old new fault h same refl refl) (search rules) (search rules)
 
-pub returns-in_err-class_and_ttl-clause-cuts : goal.returns-in_err-class_and_ttl-clause-cuts
-returns-in_err-class_and_ttl-clause-cuts c =
+pub returns-in_err-class-clause-cuts : goal.returns-in_err-class-clause-cuts
+returns-in_err-class-clause-cuts c =
     let old = c.args.self.now in
     let a = c.number.new.self in
     let new = c.class_and_ttl.new.self in
     let rtype = c.from_int-rtype.result in
     let read : rtype ≡ number_at w16 (octets old) (at old) = c.from_int-rtype.ensures ∙ c.in_ok-number.ensures.number in
-    on_fault c.from_residual-in_err-class_and_ttl.result (CutsFields (class_rows rtype (at a)) a new) (CutsFields (number_rows (number_at w16 (octets old) (at old)) (at old)) old new)
+    on_fault c.from_residual-in_err-class.result (CutsFields (class_rows rtype (at a)) a new) (CutsFields (number_rows (number_at w16 (octets old) (at old)) (at old)) old new)
     (λ fault h. class_lacks rtype old a new fault c.in_ok-number.ensures.adds read h) (search rules)
 
 pub returns-in_err-len-clause-cuts : goal.returns-in_err-len-clause-cuts
@@ -38,4 +38,4 @@ returns-in_err-len-clause-cuts c =
     let rtype = c.from_int-rtype.result in
     let read : rtype ≡ number_at w16 (octets old) (at old) = c.from_int-rtype.ensures ∙ c.in_ok-number.ensures.number in
     on_fault_2 c.from_residual-in_err-len.result (LacksField fields.RdLength (octets last) (at last + 2)) (λ _. new ≡ last) (CutsFields (number_rows (number_at w16 (octets old) (at old)) (at old)) old new)
-    (λ fault h same. len_lacks rtype old a last new fault c.in_ok-number.ensures.adds read c.in_ok-class_and_ttl.ensures.adds h same) (search rules) (search rules)
+    (λ fault h same. len_lacks rtype old a last new fault c.in_ok-number.ensures.adds read c.in_ok-class.ensures.adds h same) (search rules) (search rules)
