@@ -1,6 +1,5 @@
-use Rattle.std.proofs.Common.{◌≡◌, ◌∙◌, ◌∷◌, [], ◌++◌, List, ℕ, ap, sym, rules}
-use Rattle.dns_fields.specs.FieldParts.{NamedPart, fields_left, named_part}
-use Rattle.dns_fields_text.specs.DataTexts.{data_fields}
+use Rattle.std.proofs.Common.{◌≡◌, ◌∙◌, ◌∷◌, [], sym, rules}
+use Rattle.dns_fields.specs.FieldParts.{fields_left, named_part}
 use Rattle.dns_c.proofs.NewDataLemmas.{all_compared, more_octets, none_compared, one_compared, other_field}
 use Rattle.dns_c.proofs.new_data.are_uncompressed.Goals as goal
 

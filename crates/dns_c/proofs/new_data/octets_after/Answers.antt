@@ -1,4 +1,4 @@
-use Rattle.std.proofs.Common.{rules, ◌≡◌, ap, sym}
+use Rattle.std.proofs.Common.{rules}
 use Rattle.dns_fields.specs.DataOrders.{part_octets}
 use Rattle.dns_fields.specs.EncodedFields.{part_of}
 use Rattle.dns_c.proofs.NewDataLemmas.{after_prefix, other_prefix}
