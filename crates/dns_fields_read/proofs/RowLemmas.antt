@@ -9,7 +9,7 @@ use Rattle.dns_number.specs.NumberTexts.{IsMnemonic}
 use Rattle.dns_number.specs.Tables.{is_distinct}
 use Rattle.dns_number.proofs.theory.MnemonicLemmas.{find_mapped, find_here, find_later, is_text, one_number}
 use Rattle.dns_fields.specs.Table.{Row}
-use Rattle.dns_fields_read.specs.TypeWords.{mnemonics}
+use Rattle.dns_fields_text.specs.TypeNames.{mnemonics}
 
 module _ (rows : List Row) (i : ℕ) (text : List ℕ) where
   -- no earlier row has the text

@@ -3,14 +3,9 @@ use Rattle.std.specs.Prelude.{ℕ, List, map, ◌⊎◌}
 use Rattle.dns_number.specs.Mnemonics.{Mnemonics}
 use Rattle.dns_number.specs.NumberTexts.{IsMnemonic}
 use Rattle.dns_number.specs.Types.{SpellsType}
-use Rattle.dns_fields.specs.Table.{Row}
 use Rattle.dns_fields.specs.declared.table.TheConstants.{TABLE}
 
--- the numbers of rows, with their mnemonics
-abbrev pub mnemonics : List Row → Mnemonics
-mnemonics rows = map (λ row. (row.0, row.1.now)) rows
-
--- those of the table of `dns_fields`
+-- the record types of the table of `dns_fields`, each with its mnemonic
 unfoldable pub table_mnemonics : Mnemonics
 table_mnemonics = map (λ r. (r.0, r.1.now)) TABLE.now
 

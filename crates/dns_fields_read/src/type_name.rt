@@ -2,7 +2,8 @@
 ghost use Rattle.std.specs.Prelude.{◌≡◌, ◌↔◌, ℕ, IsTrue, Some};
 ghost use Rattle.dns_number.specs.NumberTexts.{IsMnemonic};
 ghost use Rattle.dns_number.specs.Tables.{is_distinct};
-ghost use Rattle.dns_fields_read.specs.TypeWords.{IsTypeWord, mnemonics};
+ghost use Rattle.dns_fields_read.specs.TypeWords.{IsTypeWord};
+ghost use Rattle.dns_fields_text.specs.TypeNames.{mnemonics};
 
 use dns_fields::{Kind, TABLE};
 use dns_number::Rtype;
