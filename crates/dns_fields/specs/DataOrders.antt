@@ -69,9 +69,13 @@ part_octets (UncompressedName lowercased name) = uncompressed name
 abbrev pub octets_of_parts : List Part → List ℕ
 octets_of_parts parts = flat_map part_octets parts
 
--- the octets of RDATA in canonical form. RFC 4034 section 6.2.
+-- the octets of parts in canonical form. RFC 4034 section 6.2.
+abbrev pub octets_in_canonical_form : List Part → List ℕ
+octets_in_canonical_form parts = octets_of_parts (canonical parts)
+
+-- the octets of RDATA in canonical form
 abbrev pub canonical_octets : FieldData → List ℕ
-canonical_octets value = octets_of_parts (canonical (parts_of value))
+canonical_octets value = octets_in_canonical_form (parts_of value)
 
 -- The canonical order of RDATA: by the types, then by all octets of the canonical form. RFC 4034 section 6.3.
 abbrev pub data_canonical_order : FieldData → FieldData → Ordering

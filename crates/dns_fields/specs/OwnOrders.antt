@@ -7,8 +7,7 @@ use Rattle.std.specs.List.{flat_map}
 use Rattle.std.specs.Ordering.{on, eq_by_cmp, as_partial_cmp}
 use Rattle.std.specs.declared.cmp.Ordering.{Ordering}
 use Rattle.dns_data.specs.CanonicalOrders.{octet_order}
-use Rattle.dns_data.specs.RecordData.{canonical}
-use Rattle.dns_fields.specs.DataOrders.{part_equal, part_order, part_hash_input, octets_of_parts}
+use Rattle.dns_fields.specs.DataOrders.{part_equal, part_order, part_hash_input, octets_in_canonical_form}
 use Rattle.dns_fields.specs.OrderLaws.{part_equal-equiv, part_order-total, parts_order-ties, parts_alike}
 use Rattle.dns_fields.specs.OwnTypes.{own_parts_of}
 use Rattle.dns_fields.specs.declared.own.DataOf.{DataOf}
@@ -27,9 +26,9 @@ module _ {T : Type 0} {g : Ghosts T} where
   abbrev pub own_hash_input : DataOf T g → fed.HashWrites
   own_hash_input value = flat_map part_hash_input (own_parts_of value)
 
-  -- the octets of RDATA in canonical form. RFC 4034 section 6.2.
+  -- the octets of RDATA in canonical form
   abbrev pub own_canonical_octets : DataOf T g → List ℕ
-  own_canonical_octets value = octets_of_parts (canonical (own_parts_of value))
+  own_canonical_octets value = octets_in_canonical_form (own_parts_of value)
 
   -- The canonical order of RDATA: by all octets of the canonical form. RFC 4034 section 6.3.
   abbrev pub own_canonical_order : DataOf T g → DataOf T g → Ordering

@@ -7,7 +7,7 @@ use Rattle.dns_fields_text.specs.Groups.{group_at, groups}
 use Rattle.dns_fields_text.specs.ParameterItems.{ParameterItem, parameter_at, parameters_of}
 use Rattle.dns_fields_text.specs.PrefixItems.{PrefixItem, prefix_at, prefixes_of}
 use Rattle.dns_fields_text.specs.Strings.{string_at, strings_of}
-use Rattle.dns_fields_text.proofs.ItemLemmas.{IsShrinking, items_of_first, items_of_none}
+use Rattle.dns_fields_text.proofs.theory.ItemLemmas.{IsShrinking, items_of_first, items_of_none}
 
 some_same : {A : Type 0} (x y : A) → Some x ≡ Some y → x ≡ y
 some_same x y e = cc

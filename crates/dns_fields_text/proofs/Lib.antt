@@ -1,8 +1,8 @@
+pub mod theory
 mod AllParts
 mod FieldsLemmas
 mod HostLemmas
 mod ItemKinds
-mod ItemLemmas
 mod KeyLemmas
 mod NameAtLemmas
 mod OctetLemmas

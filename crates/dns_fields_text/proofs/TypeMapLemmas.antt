@@ -1,10 +1,10 @@
 -- The types of bit maps.
-use Rattle.std.proofs.Common.{◌≡◌, ◌∙◌, ℕ, zero, suc, ◌+◌, ◌-◌, ◌*◌, ◌%◌, ◌<◌, ◌++◌, true, false, cond, List, [], ◌∷◌, length, take, drop, get_or, ap, refl, arith, leb, eqb, length-drop, Option, Some, None}
+use Rattle.std.proofs.Common.{◌≡◌, ◌∙◌, ℕ, zero, suc, ◌+◌, ◌-◌, ◌*◌, ◌%◌, ◌<◌, ◌++◌, true, false, List, [], ◌∷◌, length, get_or, ap, refl, arith, leb, eqb, Some, None}
 use Rattle.std.proofs.lemmas.Grind.{flat_map-append}
 use Rattle.std.specs.List.{flat_map}
-use Rattle.std.specs.Option.{option_map_or}
-use Rattle.std.specs.Prelude.{not, ◌&&◌}
-use Rattle.dns_fields_text.proofs.ItemLemmas.{IsShrinking, items_of_first, items_of_none}
+use Rattle.std.specs.Prelude.{not}
+use Rattle.dns_fields_text.proofs.theory.BlockLemmas.{block_shrinks}
+use Rattle.dns_fields_text.proofs.theory.ItemLemmas.{items_of_first, items_of_none}
 use Rattle.dns_fields_text.specs.TypeMaps.{Block, bit_types, block_at, ends_nonzero, map_types, octet_types, types_text}
 use Rattle.dns_fields_text.specs.TypeNames.{type_word}
 
@@ -25,18 +25,6 @@ bit_clear zero first octet some clear = absurd (omega arith)
 bit_clear (suc count) first octet some clear =
     let same : count ≡ suc count - 1 = omega arith in
     rw clear (ap (λ n. types_text (bit_types n (first + 1) (octet % 128 * 2))) same)
-
--- the octets after a block are fewer
-pub block_shrinks : IsShrinking block_at
-block_shrinks [] after block e = cc
-block_shrinks (window ∷ []) after block e = cc
-block_shrinks (window ∷ size ∷ octets) after block e =
-    let size_of = length-drop size octets in
-    let found : Option (Block × List ℕ) = Some (record { first = window * 256; octets = take size octets }, drop size octets) in
-    elim (leb size 32 && leb size (length octets)) as (λ b. cond b found None ≡ Some (block, after) → length after < suc (suc (length octets))) [
-      | true ↦ λ same. let left : drop size octets ≡ after = ap (λ (o : Option (Block × List ℕ)). option_map_or (λ split. split.1) o []) same in let n = ap length left in omega arith
-      | false ↦ λ none. cc
-    ] e
 
 -- octets that begin with a block: the types of that block, and then those of the octets after it
 pub block_step : (octets : List ℕ) (first : ℕ) (block after : List ℕ) → block_at octets ≡ Some (record { first = first; octets = block }, after)

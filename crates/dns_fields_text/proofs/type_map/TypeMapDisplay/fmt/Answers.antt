@@ -1,6 +1,7 @@
 use Rattle.std.proofs.Common.{rules}
 use Rattle.dns_fields_text.proofs.Printing.{word_printed}
-use Rattle.dns_fields_text.proofs.TypeMapLemmas.{block_shrinks, block_step}
+use Rattle.dns_fields_text.proofs.TypeMapLemmas.{block_step}
+use Rattle.dns_fields_text.proofs.theory.BlockLemmas.{block_shrinks}
 use Rattle.dns_fields_text.proofs.type_map.TypeMapDisplay.fmt.Goals as goal
 
 pub windows-preserved : goal.windows-preserved
