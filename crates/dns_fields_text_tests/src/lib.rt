@@ -1,26 +1,21 @@
-//! Tests of record data as text. The texts are examples of the RFCs, or what other DNS programs print.
+//! Tests of record data as text: three rows or more of each type of the table, from its RFC. A text
+//! that RFCs don't have is one that dnspython 2.3.0 reads as the same octets, if it knows the type.
 //!
-//! Nothing is exported. `row` prints a row; the other modules have rows of related types, and `records`
-//! whole records. A failure prints the name of the row.
+//! Nothing is exported. `row` prints a row; `records` has whole records, `forms` rows of further forms, and
+//! the other modules rows of related types. A failure prints the name of the row.
 #![tactic(auto)]
 
 #[cfg(test)]
-mod addresses;
+mod certificates;
 #[cfg(test)]
-mod gateways;
+mod dnssec;
 #[cfg(test)]
-mod keys;
+mod forms;
 #[cfg(test)]
-mod names;
+mod hosts;
 #[cfg(test)]
 mod records;
 #[cfg(test)]
 mod row;
 #[cfg(test)]
 mod services;
-#[cfg(test)]
-mod strings;
-#[cfg(test)]
-mod type_maps;
-#[cfg(test)]
-mod unknown;

@@ -11,8 +11,16 @@ use std::test::Fail;
 /// Record data: what it shows, its type, its octets, and its text.
 pub(crate) type Row = (&'static str, u16, &'static [u8], &'static str);
 
+/// Asserts that the record data of each row prints as its text.
+pub(crate) fn prints(rt: &impl Abort, alloc: Global, rows: &[Row]) -> Result<(), Fail> {
+    for row in rows {
+        prints_row(rt, alloc, row)?;
+    }
+    Ok(())
+}
+
 /// Asserts that the record data prints as its text.
-pub(crate) fn prints(rt: &impl Abort, alloc: Global, row: &Row) -> Result<(), Fail> {
+fn prints_row(rt: &impl Abort, alloc: Global, row: &Row) -> Result<(), Fail> {
     let (name, rtype, octets, expected) = row;
     let mut parser = Parser::new(octets);
     let data = FieldData::parse_any_rdata(Rtype::from_int(*rtype), &mut parser)?;
