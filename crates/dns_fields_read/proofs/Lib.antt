@@ -1,6 +1,7 @@
 mod AddressLaws
 mod Base32Lemmas
 mod BlockLemmas
+mod ByteLemmas
 mod Calendar
 mod EuiLemmas
 mod LocatorLemmas
@@ -10,6 +11,7 @@ mod PrefixLaws
 mod PrefixLemmas
 mod RowLemmas
 mod SaltLaws
+mod SmallMapLemmas
 mod StringLaws
 mod TypeLaws
 mod TypeLemmas

@@ -15,7 +15,7 @@ use Rattle.dns_value_text.specs.Time.{time_text}
 use Rattle.dns_fields_text.specs.FieldTexts.{salt_text}
 use Rattle.dns_fields_text.specs.PrefixItems.{PrefixItem}
 use Rattle.dns_fields_text.specs.Prefixes.{has_word, prefix_text}
-use Rattle.dns_fields_text.specs.TypeMaps.{map_types}
+use Rattle.dns_fields_text.specs.TypeMaps.{is_small_map, map_types, octet_types}
 use Rattle.dns_fields_text.specs.TypeNames.{type_word}
 use Rattle.dns_fields_text.specs.ZoneNames.{zone_name_text}
 use Rattle.dns_fields_read.specs.Addresses.{IsIpv6Word}
@@ -24,7 +24,7 @@ use Rattle.dns_fields_read.specs.LocatorWords.{IsLocatorWord}
 use Rattle.dns_fields_read.specs.PrefixWords.{IsPrefixWord}
 use Rattle.dns_fields_read.specs.Salts.{IsCounted, IsHashWord, IsSaltWord}
 use Rattle.dns_fields_read.specs.TimeWords.{IsTimeWord}
-use Rattle.dns_fields_read.specs.TypeMapWords.{AreBlocks, AreTypeTexts, IsTypeMap}
+use Rattle.dns_fields_read.specs.TypeMapWords.{AreBlocks, AreTypeTexts, IsSmallTypeMap, IsTypeMap}
 use Rattle.dns_fields_read.specs.TypeWords.{IsTypeWord}
 
 -- record types
@@ -78,3 +78,7 @@ PrefixesReadBack = (item : PrefixItem) → IsBytes item.address → has_word ite
 -- type bit maps of blocks in order, none of them empty or with zero octets at the end
 abbrev pub TypeMapsReadBack : Type 0
 TypeMapsReadBack = (words : List (Bor (List ℕ))) (octets : List ℕ) → AreBlocks 0 octets → AreTypeTexts words (map_types octets) → IsTypeMap words octets
+
+-- type bit maps of types up to 127
+abbrev pub SmallTypeMapsReadBack : Type 0
+SmallTypeMapsReadBack = (words : List (Bor (List ℕ))) (octets : List ℕ) → IsBytes octets → is_small_map octets ≡ true → AreTypeTexts words (octet_types 0 octets) → IsSmallTypeMap words octets

@@ -1,9 +1,10 @@
--- Words that represent type bit maps. RFC 4034 section 4.1.2.
-use Rattle.std.specs.Prelude.{◌≡◌, ◌⊎◌, ◌↔◌, ℕ, zero, suc, ◌+◌, ◌*◌, ◌/◌, ◌^◌, ◌<◌, ◌≤◌, ◌==◌, ◌&&◌, nat_le, nat_lt, Bool, true, if◌then◌else◌, List, [], ◌∷◌, ◌++◌, length, Result, MatchResult}
+-- Words that represent type bit maps. RFC 4034 section 4.1.2, RFC 2535 section 5.2.
+use Rattle.std.specs.Prelude.{◌≡◌, ◌⊎◌, ◌↔◌, ℕ, zero, suc, ◌+◌, ◌*◌, ◌/◌, ◌^◌, ◌<◌, ◌≤◌, ◌==◌, ◌&&◌, not, nat_le, nat_lt, Bool, true, if◌then◌else◌, List, [], ◌∷◌, ◌++◌, length, Result, MatchResult}
 use Rattle.std.specs.Borrow.{Bor}
-use Rattle.std.specs.List.{list_any}
+use Rattle.std.specs.List.{list_all, list_any}
+use Rattle.hex.specs.Hex.{IsBytes}
 use Rattle.dns_fields_text.specs.Prefixes.{is_trimmed}
-use Rattle.dns_fields_text.specs.TypeMaps.{ends_nonzero, map_types, octet_types}
+use Rattle.dns_fields_text.specs.TypeMaps.{ends_nonzero, is_small_map, map_types, octet_types}
 use Rattle.dns_fields_text.specs.TypeNames.{type_word}
 use Rattle.dns_value_text.specs.declared.text_error.TextError.{TextError}
 use Rattle.dns_value_text.specs.declared.text_error.TextError.TheVariants.{BadWord, OutOfMemory}
@@ -35,6 +36,13 @@ pub record IsTypeMap (words : List (Bor (List ℕ))) (octets : List ℕ) : Type 
   pub blocks : AreBlocks 0 octets
   pub bits : (n : ℕ) → n < 2 ^ 16 → has (map_types octets) n ≡ true ↔ HasType words n
 
+-- each of the words represents a type, and the octets are the bit map of these types, which are from 1 to 127: a bit is set exactly if a word represents its type. RFC 2535 section 5.2
+pub record IsSmallTypeMap (words : List (Bor (List ℕ))) (octets : List ℕ) : Type 0 where
+  pub types : AreTypes words
+  pub bytes : IsBytes octets
+  pub small : is_small_map octets ≡ true
+  pub bits : (n : ℕ) → has (octet_types 0 octets) n ≡ true ↔ HasType words n
+
 -- the words are the printed words of these types
 abbrev pub AreTypeTexts : List (Bor (List ℕ)) → List ℕ → Type 0
 AreTypeTexts [] [] = Unit {0}
@@ -61,11 +69,12 @@ abbrev pub block_of : ℕ → List ℕ → List ℕ
 block_of window [] = []
 block_of window (octet ∷ octets) = window ∷ length (octet ∷ octets) ∷ octet ∷ octets
 
--- bits of a window, without zero octets at the end
-pub record IsWindow (p : ℕ → Bool) (window : ℕ) (bits : List ℕ) : Type 0 where
-  pub short : length bits ≤ 32
+-- at most `count` octets with a bit for each type from `first` on, without zero octets at the end
+pub record IsBits (p : ℕ → Bool) (first count : ℕ) (bits : List ℕ) : Type 0 where
+  pub bytes : IsBytes bits
+  pub short : length bits ≤ count
   pub trimmed : is_trimmed bits ≡ true
-  pub types : (n : ℕ) → has (octet_types (window * 256) bits) n ≡ is_within p (window * 256) (window * 256 + 256) n
+  pub types : (n : ℕ) → has (octet_types first bits) n ≡ is_within p first (first + 8 * count) n
 
 -- the blocks of the windows from this one on
 pub record IsBlocks (p : ℕ → Bool) (window : ℕ) (blocks : List ℕ) : Type 0 where
@@ -75,7 +84,7 @@ pub record IsBlocks (p : ℕ → Bool) (window : ℕ) (blocks : List ℕ) : Type
 -- the block of a window is appended, or an allocation fails
 abbrev pub AppendsBlock : (ℕ → Bool) → ℕ → List ℕ → List ℕ → Result Unit TextError → Type 0
 AppendsBlock p window old new result =
-    MatchResult result (λ _. (bits : List ℕ) × IsWindow p window bits × (new ≡ old ++ block_of window bits)) (λ error. error ≡ OutOfMemory)
+    MatchResult result (λ _. (bits : List ℕ) × IsBits p (window * 256) 32 bits × (new ≡ old ++ block_of window bits)) (λ error. error ≡ OutOfMemory)
 
 -- the same of the windows from this one on
 abbrev pub AppendsBlocks : (ℕ → Bool) → ℕ → List ℕ → List ℕ → Result Unit TextError → Type 0
@@ -88,3 +97,17 @@ AppendsTypes words old new result =
     MatchResult result
     (λ _. (types : List ℕ) × (new ≡ old ++ types) × AreTypes words × ((n : ℕ) → has types n ≡ true ↔ HasType words n))
     (λ error. (error ≡ OutOfMemory) ⊎ ((error ≡ BadWord) × ¬ (AreTypes words)))
+
+-- whether the type is from 1 to 127
+abbrev pub is_small_type : ℕ → Bool
+is_small_type rtype = nat_lt 0 rtype && nat_lt rtype 128
+
+-- whether there are types, each of which is from 1 to 127
+abbrev pub have_small_map : List ℕ → Bool
+have_small_map types = not (length types == 0) && list_all is_small_type types
+
+-- the octets are the bit map of these types
+pub record IsSmallMap (types octets : List ℕ) : Type 0 where
+  pub bytes : IsBytes octets
+  pub small : is_small_map octets ≡ true
+  pub bits : (n : ℕ) → has (octet_types 0 octets) n ≡ has types n

@@ -29,7 +29,7 @@ fn octet_bits(types: &[u16], first: u32, count: u8) -> u8
 }
 
 /// Appends `count` octets of the types from `first` on.
-fn push_octets(octets: &mut ArrayVec<u8, 32>, types: &[u16], first: u32, count: u8)
+pub(crate) fn push_octets(octets: &mut ArrayVec<u8, 32>, types: &[u16], first: u32, count: u8)
     requires room { length octets.old.items + count ≤ 32 }
     requires types { first + 8 * count ≤ 65536 }
     ensures { octets.new.items ≡ octets.old.items ++ octets_bits (has types.now) first count }
@@ -85,7 +85,7 @@ fn push_blocks(map: &mut Vec<u8>, types: &[u16], window: u16) -> Result<(), Text
 }
 
 /// Appends the types of words.
-fn push_types(types: &mut Vec<u16>, words: &[&str]) -> Result<(), TextError>
+pub(crate) fn push_types(types: &mut Vec<u16>, words: &[&str]) -> Result<(), TextError>
     ensures { AppendsTypes words.now types.old.items types.new.items result }
 {
     let [word, after @ ..] = words else {
