@@ -16,6 +16,7 @@ use Rattle.dns_value_text.specs.Number.{number_of}
 use Rattle.dns_fields_read.specs.Base32Words.{AppendsBase32, IsBase32, IsDigits, IsGroupSize, last_octets}
 use Rattle.dns_value_text.specs.declared.text_error.TextError.{TextError}
 use Rattle.dns_value_text.specs.declared.text_error.TextError.TheVariants.{OutOfMemory}
+use Rattle.dns_fields_read.proofs.ByteLemmas.{bytes_append}
 use Rattle.dns_fields_read.proofs.EuiLemmas.{bytes_more}
 
 -- digits of a number: how many they are
@@ -264,12 +265,6 @@ pub appends : (digits old new octets : List ℕ) (result : Result Unit TextError
     → AppendsBase32 digits old new result
 appends digits old new octets (Ok u) ok err is = (octets, ok, is)
 appends digits old new octets (Err e) ok err is = inl err
-
--- octets of two lists
-bytes_append : (xs ys : List ℕ) → IsBytes xs → IsBytes ys → IsBytes (xs ++ ys)
-bytes_append [] ys first second i = second i
-bytes_append (x ∷ xs) ys first second zero = first 0
-bytes_append (x ∷ xs) ys first second (suc i) = bytes_append xs ys (λ k. first (suc k)) second i
 
 -- the digits are eight and others
 parts : (digits : List ℕ) → str_to_ascii_uppercase digits ≡ str_to_ascii_uppercase (take 8 digits) ++ str_to_ascii_uppercase (drop 8 digits)

@@ -11,9 +11,10 @@ use Rattle.hex.specs.Hex.{IsBytes}
 use Rattle.dns_fields_text.specs.Prefixes.{is_trimmed}
 use Rattle.dns_fields_text.specs.TypeMaps.{bit_types, ends_nonzero, map_types, octet_types}
 use Rattle.dns_value_text.specs.declared.text_error.TextError.{TextError}
-use Rattle.dns_fields_read.specs.TypeMapWords.{AppendsBlock, AppendsBlocks, AppendsTypes, AreBlocks, AreTypes, HasType, IsBits, IsBlocks, IsTypeMap, block_of, has, is_within, octet_bits, octets_bits}
+use Rattle.dns_fields_read.specs.TypeBits.{AppendsBlock, AppendsBlocks, AppendsTypes, IsBits, IsBlocks, block_of, is_within, octet_bits, octets_bits}
+use Rattle.dns_fields_read.specs.TypeMapWords.{AreTypes, HasType, IsTypeMap, has}
 use Rattle.dns_fields_read.specs.TypeWords.{IsTypeWord}
-use Rattle.dns_fields_read.proofs.BlockLemmas.{map_more}
+use Rattle.dns_fields_read.proofs.BlockLemmas.{block_bytes, map_more, more_blocks, weaken}
 use Rattle.dns_fields_read.proofs.ByteLemmas.{bytes_front}
 
 -- one octet, or type, more
@@ -235,16 +236,12 @@ pub ends_of : (octet : ℕ) (octets : List ℕ) → is_trimmed (octet ∷ octets
 ends_of octet [] trim = trim
 ends_of octet (next ∷ octets) trim = ends_of next octets trim
 
--- fewer windows
-weaken : {least window : ℕ} {blocks : List ℕ} → least ≤ window → AreBlocks window blocks → AreBlocks least blocks
-weaken h AreBlocks.none = AreBlocks.none
-weaken h (AreBlocks.more bits le small short ends after) = AreBlocks.more bits (omega arith) small short ends after
-
+-- blocks of windows
 module _ (p : ℕ → Bool) where
   pub blocks_none : (window : ℕ) (old : List ℕ) → window ≡ 256 → (blocks : List ℕ) × IsBlocks p window blocks × (old ≡ old ++ blocks)
   blocks_none window old last = (
     [],
-    record { shape = AreBlocks.none; types = λ n. sym (within_none p (window * 256) 65536 n (omega arith)) },
+    record { bytes = λ i. omega arith; shape = refl; types = λ n. sym (within_none p (window * 256) 65536 n (omega arith)) },
     sym (append-nil old),
   )
 
@@ -252,7 +249,8 @@ module _ (p : ℕ → Bool) where
   blocks_more window [] after small is others =
       let next : (window + 1) * 256 ≡ window * 256 + 256 = omega arith in
       record {
-        shape = weaken (omega arith) others.shape;
+        bytes = others.bytes;
+        shape = weaken window (window + 1) after (omega arith) others.shape;
         types = λ n.
             others.types n
             ∙ ap (λ (lo : ℕ). is_within p lo 65536 n) next
@@ -262,7 +260,8 @@ module _ (p : ℕ → Bool) where
   blocks_more window (x ∷ xs) after small is others =
       let next : (window + 1) * 256 ≡ window * 256 + 256 = omega arith in
       record {
-        shape = AreBlocks.more (x ∷ xs) (omega arith) small is.short (ends_of x xs is.trimmed) others.shape;
+        bytes = block_bytes window (x ∷ xs) after small is.short is.bytes others.bytes;
+        shape = more_blocks window window (x ∷ xs) after (omega arith) is.short (ends_of x xs is.trimmed) others.shape;
         types = λ n.
             ap (λ (types : List ℕ). has types n) (map_more window (x ∷ xs) after is.short)
             ∙ list_any-append (λ rtype. rtype == n) (octet_types (window * 256) (x ∷ xs)) (map_types after)
@@ -321,6 +320,7 @@ all_small n h = grind (arith, nat_tests)
 map_is : (words : List (Bor (List ℕ))) (types map : List ℕ) → AreTypes words → ((n : ℕ) → has types n ≡ true ↔ HasType words n) → IsBlocks (has types) 0 map → IsTypeMap words map
 map_is words types map are represented blocks = record {
   types = are;
+  bytes = blocks.bytes;
   blocks = blocks.shape;
   bits = λ n small. (
     λ h. (represented n).0 (and_parts (has types n) (nat_le 0 n && nat_lt n 65536) (sym (blocks.types n) ∙ h)).0,

@@ -12,6 +12,7 @@ use Rattle.dns_value_text.specs.Base32.{base32_text}
 use Rattle.dns_value_text.specs.String.{is_tag, quoted}
 use Rattle.dns_value_text.specs.Strings.{SpellsString}
 use Rattle.dns_value_text.specs.Time.{time_text}
+use Rattle.dns_fields.specs.TypeMaps.{is_type_map}
 use Rattle.dns_fields_text.specs.FieldTexts.{salt_text}
 use Rattle.dns_fields_text.specs.PrefixItems.{PrefixItem}
 use Rattle.dns_fields_text.specs.Prefixes.{has_word, prefix_text}
@@ -24,7 +25,7 @@ use Rattle.dns_fields_read.specs.LocatorWords.{IsLocatorWord}
 use Rattle.dns_fields_read.specs.PrefixWords.{IsPrefixWord}
 use Rattle.dns_fields_read.specs.Salts.{IsCounted, IsHashWord, IsSaltWord}
 use Rattle.dns_fields_read.specs.TimeWords.{IsTimeWord}
-use Rattle.dns_fields_read.specs.TypeMapWords.{AreBlocks, AreTypeTexts, IsSmallTypeMap, IsTypeMap}
+use Rattle.dns_fields_read.specs.TypeMapWords.{AreTypeTexts, IsSmallTypeMap, IsTypeMap}
 use Rattle.dns_fields_read.specs.TypeWords.{IsTypeWord}
 
 -- record types
@@ -75,9 +76,9 @@ TimesReadBack = (seconds : ℕ) → seconds < 2 ^ 32 → IsTimeWord (time_text s
 abbrev pub PrefixesReadBack : Type 0
 PrefixesReadBack = (item : PrefixItem) → IsBytes item.address → has_word item ≡ true → IsPrefixWord (prefix_text item) item
 
--- type bit maps of blocks in order, none of them empty or with zero octets at the end
+-- type bit maps of all types
 abbrev pub TypeMapsReadBack : Type 0
-TypeMapsReadBack = (words : List (Bor (List ℕ))) (octets : List ℕ) → AreBlocks 0 octets → AreTypeTexts words (map_types octets) → IsTypeMap words octets
+TypeMapsReadBack = (words : List (Bor (List ℕ))) (octets : List ℕ) → IsBytes octets → is_type_map octets ≡ true → AreTypeTexts words (map_types octets) → IsTypeMap words octets
 
 -- type bit maps of types up to 127
 abbrev pub SmallTypeMapsReadBack : Type 0

@@ -1,7 +1,8 @@
 //! Type bit maps of types up to 127 (RFC 2535 section 5.2).
 ghost use Rattle.std.specs.Prelude.{◌≡◌};
 ghost use Rattle.std.specs.List.{list_all};
-ghost use Rattle.dns_fields_read.specs.TypeMapWords.{IsSmallMap, IsSmallTypeMap, have_small_map, is_small_type};
+ghost use Rattle.dns_fields_read.specs.TypeBits.{IsSmallMap, have_small_map, is_small_type};
+ghost use Rattle.dns_fields_read.specs.TypeMapWords.{IsSmallTypeMap};
 ghost use Rattle.dns_value_text.specs.Reading.{ReadsOctets};
 
 use crate::prefix::trimmed;

@@ -1,7 +1,8 @@
 //! Type bit maps (RFC 4034 section 4.1.2).
 ghost use Rattle.std.specs.Prelude.{◌≡◌, ◌==◌, ◌≤◌, ◌+◌, ◌*◌, ◌/◌, ◌++◌, length};
 ghost use Rattle.std.specs.List.{list_any};
-ghost use Rattle.dns_fields_read.specs.TypeMapWords.{AppendsBlock, AppendsBlocks, AppendsTypes, IsTypeMap, has, octet_bits, octets_bits};
+ghost use Rattle.dns_fields_read.specs.TypeBits.{AppendsBlock, AppendsBlocks, AppendsTypes, octet_bits, octets_bits};
+ghost use Rattle.dns_fields_read.specs.TypeMapWords.{IsTypeMap, has};
 ghost use Rattle.dns_value_text.specs.Reading.{ReadsOctets};
 
 use crate::prefix::trimmed;

@@ -1,6 +1,7 @@
 use Rattle.std.proofs.Common.{◌≡◌, ◌∙◌, ◌++◌, List, ℕ, false, refl, sym, ap, subst, inr}
 use Rattle.std.proofs.lemmas.Bool.{false≢true}
-use Rattle.dns_fields_read.specs.TypeMapWords.{IsSmallMap, has, octets_bits}
+use Rattle.dns_fields_read.specs.TypeBits.{IsSmallMap, octets_bits}
+use Rattle.dns_fields_read.specs.TypeMapWords.{has}
 use Rattle.dns_fields_read.proofs.SmallMapLemmas.{small_map_is, types_small}
 use Rattle.dns_fields_read.proofs.TypeMapLemmas.{trimmed_is}
 use Rattle.dns_fields_read.proofs.small_type_map.small_map.Goals as goal

@@ -2,7 +2,8 @@ use Rattle.std.proofs.Common.{◌≡◌, ◌≢◌, ◌∙◌, ◌*◌, ◌/◌,
 use Rattle.std.specs.List.{list_any}
 use Rattle.std.proofs.lemmas.Bool.{eqb-true, false≢true}
 use Rattle.std.proofs.lemmas.Grind.{common_steps}
-use Rattle.dns_fields_read.specs.TypeMapWords.{IsBits, has, octets_bits}
+use Rattle.dns_fields_read.specs.TypeBits.{IsBits, octets_bits}
+use Rattle.dns_fields_read.specs.TypeMapWords.{has}
 use Rattle.dns_fields_read.proofs.TypeMapLemmas.{block_some, empty_is, trimmed_is, window_none}
 use Rattle.dns_fields_read.proofs.type_map.push_block.Goals as goal
 
