@@ -361,7 +361,7 @@ pub base32_reads_back : (octets : List ℕ) → IsBytes octets → IsBase32 (bas
 base32_reads_back octets bytes = (bytes, text_upper octets)
 
 -- the digits of octets say how many octets there are
-text_length : (octets : List ℕ) → length octets ≡ length (base32_text octets) * 5 / 8
+pub text_length : (octets : List ℕ) → length octets ≡ length (base32_text octets) * 5 / 8
 text_length [] = refl
 text_length (a ∷ []) = omega (arith, digits_length 2 (number_of (a ∷ []) * 4))
 text_length (a ∷ b ∷ []) = omega (arith, digits_length 4 (number_of (a ∷ b ∷ []) * 16))
@@ -372,7 +372,17 @@ text_length (a ∷ b ∷ c ∷ d ∷ e ∷ octets) =
     let others = text_length octets in
     omega (arith, first, others, length-append (base32_digits 8 (number_of (a ∷ b ∷ c ∷ d ∷ e ∷ []))) (base32_text octets))
 
--- octets with the same digits are as many
-pub same_length : (word all octets : List ℕ) → IsBase32 word all → IsBase32 word octets → length all ≡ length octets
-same_length word all octets x y =
-    text_length all ∙ ap (λ (text : List ℕ). length text * 5 / 8) (sym x.1 ∙ y.1) ∙ sym (text_length octets)
+-- and the octets, how many digits at most
+pub text_bound : (octets : List ℕ) → length (base32_text octets) * 5 ≤ length octets * 8 + 4
+text_bound [] = omega arith
+text_bound (a ∷ []) = omega (arith, digits_length 2 (number_of (a ∷ []) * 4))
+text_bound (a ∷ b ∷ []) = omega (arith, digits_length 4 (number_of (a ∷ b ∷ []) * 16))
+text_bound (a ∷ b ∷ c ∷ []) = omega (arith, digits_length 5 (number_of (a ∷ b ∷ c ∷ []) * 2))
+text_bound (a ∷ b ∷ c ∷ d ∷ []) = omega (arith, digits_length 7 (number_of (a ∷ b ∷ c ∷ d ∷ []) * 8))
+text_bound (a ∷ b ∷ c ∷ d ∷ e ∷ octets) =
+    let first = digits_length 8 (number_of (a ∷ b ∷ c ∷ d ∷ e ∷ [])) in
+    let others = text_bound octets in
+    omega (arith, first, others, length-append (base32_digits 8 (number_of (a ∷ b ∷ c ∷ d ∷ e ∷ []))) (base32_text octets))
+
+pub word_length : (word octets : List ℕ) → IsBase32 word octets → length word ≡ length (base32_text octets)
+word_length word octets is = sym (length-map word to_ascii_uppercase) ∙ ap length is.1

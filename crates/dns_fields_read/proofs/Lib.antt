@@ -4,6 +4,7 @@ mod BlockLemmas
 mod ByteLemmas
 mod Calendar
 mod EuiLemmas
+mod HashLemmas
 mod LocatorLemmas
 mod NameLaws
 mod NameLemmas
