@@ -1,5 +1,5 @@
 -- Octets, and those of parts of a list.
-use Rattle.std.proofs.Common.{◌≡◌, ℕ, zero, suc, ◌<◌, ◌==◌, true, List, [], ◌∷◌, ◌++◌, drop, arith}
+use Rattle.std.proofs.Common.{◌≡◌, ℕ, zero, suc, ◌<◌, ◌==◌, true, List, [], ◌∷◌, ◌++◌, drop, take, arith}
 use Rattle.std.specs.Prelude.{not}
 use Rattle.std.proofs.lemmas.Bool.{false≢true}
 use Rattle.hex.specs.Hex.{IsBytes}
@@ -22,3 +22,9 @@ pub bytes_drop : (k : ℕ) (xs : List ℕ) → IsBytes xs → IsBytes (drop k xs
 bytes_drop zero xs bytes i = bytes i
 bytes_drop (suc k) [] bytes i = bytes i
 bytes_drop (suc k) (x ∷ xs) bytes i = bytes_drop k xs (λ j. bytes (suc j)) i
+
+pub bytes_take : (k : ℕ) (xs : List ℕ) → IsBytes xs → IsBytes (take k xs)
+bytes_take zero xs bytes i = omega arith
+bytes_take (suc k) [] bytes i = bytes i
+bytes_take (suc k) (x ∷ xs) bytes zero = bytes 0
+bytes_take (suc k) (x ∷ xs) bytes (suc i) = bytes_take k xs (λ j. bytes (suc j)) i

@@ -8,11 +8,13 @@ mod HashLemmas
 mod LocatorLemmas
 mod NameLaws
 mod NameLemmas
+mod PrefixFieldLaws
 mod PrefixLaws
 mod PrefixLemmas
 mod RowLemmas
 mod SaltLaws
 mod SmallMapLemmas
+mod SpacedWords
 mod StringLaws
 mod TypeLaws
 mod TypeLemmas
