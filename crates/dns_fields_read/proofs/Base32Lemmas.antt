@@ -16,6 +16,7 @@ use Rattle.dns_value_text.specs.Number.{number_of}
 use Rattle.dns_fields_read.specs.Base32Words.{AppendsBase32, IsBase32, IsDigits, IsGroupSize, last_octets}
 use Rattle.dns_value_text.specs.declared.text_error.TextError.{TextError}
 use Rattle.dns_value_text.specs.declared.text_error.TextError.TheVariants.{OutOfMemory}
+use Rattle.dns_fields_read.proofs.ByteLemmas.{bytes_append}
 use Rattle.dns_fields_read.proofs.EuiLemmas.{bytes_more}
 
 -- digits of a number: how many they are
@@ -265,12 +266,6 @@ pub appends : (digits old new octets : List ℕ) (result : Result Unit TextError
 appends digits old new octets (Ok u) ok err is = (octets, ok, is)
 appends digits old new octets (Err e) ok err is = inl err
 
--- octets of two lists
-bytes_append : (xs ys : List ℕ) → IsBytes xs → IsBytes ys → IsBytes (xs ++ ys)
-bytes_append [] ys first second i = second i
-bytes_append (x ∷ xs) ys first second zero = first 0
-bytes_append (x ∷ xs) ys first second (suc i) = bytes_append xs ys (λ k. first (suc k)) second i
-
 -- the digits are eight and others
 parts : (digits : List ℕ) → str_to_ascii_uppercase digits ≡ str_to_ascii_uppercase (take 8 digits) ++ str_to_ascii_uppercase (drop 8 digits)
 parts digits = ap str_to_ascii_uppercase (sym (take-append-drop 8 digits)) ∙ map-append to_ascii_uppercase (take 8 digits) (drop 8 digits)
@@ -366,7 +361,7 @@ pub base32_reads_back : (octets : List ℕ) → IsBytes octets → IsBase32 (bas
 base32_reads_back octets bytes = (bytes, text_upper octets)
 
 -- the digits of octets say how many octets there are
-text_length : (octets : List ℕ) → length octets ≡ length (base32_text octets) * 5 / 8
+pub text_length : (octets : List ℕ) → length octets ≡ length (base32_text octets) * 5 / 8
 text_length [] = refl
 text_length (a ∷ []) = omega (arith, digits_length 2 (number_of (a ∷ []) * 4))
 text_length (a ∷ b ∷ []) = omega (arith, digits_length 4 (number_of (a ∷ b ∷ []) * 16))
@@ -377,7 +372,17 @@ text_length (a ∷ b ∷ c ∷ d ∷ e ∷ octets) =
     let others = text_length octets in
     omega (arith, first, others, length-append (base32_digits 8 (number_of (a ∷ b ∷ c ∷ d ∷ e ∷ []))) (base32_text octets))
 
--- octets with the same digits are as many
-pub same_length : (word all octets : List ℕ) → IsBase32 word all → IsBase32 word octets → length all ≡ length octets
-same_length word all octets x y =
-    text_length all ∙ ap (λ (text : List ℕ). length text * 5 / 8) (sym x.1 ∙ y.1) ∙ sym (text_length octets)
+-- and the octets, how many digits at most
+pub text_bound : (octets : List ℕ) → length (base32_text octets) * 5 ≤ length octets * 8 + 4
+text_bound [] = omega arith
+text_bound (a ∷ []) = omega (arith, digits_length 2 (number_of (a ∷ []) * 4))
+text_bound (a ∷ b ∷ []) = omega (arith, digits_length 4 (number_of (a ∷ b ∷ []) * 16))
+text_bound (a ∷ b ∷ c ∷ []) = omega (arith, digits_length 5 (number_of (a ∷ b ∷ c ∷ []) * 2))
+text_bound (a ∷ b ∷ c ∷ d ∷ []) = omega (arith, digits_length 7 (number_of (a ∷ b ∷ c ∷ d ∷ []) * 8))
+text_bound (a ∷ b ∷ c ∷ d ∷ e ∷ octets) =
+    let first = digits_length 8 (number_of (a ∷ b ∷ c ∷ d ∷ e ∷ [])) in
+    let others = text_bound octets in
+    omega (arith, first, others, length-append (base32_digits 8 (number_of (a ∷ b ∷ c ∷ d ∷ e ∷ []))) (base32_text octets))
+
+pub word_length : (word octets : List ℕ) → IsBase32 word octets → length word ≡ length (base32_text octets)
+word_length word octets is = sym (length-map word to_ascii_uppercase) ∙ ap length is.1

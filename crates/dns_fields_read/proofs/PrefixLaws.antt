@@ -31,7 +31,7 @@ size_of_ipv6 item two known =
     within item.size 128 (and_parts _ _ (and_parts _ _ inside).1).0
 
 -- the family of a prefix
-family_of : (item : PrefixItem) → has_word item ≡ true → (item.family ≡ 1) ⊎ (item.family ≡ 2)
+pub family_of : (item : PrefixItem) → has_word item ≡ true → (item.family ≡ 1) ⊎ (item.family ≡ 2)
 family_of item known =
     elim (cases_eq item.family 1) [
       | inl one ↦ inl one
@@ -48,7 +48,7 @@ count_padded n octets = length-take-le n (octets ++ replicate n 0) (omega (arith
   zeros zero = refl
   zeros (suc n) = let rest = zeros n in omega arith
 
-bytes_padded : (n k : ℕ) (octets : List ℕ) → IsBytes octets → IsBytes (take n (octets ++ replicate k 0))
+pub bytes_padded : (n k : ℕ) (octets : List ℕ) → IsBytes octets → IsBytes (take n (octets ++ replicate k 0))
 bytes_padded zero k octets bytes i = omega arith
 bytes_padded (suc n) zero [] bytes i = omega arith
 bytes_padded (suc n) (suc k) [] bytes zero = omega arith
@@ -74,7 +74,7 @@ address_read item bytes known =
       )
     ]
 
-size_small : (item : PrefixItem) → has_word item ≡ true → item.size < 256
+pub size_small : (item : PrefixItem) → has_word item ≡ true → item.size < 256
 size_small item known =
     elim (family_of item known) [
       | inl one ↦ (let most = size_of_ipv4 item one known in omega arith)

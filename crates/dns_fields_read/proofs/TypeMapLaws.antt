@@ -1,10 +1,10 @@
 -- The printed words of a type bit map read back.
-use Rattle.std.proofs.Common.{◌≡◌, ◌∙◌, ℕ, zero, suc, ◌+◌, ◌*◌, ◌%◌, ◌<◌, ◌==◌, ◌⊎◌, ◌↔◌, Bool, true, false, List, [], ◌∷◌, ◌++◌, length, drop, refl, sym, ap, subst, arith, inl, inr, eq-eqb}
-use Rattle.std.specs.Prelude.{Some, codes, nat_le, ◌||◌, if◌then◌else◌}
+use Rattle.std.proofs.Common.{◌≡◌, ◌∙◌, ℕ, zero, suc, ◌+◌, ◌*◌, ◌<◌, ◌≤◌, ◌==◌, ◌↔◌, Bool, true, List, [], ◌∷◌, length, take, drop, length-take-le, length-drop, refl, sym, ap, subst, arith, inl, inr, eq-eqb}
+use Rattle.std.specs.Prelude.{Some, codes, ◌||◌}
 use Rattle.std.specs.Borrow.{Bor}
 use Rattle.std.specs.Char.{to_ascii_lowercase}
 use Rattle.std.specs.Str.Parse.{digits_value}
-use Rattle.std.proofs.lemmas.Bool.{eqb-true, false≢true}
+use Rattle.std.proofs.lemmas.Bool.{false≢true, or_cases}
 use Rattle.std.proofs.lemmas.List.{length-map}
 use Rattle.std.proofs.lemmas.List.Folds.{list_any-append}
 use Rattle.dns_number.specs.Mnemonics.{Mnemonics, type_mnemonics}
@@ -12,13 +12,17 @@ use Rattle.dns_number.specs.NumberTexts.{IsMnemonic, IsNumbered}
 use Rattle.dns_number.specs.Tables.{is_distinct}
 use Rattle.dns_number.proofs.theory.MnemonicLemmas.{one_number}
 use Rattle.dns_number.proofs.theory.NumberedLemmas.{apart}
-use Rattle.dns_fields_text.specs.TypeMaps.{bit_types, map_types, octet_types}
-use Rattle.dns_fields_read.specs.TypeMapWords.{AreBlocks, AreTypeTexts, AreTypes, HasType, IsTypeMap, has}
+use Rattle.hex.specs.Hex.{IsBytes}
+use Rattle.dns_fields.specs.TypeMaps.{blocks_after, is_type_map}
+use Rattle.dns_fields_text.specs.TypeMaps.{is_small_map, map_types, octet_types}
+use Rattle.dns_fields_read.specs.TypeMapWords.{AreTypeTexts, AreTypes, HasType, IsSmallTypeMap, IsTypeMap, has}
 use Rattle.dns_fields_read.specs.TypeWords.{IsTypeWord, table_mnemonics}
-use Rattle.dns_fields_read.proofs.BlockLemmas.{drop_seam, map_more}
+use Rattle.dns_fields_read.proofs.BlockLemmas.{drop_seam, first_block, map_first}
+use Rattle.dns_fields_read.proofs.ByteLemmas.{bytes_drop}
+use Rattle.dns_fields_read.proofs.SmallMapLemmas.{type_is_small}
 use Rattle.dns_fields_read.proofs.TypeLaws.{types_read_back}
 use Rattle.dns_fields_read.proofs.TypeLemmas.{one_type, table_distinct, types_distinct}
-use Rattle.dns_fields_read.proofs.TypeMapLemmas.{has_type, or_true, type_has}
+use Rattle.dns_fields_read.proofs.TypeMapLemmas.{has_type, octet_range, or_true, type_has}
 
 -- a word represents one type
 digits_at : (word text : List ℕ) (n : ℕ) (x : IsNumbered word text n) → drop (length word) text ≡ x.digits
@@ -47,39 +51,21 @@ one_word word k n (inr (inr x)) (inr (inl h)) = absurd (not_both word n k h x)
 one_word word k n (inr (inr x)) (inr (inr y)) = numbered_same (codes "TYPE") word k n x y
 
 -- types of blocks have 16 bits
-or_either : (a b : Bool) → a || b ≡ true → (a ≡ true) ⊎ (b ≡ true)
-or_either true b e = inl refl
-or_either false b e = inr e
-
-high_bound : (b : Bool) (first end n : ℕ) (others : List ℕ) → first < end → (has others n ≡ true → n < end) → has ((if b then first ∷ [] else []) ++ others) n ≡ true → n < end
-high_bound true first end n others low later h =
-    elim (or_either (first == n) (has others n) h) [
-      | inl e ↦ (let same = eqb-true first n e in omega arith)
-      | inr g ↦ later g
-    ]
-high_bound false first end n others low later h = later h
-
-bit_bound : (count first octet n : ℕ) → has (bit_types count first octet) n ≡ true → n < first + count
-bit_bound zero first octet n h = absurd (false≢true h)
-bit_bound (suc count) first octet n h =
-    high_bound (nat_le 128 octet) first (first + suc count) n (bit_types count (first + 1) (octet % 128 * 2)) (omega arith)
-    (λ g. let later = bit_bound count (first + 1) (octet % 128 * 2) n g in omega arith) h
-
-octet_bound : (octets : List ℕ) (first n : ℕ) → has (octet_types first octets) n ≡ true → n < first + 8 * length octets
-octet_bound [] first n h = absurd (false≢true h)
-octet_bound (o ∷ octets) first n h =
-    elim (or_either (has (bit_types 8 first o) n) (has (octet_types (first + 8) octets) n) (sym (list_any-append (λ rtype. rtype == n) (bit_types 8 first o) (octet_types (first + 8) octets)) ∙ h)) [
-      | inl e ↦ (let here = bit_bound 8 first o n e in omega arith)
-      | inr g ↦ (let later = octet_bound octets (first + 8) n g in omega arith)
-    ]
-
-map_bound : {least : ℕ} {octets : List ℕ} (n : ℕ) → AreBlocks least octets → has (map_types octets) n ≡ true → n < 65536
-map_bound n AreBlocks.none h = absurd (false≢true h)
-map_bound n (AreBlocks.more {window = window} bits {after = after} le small short ends blocks) h =
-    elim (or_either (has (octet_types (window * 256) bits) n) (has (map_types after) n)
-    (sym (ap (λ (types : List ℕ). has types n) (map_more window bits after short) ∙ list_any-append (λ rtype. rtype == n) (octet_types (window * 256) bits) (map_types after)) ∙ h)) [
-      | inl e ↦ (let here = octet_bound bits (window * 256) n e in omega arith)
-      | inr g ↦ map_bound n blocks g
+map_bound : (fuel least n : ℕ) (octets : List ℕ) → length octets ≤ fuel → IsBytes octets → blocks_after least 0 octets ≡ true → has (map_types octets) n ≡ true → n < 65536
+map_bound fuel least n [] few bytes blocks h = absurd (false≢true h)
+map_bound fuel least n (window ∷ []) few bytes blocks h = absurd (false≢true blocks)
+map_bound zero least n (window ∷ size ∷ octets) few bytes blocks h = absurd (omega arith)
+map_bound (suc fuel) least n (window ∷ size ∷ octets) few bytes blocks h =
+    let first = first_block least window size octets blocks in
+    let count = length-take-le size octets first.fits in
+    let whole = map_first window size octets first.short first.fits in
+    elim (or_cases (has (octet_types (window * 256) (take size octets)) n) (has (map_types (drop size octets)) n)
+    (sym (ap (λ (types : List ℕ). has types n) whole ∙ list_any-append (λ rtype. rtype == n) (octet_types (window * 256) (take size octets)) (map_types (drop size octets))) ∙ h)) [
+      | inl e ↦ (let small : window < 256 = bytes 0 in
+          let short = first.short in
+          let here = octet_range (take size octets) (window * 256) n e in omega arith)
+      | inr g ↦ (let left = length-drop size octets in
+          map_bound fuel (window + 1) n (drop size octets) (omega arith) (bytes_drop size octets (λ i. bytes (suc (suc i)))) first.others g)
     ]
 
 texts_are : (words : List (Bor (List ℕ))) (types : List ℕ) → ((n : ℕ) → has types n ≡ true → n < 65536) → AreTypeTexts words types
@@ -99,7 +85,13 @@ texts_are (word ∷ words) (t ∷ types) small texts =
       λ n. (λ h. has_type word words t types is others.1 n (t == n) refl h, λ h. type_has word words t types is others.1 n h),
     )
 
-pub type_maps_read_back : (words : List (Bor (List ℕ))) (octets : List ℕ) → AreBlocks 0 octets → AreTypeTexts words (map_types octets) → IsTypeMap words octets
-type_maps_read_back words octets blocks texts =
-    let are = texts_are words (map_types octets) (λ n h. map_bound n blocks h) texts in
-    record { types = are.0; blocks = blocks; bits = λ n small. are.1 n }
+pub type_maps_read_back : (words : List (Bor (List ℕ))) (octets : List ℕ) → IsBytes octets → is_type_map octets ≡ true → AreTypeTexts words (map_types octets) → IsTypeMap words octets
+type_maps_read_back words octets bytes blocks texts =
+    let are = texts_are words (map_types octets) (λ n h. map_bound (length octets) 0 n octets (omega arith) bytes blocks h) texts in
+    record { types = are.0; bytes = bytes; blocks = blocks; bits = λ n small. are.1 n }
+
+pub small_type_maps_read_back : (words : List (Bor (List ℕ))) (octets : List ℕ) → IsBytes octets → is_small_map octets ≡ true → AreTypeTexts words (octet_types 0 octets)
+    → IsSmallTypeMap words octets
+small_type_maps_read_back words octets bytes small texts =
+    let are = texts_are words (octet_types 0 octets) (λ n h. let at = type_is_small octets n small h in omega arith) texts in
+    record { types = are.0; bytes = bytes; small = small; bits = are.1 }

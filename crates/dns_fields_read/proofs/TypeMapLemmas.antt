@@ -1,18 +1,21 @@
 -- Type bit maps and their types.
-use Rattle.std.proofs.Common.{◌≡◌, ◌∙◌, ◌≢◌, ℕ, zero, suc, ◌+◌, ◌-◌, ◌*◌, ◌/◌, ◌%◌, ◌^◌, ◌<◌, ◌≤◌, ◌==◌, Bool, true, false, List, [], ◌∷◌, ◌++◌, length, drop, replicate, refl, sym, ap, subst, arith, inl, inr, append_assoc, append-nil, get_or, eq-eqb, le-leb, ◌↔◌}
+use Rattle.std.proofs.Common.{◌≡◌, ◌∙◌, ◌≢◌, ℕ, zero, suc, ◌+◌, ◌-◌, ◌*◌, ◌/◌, ◌%◌, ◌^◌, ◌<◌, ◌≤◌, ◌==◌, Bool, true, false, List, [], ◌∷◌, ◌++◌, length, drop, replicate, refl, sym, ap, subst, arith, inl, inr, append_assoc, append-nil, get_or, eq-eqb, le-leb, ◌↔◌, ◌⊎◌}
 use Rattle.std.specs.Prelude.{Result, Ok, Err, Some, None, nat_le, nat_lt, ◌&&◌, ◌||◌, if◌then◌else◌}
 use Rattle.std.specs.Borrow.{Bor}
 use Rattle.std.specs.List.{list_any}
 use Rattle.std.proofs.Math.Nat.{pow-suc}
-use Rattle.std.proofs.lemmas.Bool.{and_parts, eqb-true, false≢true, lt-leb}
+use Rattle.std.proofs.lemmas.Bool.{and_parts, eqb-true, false≢true, lt-leb, or_cases}
 use Rattle.std.proofs.lemmas.Bool.Decides.{nat_tests}
 use Rattle.std.proofs.lemmas.List.Folds.{list_any-append}
+use Rattle.hex.specs.Hex.{IsBytes}
 use Rattle.dns_fields_text.specs.Prefixes.{is_trimmed}
 use Rattle.dns_fields_text.specs.TypeMaps.{bit_types, ends_nonzero, map_types, octet_types}
 use Rattle.dns_value_text.specs.declared.text_error.TextError.{TextError}
-use Rattle.dns_fields_read.specs.TypeMapWords.{AppendsBlock, AppendsBlocks, AppendsTypes, AreBlocks, AreTypes, HasType, IsBlocks, IsTypeMap, IsWindow, block_of, has, is_within, octet_bits, octets_bits}
+use Rattle.dns_fields_read.specs.TypeBits.{AppendsBlock, AppendsBlocks, AppendsTypes, IsBits, IsBlocks, block_of, is_within, octet_bits, octets_bits}
+use Rattle.dns_fields_read.specs.TypeMapWords.{AreTypes, HasType, IsTypeMap, has}
 use Rattle.dns_fields_read.specs.TypeWords.{IsTypeWord}
-use Rattle.dns_fields_read.proofs.BlockLemmas.{map_more}
+use Rattle.dns_fields_read.proofs.BlockLemmas.{block_bytes, map_more, more_blocks, weaken}
+use Rattle.dns_fields_read.proofs.ByteLemmas.{bytes_front}
 
 -- one octet, or type, more
 pub bits_more : (p : ℕ → Bool) (first count : ℕ) → 0 < count → octet_bits p first count ≡ (if p first then 128 else 0) + octet_bits p (first + 1) (count - 1) / 2
@@ -127,6 +130,45 @@ module _ (p : ℕ → Bool) where
       ∙ ap (λ (k : ℕ). is_within p first (first + 8) n || is_within p (first + 8) k n) end
       ∙ within_split first (first + 8) (first + 8 * suc count) n (omega arith) (omega arith)
 
+  octets_count : (first count : ℕ) → length (octets_bits p first count) ≡ count
+  octets_count first zero = refl
+  octets_count first (suc count) = let others = octets_count (first + 8) count in omega (arith, others)
+
+  octets_bytes : (first count : ℕ) → IsBytes (octets_bits p first count)
+  octets_bytes first zero i = omega arith
+  octets_bytes first (suc count) zero = below first 8
+  octets_bytes first (suc count) (suc i) = octets_bytes (first + 8) count i
+
+-- each type of octets has a bit in them
+high_range : (b : Bool) (first end n : ℕ) (others : List ℕ) → first < end → (has others n ≡ true → (first ≤ n) × (n < end)) → has ((if b then first ∷ [] else []) ++ others) n ≡ true
+    → (first ≤ n) × (n < end)
+high_range true first end n others low later h =
+    elim (or_cases (first == n) (has others n) h) [
+      | inl e ↦ (let same = eqb-true first n e in (omega arith, omega arith))
+      | inr g ↦ later g
+    ]
+high_range false first end n others low later h = later h
+
+pub bit_range : (count first octet n : ℕ) → has (bit_types count first octet) n ≡ true → (first ≤ n) × (n < first + count)
+bit_range zero first octet n h = absurd (false≢true h)
+bit_range (suc count) first octet n h =
+    high_range (nat_le 128 octet) first (first + suc count) n (bit_types count (first + 1) (octet % 128 * 2)) (omega arith)
+    (λ g. let later = bit_range count (first + 1) (octet % 128 * 2) n g in (omega arith, omega arith)) h
+
+pub octet_cases : (octet first n : ℕ) (octets : List ℕ) → has (octet_types first (octet ∷ octets)) n ≡ true
+    → (has (bit_types 8 first octet) n ≡ true) ⊎ (has (octet_types (first + 8) octets) n ≡ true)
+octet_cases octet first n octets h =
+    or_cases (has (bit_types 8 first octet) n) (has (octet_types (first + 8) octets) n)
+    (sym (list_any-append (λ rtype. rtype == n) (bit_types 8 first octet) (octet_types (first + 8) octets)) ∙ h)
+
+pub octet_range : (octets : List ℕ) (first n : ℕ) → has (octet_types first octets) n ≡ true → (first ≤ n) × (n < first + 8 * length octets)
+octet_range [] first n h = absurd (false≢true h)
+octet_range (o ∷ octets) first n h =
+    elim (octet_cases o first n octets h) [
+      | inl e ↦ (let here = bit_range 8 first o n e in (omega arith, omega arith))
+      | inr g ↦ (let later = octet_range octets (first + 8) n g in (omega arith, omega arith))
+    ]
+
 -- zero octets at the end have no types
 zeros_types : (k first : ℕ) → octet_types first (replicate k 0) ≡ []
 zeros_types zero first = refl
@@ -136,15 +178,16 @@ trimmed_types : (octets : List ℕ) (k first : ℕ) → octet_types first (octet
 trimmed_types [] k first = zeros_types k first
 trimmed_types (x ∷ octets) k first = ap (λ (types : List ℕ). bit_types 8 first x ++ types) (trimmed_types octets k (first + 8))
 
-pub window_is : (p : ℕ → Bool) (window : ℕ) (octets bits : List ℕ) → octets ≡ octets_bits p (window * 256) 32 → length octets ≡ 32 → is_trimmed bits ≡ true → length bits ≤ length octets
-    → octets ≡ bits ++ replicate (length octets - length bits) 0 → IsWindow p window bits
-window_is p window octets bits all size trim fits zeros = record {
-  short = omega arith;
+pub trimmed_is : (p : ℕ → Bool) (first count : ℕ) (octets bits : List ℕ) → octets ≡ octets_bits p first count → is_trimmed bits ≡ true → length bits ≤ length octets
+    → octets ≡ bits ++ replicate (length octets - length bits) 0 → IsBits p first count bits
+trimmed_is p first count octets bits all trim fits zeros = record {
+  bytes = bytes_front bits (replicate (length octets - length bits) 0) (subst (λ (xs : List ℕ). IsBytes xs) (sym all ∙ zeros) (octets_bytes p first count));
+  short = omega (arith, ap length all, octets_count p first count);
   trimmed = trim;
   types = λ n.
-      ap (λ (types : List ℕ). has types n) (sym (trimmed_types bits (length octets - length bits) (window * 256)))
-      ∙ ap (λ (xs : List ℕ). has (octet_types (window * 256) xs) n) (sym zeros ∙ all)
-      ∙ octets_are p (window * 256) 32 n;
+      ap (λ (types : List ℕ). has types n) (sym (trimmed_types bits (length octets - length bits) first))
+      ∙ ap (λ (xs : List ℕ). has (octet_types first xs) n) (sym zeros ∙ all)
+      ∙ octets_are p first count n;
 }
 
 -- a window without types
@@ -172,8 +215,9 @@ within n m h = grind (arith, nat_tests)
 under : (n m : ℕ) → nat_lt n m ≡ true → n < m
 under n m h = grind (arith, nat_tests)
 
-pub window_none : (types : List ℕ) (window : ℕ) → list_any (λ rtype. rtype / 256 == window) types ≡ false → IsWindow (has types) window []
+pub window_none : (types : List ℕ) (window : ℕ) → list_any (λ rtype. rtype / 256 == window) types ≡ false → IsBits (has types) (window * 256) 32 []
 window_none types window none = record {
+  bytes = λ i. omega arith;
   short = omega arith;
   trimmed = refl;
   types = λ n. sym (by_range n (nat_le (window * 256) n && nat_lt n (window * 256 + 256)) refl);
@@ -188,28 +232,25 @@ window_none types window none = record {
   by_range n false e = ap (λ (b : Bool). has types n && b) e ∙ and_false (has types n)
 
 -- a block that is empty or ends with an octet that isn't zero
-ends_of : (octet : ℕ) (octets : List ℕ) → is_trimmed (octet ∷ octets) ≡ true → ends_nonzero (octet ∷ octets) ≡ true
+pub ends_of : (octet : ℕ) (octets : List ℕ) → is_trimmed (octet ∷ octets) ≡ true → ends_nonzero (octet ∷ octets) ≡ true
 ends_of octet [] trim = trim
 ends_of octet (next ∷ octets) trim = ends_of next octets trim
 
--- fewer windows
-weaken : {least window : ℕ} {blocks : List ℕ} → least ≤ window → AreBlocks window blocks → AreBlocks least blocks
-weaken h AreBlocks.none = AreBlocks.none
-weaken h (AreBlocks.more bits le small short ends after) = AreBlocks.more bits (omega arith) small short ends after
-
+-- blocks of windows
 module _ (p : ℕ → Bool) where
   pub blocks_none : (window : ℕ) (old : List ℕ) → window ≡ 256 → (blocks : List ℕ) × IsBlocks p window blocks × (old ≡ old ++ blocks)
   blocks_none window old last = (
     [],
-    record { shape = AreBlocks.none; types = λ n. sym (within_none p (window * 256) 65536 n (omega arith)) },
+    record { bytes = λ i. omega arith; shape = refl; types = λ n. sym (within_none p (window * 256) 65536 n (omega arith)) },
     sym (append-nil old),
   )
 
-  blocks_more : (window : ℕ) (bits after : List ℕ) → window < 256 → IsWindow p window bits → IsBlocks p (window + 1) after → IsBlocks p window (block_of window bits ++ after)
+  blocks_more : (window : ℕ) (bits after : List ℕ) → window < 256 → IsBits p (window * 256) 32 bits → IsBlocks p (window + 1) after → IsBlocks p window (block_of window bits ++ after)
   blocks_more window [] after small is others =
       let next : (window + 1) * 256 ≡ window * 256 + 256 = omega arith in
       record {
-        shape = weaken (omega arith) others.shape;
+        bytes = others.bytes;
+        shape = weaken window (window + 1) after (omega arith) others.shape;
         types = λ n.
             others.types n
             ∙ ap (λ (lo : ℕ). is_within p lo 65536 n) next
@@ -219,7 +260,8 @@ module _ (p : ℕ → Bool) where
   blocks_more window (x ∷ xs) after small is others =
       let next : (window + 1) * 256 ≡ window * 256 + 256 = omega arith in
       record {
-        shape = AreBlocks.more (x ∷ xs) (omega arith) small is.short (ends_of x xs is.trimmed) others.shape;
+        bytes = block_bytes window (x ∷ xs) after small is.short is.bytes others.bytes;
+        shape = more_blocks window window (x ∷ xs) after (omega arith) is.short (ends_of x xs is.trimmed) others.shape;
         types = λ n.
             ap (λ (types : List ℕ). has types n) (map_more window (x ∷ xs) after is.short)
             ∙ list_any-append (λ rtype. rtype == n) (octet_types (window * 256) (x ∷ xs)) (map_types after)
@@ -278,6 +320,7 @@ all_small n h = grind (arith, nat_tests)
 map_is : (words : List (Bor (List ℕ))) (types map : List ℕ) → AreTypes words → ((n : ℕ) → has types n ≡ true ↔ HasType words n) → IsBlocks (has types) 0 map → IsTypeMap words map
 map_is words types map are represented blocks = record {
   types = are;
+  bytes = blocks.bytes;
   blocks = blocks.shape;
   bits = λ n small. (
     λ h. (represented n).0 (and_parts (has types n) (nat_le 0 n && nat_lt n 65536) (sym (blocks.types n) ∙ h)).0,

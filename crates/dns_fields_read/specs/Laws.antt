@@ -1,5 +1,5 @@
 -- What is printed of a value reads back as that value.
-use Rattle.std.specs.Prelude.{◌≡◌, ℕ, ◌<◌, ◌≤◌, ◌^◌, true, List, length, All}
+use Rattle.std.specs.Prelude.{◌≡◌, ℕ, ◌<◌, ◌≤◌, ◌^◌, true, List, length, map, All, Some}
 use Rattle.std.specs.Borrow.{Bor}
 use Rattle.std.specs.Net.Addr.{segments_of}
 use Rattle.std.specs.Net.Grammar.{IsDotted}
@@ -12,19 +12,22 @@ use Rattle.dns_value_text.specs.Base32.{base32_text}
 use Rattle.dns_value_text.specs.String.{is_tag, quoted}
 use Rattle.dns_value_text.specs.Strings.{SpellsString}
 use Rattle.dns_value_text.specs.Time.{time_text}
-use Rattle.dns_fields_text.specs.FieldTexts.{salt_text}
-use Rattle.dns_fields_text.specs.PrefixItems.{PrefixItem}
+use Rattle.dns_fields.specs.Prefixes.{are_prefixes}
+use Rattle.dns_fields.specs.TypeMaps.{is_type_map}
+use Rattle.dns_fields_text.specs.FieldTexts.{prefixes_text, salt_text}
+use Rattle.dns_fields_text.specs.PrefixItems.{PrefixItem, prefixes_of}
 use Rattle.dns_fields_text.specs.Prefixes.{has_word, prefix_text}
-use Rattle.dns_fields_text.specs.TypeMaps.{map_types}
+use Rattle.dns_fields_text.specs.Separated.{spaced}
+use Rattle.dns_fields_text.specs.TypeMaps.{is_small_map, map_types, octet_types}
 use Rattle.dns_fields_text.specs.TypeNames.{type_word}
 use Rattle.dns_fields_text.specs.ZoneNames.{zone_name_text}
 use Rattle.dns_fields_read.specs.Addresses.{IsIpv6Word}
 use Rattle.dns_fields_read.specs.EuiWords.{IsEuiWord}
 use Rattle.dns_fields_read.specs.LocatorWords.{IsLocatorWord}
-use Rattle.dns_fields_read.specs.PrefixWords.{IsPrefixWord}
+use Rattle.dns_fields_read.specs.PrefixWords.{ArePrefixWords, IsPrefixWord}
 use Rattle.dns_fields_read.specs.Salts.{IsCounted, IsHashWord, IsSaltWord}
 use Rattle.dns_fields_read.specs.TimeWords.{IsTimeWord}
-use Rattle.dns_fields_read.specs.TypeMapWords.{AreBlocks, AreTypeTexts, IsTypeMap}
+use Rattle.dns_fields_read.specs.TypeMapWords.{AreTypeTexts, IsSmallTypeMap, IsTypeMap}
 use Rattle.dns_fields_read.specs.TypeWords.{IsTypeWord}
 
 -- record types
@@ -75,6 +78,15 @@ TimesReadBack = (seconds : ℕ) → seconds < 2 ^ 32 → IsTimeWord (time_text s
 abbrev pub PrefixesReadBack : Type 0
 PrefixesReadBack = (item : PrefixItem) → IsBytes item.address → has_word item ≡ true → IsPrefixWord (prefix_text item) item
 
--- type bit maps of blocks in order, none of them empty or with zero octets at the end
+-- a field of address prefixes: as many words as prefixes, of which the texts with a space between them are the printed text
+abbrev pub PrefixFieldsReadBack : Type 0
+PrefixFieldsReadBack = (words : List (Bor (List ℕ))) (octets text : List ℕ) → IsBytes octets → are_prefixes octets ≡ true → prefixes_text octets ≡ Some text
+    → length words ≡ length (prefixes_of octets) → spaced (map (λ word. word.now) words) ≡ text → ArePrefixWords words octets
+
+-- type bit maps of all types
 abbrev pub TypeMapsReadBack : Type 0
-TypeMapsReadBack = (words : List (Bor (List ℕ))) (octets : List ℕ) → AreBlocks 0 octets → AreTypeTexts words (map_types octets) → IsTypeMap words octets
+TypeMapsReadBack = (words : List (Bor (List ℕ))) (octets : List ℕ) → IsBytes octets → is_type_map octets ≡ true → AreTypeTexts words (map_types octets) → IsTypeMap words octets
+
+-- type bit maps of types up to 127
+abbrev pub SmallTypeMapsReadBack : Type 0
+SmallTypeMapsReadBack = (words : List (Bor (List ℕ))) (octets : List ℕ) → IsBytes octets → is_small_map octets ≡ true → AreTypeTexts words (octet_types 0 octets) → IsSmallTypeMap words octets

@@ -8,5 +8,6 @@ pub mod PrefixWords
 pub mod Reading
 pub mod Salts
 pub mod TimeWords
+pub mod TypeBits
 pub mod TypeMapWords
 pub mod TypeWords

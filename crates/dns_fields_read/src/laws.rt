@@ -1,5 +1,5 @@
 //! Theorems on values and their words. Each contract is a theorem.
-ghost use Rattle.dns_fields_read.specs.Laws.{EuiReadsBack, HashesReadBack, Ipv4ReadsBack, Ipv6ReadsBack, LocatorsReadBack, NamesReadBack, PrefixesReadBack, SaltsReadBack, StringsReadBack, TagsReadBack, TimesReadBack, TypeMapsReadBack, TypesReadBack};
+ghost use Rattle.dns_fields_read.specs.Laws.{EuiReadsBack, HashesReadBack, Ipv4ReadsBack, Ipv6ReadsBack, LocatorsReadBack, NamesReadBack, PrefixFieldsReadBack, PrefixesReadBack, SaltsReadBack, SmallTypeMapsReadBack, StringsReadBack, TagsReadBack, TimesReadBack, TypeMapsReadBack, TypesReadBack};
 
 use dns_value_text::laws::printed_values_read_back;
 
@@ -17,7 +17,9 @@ pub fn printed_fields_read_back()
     ensures locators { LocatorsReadBack }
     ensures times { TimesReadBack }
     ensures prefixes { PrefixesReadBack }
+    ensures prefix_fields { PrefixFieldsReadBack }
     ensures type_maps { TypeMapsReadBack }
+    ensures small_type_maps { SmallTypeMapsReadBack }
 {
     printed_values_read_back();
 }

@@ -9,6 +9,9 @@ use std::alloc::Global;
 /// The greatest number that a length octet counts.
 const MOST_OCTETS: usize = 255;
 
+/// The number of base32 digits of that number of octets.
+const MOST_DIGITS: usize = 408;
+
 /// A salt: hexadecimal digits in either case, or a hyphen for no octets. At most 255 octets.
 pub fn read_salt(alloc: Global, word: &str) -> Result<Vec<u8>, TextError>
     ensures { ReadsOctets (IsSaltWord word.now) result }
@@ -27,9 +30,8 @@ pub fn read_salt(alloc: Global, word: &str) -> Result<Vec<u8>, TextError>
 pub fn read_hash(alloc: Global, word: &str) -> Result<Vec<u8>, TextError>
     ensures { ReadsOctets (IsHashWord word.now) result }
 {
-    let octets = read_base32(alloc, word)?;
-    if octets.is_empty() || octets.len() > MOST_OCTETS {
+    if word.is_empty() || word.len() > MOST_DIGITS {
         return Err(TextError::BadWord);
     }
-    Ok(octets)
+    read_base32(alloc, word)
 }

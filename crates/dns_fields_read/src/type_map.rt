@@ -1,7 +1,8 @@
 //! Type bit maps (RFC 4034 section 4.1.2).
 ghost use Rattle.std.specs.Prelude.{◌≡◌, ◌==◌, ◌≤◌, ◌+◌, ◌*◌, ◌/◌, ◌++◌, length};
 ghost use Rattle.std.specs.List.{list_any};
-ghost use Rattle.dns_fields_read.specs.TypeMapWords.{AppendsBlock, AppendsBlocks, AppendsTypes, IsTypeMap, has, octet_bits, octets_bits};
+ghost use Rattle.dns_fields_read.specs.TypeBits.{AppendsBlock, AppendsBlocks, AppendsTypes, octet_bits, octets_bits};
+ghost use Rattle.dns_fields_read.specs.TypeMapWords.{IsTypeMap, has};
 ghost use Rattle.dns_value_text.specs.Reading.{ReadsOctets};
 
 use crate::prefix::trimmed;
@@ -29,7 +30,7 @@ fn octet_bits(types: &[u16], first: u32, count: u8) -> u8
 }
 
 /// Appends `count` octets of the types from `first` on.
-fn push_octets(octets: &mut ArrayVec<u8, 32>, types: &[u16], first: u32, count: u8)
+pub(crate) fn push_octets(octets: &mut ArrayVec<u8, 32>, types: &[u16], first: u32, count: u8)
     requires room { length octets.old.items + count ≤ 32 }
     requires types { first + 8 * count ≤ 65536 }
     ensures { octets.new.items ≡ octets.old.items ++ octets_bits (has types.now) first count }
@@ -85,7 +86,7 @@ fn push_blocks(map: &mut Vec<u8>, types: &[u16], window: u16) -> Result<(), Text
 }
 
 /// Appends the types of words.
-fn push_types(types: &mut Vec<u16>, words: &[&str]) -> Result<(), TextError>
+pub(crate) fn push_types(types: &mut Vec<u16>, words: &[&str]) -> Result<(), TextError>
     ensures { AppendsTypes words.now types.old.items types.new.items result }
 {
     let [word, after @ ..] = words else {

@@ -1,5 +1,5 @@
 //! Words of octets.
-use dns_fields_read::{read_hash, read_prefixes, read_salt, read_type_map};
+use dns_fields_read::{read_hash, read_prefixes, read_salt, read_small_type_map, read_type_map};
 use std::test::Fail;
 
 /// The test vectors of RFC 4648 section 10 for base32 with the extended hexadecimal alphabet, without
@@ -94,4 +94,26 @@ fn type_maps(rt: HostRuntime) {
         b"\x00\x06\x40\x01\x00\x00\x00\x03\x04\x1b\x00\x00\x00\x00\x00\x00\x00\x00\x00\x00\x00\x00\x00\x00\x00\x00\x00\x00\x00\x00\x00\x00\x00\x00\x00\x00\x20".as_slice()
     );
     assert!(rt; read_type_map(rt.alloc(), &["A", "TYPE65536"]).is_err());
+}
+
+/// The types of RFC 2535 section 5.3, in another order.
+#[test]
+fn small_type_maps(rt: HostRuntime) {
+    let Ok(map) = read_small_type_map(rt.alloc(), &["NXT", "a", "SIG", "MX"]) else {
+        panic!(rt; "no map");
+    };
+    assert_eq!(rt; map.as_slice(), b"\x40\x01\x00\x82".as_slice());
+    let Ok(last) = read_small_type_map(rt.alloc(), &["TYPE127"]) else {
+        panic!(rt; "no map");
+    };
+    assert_eq!(rt; last.len(), 16);
+}
+
+/// No types, the first type and the first one after those of the map, and no mnemonic.
+#[test]
+fn types_of_no_small_map(rt: HostRuntime) {
+    assert!(rt; read_small_type_map(rt.alloc(), &[]).is_err());
+    assert!(rt; read_small_type_map(rt.alloc(), &["A", "TYPE0"]).is_err());
+    assert!(rt; read_small_type_map(rt.alloc(), &["A", "TYPE128"]).is_err());
+    assert!(rt; read_small_type_map(rt.alloc(), &["A", "NOTYPE"]).is_err());
 }

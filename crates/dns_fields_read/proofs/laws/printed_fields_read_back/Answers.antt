@@ -4,11 +4,12 @@ use Rattle.dns_fields_read.proofs.AddressLaws.{ipv6_reads_back}
 use Rattle.dns_fields_read.proofs.EuiLemmas.{eui_reads_back}
 use Rattle.dns_fields_read.proofs.LocatorLemmas.{locators_read_back}
 use Rattle.dns_fields_read.proofs.NameLaws.{names_read_back}
+use Rattle.dns_fields_read.proofs.PrefixFieldLaws.{prefix_fields_read_back}
 use Rattle.dns_fields_read.proofs.PrefixLaws.{prefixes_read_back}
 use Rattle.dns_fields_read.proofs.SaltLaws.{hashes_read_back, salts_read_back}
 use Rattle.dns_fields_read.proofs.StringLaws.{string_reads_back, tag_reads_back}
 use Rattle.dns_fields_read.proofs.TypeLaws.{types_read_back}
-use Rattle.dns_fields_read.proofs.TypeMapLaws.{type_maps_read_back}
+use Rattle.dns_fields_read.proofs.TypeMapLaws.{small_type_maps_read_back, type_maps_read_back}
 use Rattle.dns_fields_read.proofs.laws.printed_fields_read_back.Goals as goal
 
 pub returns-clause-types : goal.returns-clause-types
@@ -47,5 +48,11 @@ returns-clause-times c = λ seconds small. inl (small, refl)
 pub returns-clause-prefixes : goal.returns-clause-prefixes
 returns-clause-prefixes c = prefixes_read_back
 
+pub returns-clause-prefix_fields : goal.returns-clause-prefix_fields
+returns-clause-prefix_fields c = prefix_fields_read_back
+
 pub returns-clause-type_maps : goal.returns-clause-type_maps
 returns-clause-type_maps c = type_maps_read_back
+
+pub returns-clause-small_type_maps : goal.returns-clause-small_type_maps
+returns-clause-small_type_maps c = small_type_maps_read_back

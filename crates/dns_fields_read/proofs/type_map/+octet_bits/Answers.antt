@@ -1,6 +1,7 @@
 use Rattle.std.proofs.Common.{◌≡◌, ◌∙◌, ◌+◌, ◌-◌, ◌/◌, Bool, ℕ, sym, ap, arith}
 use Rattle.std.specs.Prelude.{if◌then◌else◌}
-use Rattle.dns_fields_read.specs.TypeMapWords.{has, octet_bits}
+use Rattle.dns_fields_read.specs.TypeBits.{octet_bits}
+use Rattle.dns_fields_read.specs.TypeMapWords.{has}
 use Rattle.dns_fields_read.proofs.TypeMapLemmas.{bits_more}
 use Rattle.dns_fields_read.proofs.type_map.+octet_bits.Goals as goal
 

@@ -1,6 +1,7 @@
 use Rattle.std.proofs.Common.{◌≡◌, ◌∙◌, ◌-◌, ◌+◌, ◌∷◌, [], ◌++◌, ℕ, List, sym, ap, arith, append-nil, append_assoc}
 use Rattle.std.proofs.lemmas.Grind.{common_steps}
-use Rattle.dns_fields_read.specs.TypeMapWords.{has, octets_bits}
+use Rattle.dns_fields_read.specs.TypeBits.{octets_bits}
+use Rattle.dns_fields_read.specs.TypeMapWords.{has}
 use Rattle.dns_fields_read.proofs.TypeMapLemmas.{octets_more}
 use Rattle.dns_fields_read.proofs.type_map.+push_octets.Goals as goal
 

@@ -2,8 +2,9 @@ use Rattle.std.proofs.Common.{◌≡◌, ◌≢◌, ◌∙◌, ◌*◌, ◌/◌,
 use Rattle.std.specs.List.{list_any}
 use Rattle.std.proofs.lemmas.Bool.{eqb-true, false≢true}
 use Rattle.std.proofs.lemmas.Grind.{common_steps}
-use Rattle.dns_fields_read.specs.TypeMapWords.{IsWindow, has, octets_bits}
-use Rattle.dns_fields_read.proofs.TypeMapLemmas.{block_some, empty_is, window_is, window_none}
+use Rattle.dns_fields_read.specs.TypeBits.{IsBits, octets_bits}
+use Rattle.dns_fields_read.specs.TypeMapWords.{has}
+use Rattle.dns_fields_read.proofs.TypeMapLemmas.{block_some, empty_is, trimmed_is, window_none}
 use Rattle.dns_fields_read.proofs.type_map.push_block.Goals as goal
 
 pub returns-then-not-has_window : goal.returns-then-not-has_window
@@ -20,11 +21,11 @@ returns-then-is_empty c =
     ∙ ap (λ (xs : List ℕ). xs ++ octets_bits (has c.args.types.now) (c.from-2.result * 256) 32) c.new-octets.ensures
     ∙ ap (λ (w : ℕ). octets_bits (has c.args.types.now) (w * 256) 32) c.from-2.ensures in
     let is =
-    window_is (has c.args.types.now) c.args.window c.as_slice.result.now c.trimmed-bits.result.now all (ap length all) c.trimmed-bits.ensures.trimmed c.trimmed-bits.ensures.fits
+    trimmed_is (has c.args.types.now) (c.args.window * 256) 32 c.as_slice.result.now c.trimmed-bits.result.now all c.trimmed-bits.ensures.trimmed c.trimmed-bits.ensures.fits
     c.trimmed-bits.ensures.zeros in
     let none = eqb-true (length c.trimmed-bits.result.now) 0 (sym c.is_empty.ensures ∙ c.if-is_empty.true) in (
       [],
-      subst (IsWindow (has c.args.types.now) c.args.window) (empty_is c.trimmed-bits.result.now none) is,
+      subst (IsBits (has c.args.types.now) (c.args.window * 256) 32) (empty_is c.trimmed-bits.result.now none) is,
       sym (append-nil c.args.map.now.items),
     )
 
@@ -36,7 +37,7 @@ returns c =
     ∙ ap (λ (xs : List ℕ). xs ++ octets_bits (has c.args.types.now) (c.from-2.result * 256) 32) c.new-octets.ensures
     ∙ ap (λ (w : ℕ). octets_bits (has c.args.types.now) (w * 256) 32) c.from-2.ensures in
     let is =
-    window_is (has c.args.types.now) c.args.window c.as_slice.result.now c.trimmed-bits.result.now all (ap length all) c.trimmed-bits.ensures.trimmed c.trimmed-bits.ensures.fits
+    trimmed_is (has c.args.types.now) (c.args.window * 256) 32 c.as_slice.result.now c.trimmed-bits.result.now all c.trimmed-bits.ensures.trimmed c.trimmed-bits.ensures.fits
     c.trimmed-bits.ensures.zeros in
     let some : length c.trimmed-bits.result.now ≢ 0 =
     λ e. false≢true (sym (sym c.is_empty.ensures ∙ c.if-is_empty.false) ∙ eq-eqb (length c.trimmed-bits.result.now) 0 e) in
