@@ -1,6 +1,7 @@
 pub mod Addresses
 pub mod Base32Words
 pub mod EuiWords
+pub mod JoinedWords
 pub mod Laws
 pub mod LocatorWords
 pub mod NameWords

@@ -5,6 +5,7 @@
 mod address;
 mod base32;
 mod eui;
+mod joined;
 pub mod laws;
 mod locator;
 mod name;
@@ -16,6 +17,7 @@ mod type_name;
 
 pub use address::{read_ipv4, read_ipv6};
 pub use eui::{read_eui48, read_eui64};
+pub use joined::{read_base64_words, read_hex_words};
 pub use locator::read_locator;
 pub use name::read_name;
 pub use prefix::read_prefixes;
