@@ -1,4 +1,5 @@
 mod AddressLaws
+mod AppendLemmas
 mod Base32Lemmas
 mod BlockLemmas
 mod Calendar

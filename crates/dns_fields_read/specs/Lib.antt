@@ -8,6 +8,7 @@ pub mod NameWords
 pub mod PrefixWords
 pub mod Reading
 pub mod Salts
+pub mod SizedWords
 pub mod TimeWords
 pub mod TypeMapWords
 pub mod TypeWords

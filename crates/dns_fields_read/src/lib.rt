@@ -3,6 +3,7 @@
 #![tactic(auto)]
 
 mod address;
+mod append;
 mod base32;
 mod eui;
 mod joined;
@@ -11,6 +12,7 @@ mod locator;
 mod name;
 mod prefix;
 mod salt;
+mod sized;
 mod time;
 mod type_map;
 mod type_name;
@@ -22,6 +24,7 @@ pub use locator::read_locator;
 pub use name::read_name;
 pub use prefix::read_prefixes;
 pub use salt::{read_hash, read_salt};
+pub use sized::read_sized;
 pub use time::read_time;
 pub use type_map::read_type_map;
 pub use type_name::read_type;
