@@ -4,6 +4,7 @@ mod Base32Lemmas
 mod BlockLemmas
 mod Calendar
 mod EuiLemmas
+mod GatewayLemmas
 mod LocatorLemmas
 mod NameLaws
 mod NameLemmas

@@ -6,6 +6,7 @@ mod address;
 mod append;
 mod base32;
 mod eui;
+mod gateway;
 mod joined;
 pub mod laws;
 mod locator;
@@ -19,6 +20,7 @@ mod type_name;
 
 pub use address::{read_ipv4, read_ipv6};
 pub use eui::{read_eui48, read_eui64};
+pub use gateway::{read_gateway, read_relay};
 pub use joined::{read_base64_words, read_hex_words};
 pub use locator::read_locator;
 pub use name::read_name;
