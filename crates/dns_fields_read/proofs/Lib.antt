@@ -5,6 +5,7 @@ mod BlockLemmas
 mod Calendar
 mod EuiLemmas
 mod GatewayLemmas
+mod IdentityLemmas
 mod LocatorLemmas
 mod NameLaws
 mod NameLemmas

@@ -2,6 +2,7 @@ pub mod Addresses
 pub mod Base32Words
 pub mod EuiWords
 pub mod GatewayWords
+pub mod IdentityWords
 pub mod JoinedWords
 pub mod Laws
 pub mod LocatorWords
