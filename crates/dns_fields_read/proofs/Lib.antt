@@ -4,7 +4,10 @@ mod Base32Lemmas
 mod BlockLemmas
 mod Calendar
 mod EuiLemmas
+mod FoundNames
+mod GatewayLaws
 mod GatewayLemmas
+mod IdentityLaws
 mod IdentityLemmas
 mod LocatorLemmas
 mod NameLaws
@@ -13,6 +16,8 @@ mod PrefixLaws
 mod PrefixLemmas
 mod RowLemmas
 mod SaltLaws
+mod SizedLaws
+mod SpaceLemmas
 mod StringLaws
 mod TypeLaws
 mod TypeLemmas

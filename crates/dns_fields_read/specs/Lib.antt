@@ -8,6 +8,7 @@ pub mod Laws
 pub mod LocatorWords
 pub mod NameWords
 pub mod PrefixWords
+pub mod PrintedWords
 pub mod Reading
 pub mod Salts
 pub mod SizedWords
