@@ -138,7 +138,8 @@ fn read_typed_relay(
     }
 }
 
-/// A relay. The words are a bit that says whether discovery is optional, the relay type and the relay.
+/// A relay. The words are a bit that says whether discovery is optional, the relay type and the
+/// relay.
 pub fn read_relay(alloc: Global, words: &[&str]) -> Result<Vec<u8>, TextError>
     ensures { ReadsOctets (IsRelay words.now) result }
 {

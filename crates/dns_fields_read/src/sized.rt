@@ -75,8 +75,8 @@ fn after_length(alloc: Global, octets: &[u8]) -> Result<Vec<u8>, TextError>
     }
 }
 
-/// Octets after their length of 16 bits. The words are their number and, if it isn't zero, the octets
-/// in base64.
+/// Octets after their length of 16 bits. The words are their number and, if it isn't zero, the
+/// octets in base64.
 pub fn read_sized(alloc: Global, words: &[&str]) -> Result<Vec<u8>, TextError>
     ensures { ReadsOctets (IsSizedWords words.now) result }
 {

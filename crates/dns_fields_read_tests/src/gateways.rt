@@ -49,8 +49,8 @@ fn keys(rt: HostRuntime) -> Result<(), Fail> {
     Ok(())
 }
 
-/// Another type, gateways of another type than the number says, numbers of more than 8 bits, missing
-/// words, and words that aren't base64.
+/// Another type, gateways of another type than the number says, a number of more than 8 bits,
+/// missing words, and words that aren't base64.
 const NOT_GATEWAYS: &[&[&str]] = &[
     &["4", "2", "."],
     &["0", "2", "192.0.2.38"],
@@ -142,8 +142,8 @@ fn identities(rt: HostRuntime) -> Result<(), Fail> {
     Ok(())
 }
 
-/// A number of more than 8 bits, a tag and keys that aren't digits, missing words, and a server that
-/// is no name.
+/// A number of more than 8 bits, tags and keys that aren't digits, missing words, and a server
+/// that is no name.
 const NOT_IDENTITIES: &[&[&str]] = &[
     &["256", "20", "AwE="],
     &["2", "2", "AwE="],
