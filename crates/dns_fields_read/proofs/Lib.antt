@@ -1,10 +1,16 @@
 mod AddressLaws
+mod AppendLemmas
 mod Base32Lemmas
 mod BlockLemmas
 mod ByteLemmas
 mod Calendar
 mod EuiLemmas
 mod HashLemmas
+mod FoundNames
+mod GatewayLaws
+mod GatewayLemmas
+mod IdentityLaws
+mod IdentityLemmas
 mod LocatorLemmas
 mod NameLaws
 mod NameLemmas
@@ -15,6 +21,8 @@ mod RowLemmas
 mod SaltLaws
 mod SmallMapLemmas
 mod SpacedWords
+mod SizedLaws
+mod SpaceLemmas
 mod StringLaws
 mod TypeLaws
 mod TypeLemmas

@@ -1,5 +1,5 @@
 -- What is printed of a value reads back as that value.
-use Rattle.std.specs.Prelude.{◌≡◌, ℕ, ◌<◌, ◌≤◌, ◌^◌, true, List, length, map, All, Some}
+use Rattle.std.specs.Prelude.{◌≡◌, ℕ, ◌<◌, ◌≤◌, ◌^◌, true, List, length, map, All, Some, ◌++◌, codes}
 use Rattle.std.specs.Borrow.{Bor}
 use Rattle.std.specs.Net.Addr.{segments_of}
 use Rattle.std.specs.Net.Grammar.{IsDotted}
@@ -14,8 +14,10 @@ use Rattle.dns_value_text.specs.Strings.{SpellsString}
 use Rattle.dns_value_text.specs.Time.{time_text}
 use Rattle.dns_fields.specs.Prefixes.{are_prefixes}
 use Rattle.dns_fields.specs.TypeMaps.{is_type_map}
-use Rattle.dns_fields_text.specs.FieldTexts.{prefixes_text, salt_text}
+use Rattle.dns_fields_text.specs.FieldTexts.{prefixes_text, salt_text, sized_text}
 use Rattle.dns_fields_text.specs.PrefixItems.{PrefixItem, prefixes_of}
+use Rattle.dns_fields_text.specs.GatewayTexts.{gateway_text, relay_text}
+use Rattle.dns_fields_text.specs.HostIdentities.{identity_text}
 use Rattle.dns_fields_text.specs.Prefixes.{has_word, prefix_text}
 use Rattle.dns_fields_text.specs.Separated.{spaced}
 use Rattle.dns_fields_text.specs.TypeMaps.{is_small_map, map_types, octet_types}
@@ -23,9 +25,13 @@ use Rattle.dns_fields_text.specs.TypeNames.{type_word}
 use Rattle.dns_fields_text.specs.ZoneNames.{zone_name_text}
 use Rattle.dns_fields_read.specs.Addresses.{IsIpv6Word}
 use Rattle.dns_fields_read.specs.EuiWords.{IsEuiWord}
+use Rattle.dns_fields_read.specs.GatewayWords.{IsGateway, IsRelay}
+use Rattle.dns_fields_read.specs.IdentityWords.{IsHostIdentity}
 use Rattle.dns_fields_read.specs.LocatorWords.{IsLocatorWord}
 use Rattle.dns_fields_read.specs.PrefixWords.{ArePrefixWords, IsPrefixWord}
+use Rattle.dns_fields_read.specs.PrintedWords.{AreWords}
 use Rattle.dns_fields_read.specs.Salts.{IsCounted, IsHashWord, IsSaltWord}
+use Rattle.dns_fields_read.specs.SizedWords.{IsSizedWords, sized}
 use Rattle.dns_fields_read.specs.TimeWords.{IsTimeWord}
 use Rattle.dns_fields_read.specs.TypeMapWords.{AreTypeTexts, IsSmallTypeMap, IsTypeMap}
 use Rattle.dns_fields_read.specs.TypeWords.{IsTypeWord}
@@ -90,3 +96,20 @@ TypeMapsReadBack = (words : List (Bor (List ℕ))) (octets : List ℕ) → IsByt
 -- type bit maps of types up to 127
 abbrev pub SmallTypeMapsReadBack : Type 0
 SmallTypeMapsReadBack = (words : List (Bor (List ℕ))) (octets : List ℕ) → IsBytes octets → is_small_map octets ≡ true → AreTypeTexts words (octet_types 0 octets) → IsSmallTypeMap words octets
+
+-- gateways with their public keys; each printed word comes after a space
+abbrev pub GatewaysReadBack : Type 0
+GatewaysReadBack = (octets text : List ℕ) (words : List (Bor (List ℕ))) → IsBytes octets → gateway_text octets ≡ Some text → AreWords text words → IsGateway words octets
+
+-- relays; each printed word comes after a space
+abbrev pub RelaysReadBack : Type 0
+RelaysReadBack = (octets text : List ℕ) (words : List (Bor (List ℕ))) → IsBytes octets → relay_text octets ≡ Some text → AreWords text words → IsRelay words octets
+
+-- host identities; spaces separate the printed words
+abbrev pub IdentitiesReadBack : Type 0
+IdentitiesReadBack =
+    (octets text : List ℕ) (words : List (Bor (List ℕ))) → IsBytes octets → identity_text octets ≡ Some text → AreWords (codes " " ++ text) words → IsHostIdentity words octets
+
+-- octets that a length of 16 bits counts; spaces separate the printed words
+abbrev pub SizedReadBack : Type 0
+SizedReadBack = (octets : List ℕ) (words : List (Bor (List ℕ))) → IsBytes octets → length octets < 65536 → AreWords (codes " " ++ sized_text octets) words → IsSizedWords words (sized octets)

@@ -1,12 +1,17 @@
 pub mod Addresses
 pub mod Base32Words
 pub mod EuiWords
+pub mod GatewayWords
+pub mod IdentityWords
+pub mod JoinedWords
 pub mod Laws
 pub mod LocatorWords
 pub mod NameWords
 pub mod PrefixWords
+pub mod PrintedWords
 pub mod Reading
 pub mod Salts
+pub mod SizedWords
 pub mod TimeWords
 pub mod TypeBits
 pub mod TypeMapWords

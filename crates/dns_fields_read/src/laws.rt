@@ -1,5 +1,5 @@
 //! Theorems on values and their words. Each contract is a theorem.
-ghost use Rattle.dns_fields_read.specs.Laws.{EuiReadsBack, HashesReadBack, Ipv4ReadsBack, Ipv6ReadsBack, LocatorsReadBack, NamesReadBack, PrefixFieldsReadBack, PrefixesReadBack, SaltsReadBack, SmallTypeMapsReadBack, StringsReadBack, TagsReadBack, TimesReadBack, TypeMapsReadBack, TypesReadBack};
+ghost use Rattle.dns_fields_read.specs.Laws.{EuiReadsBack, HashesReadBack, Ipv4ReadsBack, Ipv6ReadsBack, LocatorsReadBack, NamesReadBack, PrefixFieldsReadBack, PrefixesReadBack, SaltsReadBack, SmallTypeMapsReadBack, StringsReadBack, TagsReadBack, TimesReadBack, TypeMapsReadBack, TypesReadBack, GatewaysReadBack, IdentitiesReadBack, RelaysReadBack, SizedReadBack};
 
 use dns_value_text::laws::printed_values_read_back;
 
@@ -20,6 +20,10 @@ pub fn printed_fields_read_back()
     ensures prefix_fields { PrefixFieldsReadBack }
     ensures type_maps { TypeMapsReadBack }
     ensures small_type_maps { SmallTypeMapsReadBack }
+    ensures sized { SizedReadBack }
+    ensures gateways { GatewaysReadBack }
+    ensures relays { RelaysReadBack }
+    ensures identities { IdentitiesReadBack }
 {
     printed_values_read_back();
 }

@@ -5,6 +5,8 @@
 #![tactic(auto)]
 
 #[cfg(test)]
+mod gateways;
+#[cfg(test)]
 mod octets;
 #[cfg(test)]
 mod values;

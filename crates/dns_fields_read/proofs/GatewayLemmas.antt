@@ -1,0 +1,56 @@
+-- Gateways and relays, and their words.
+use Rattle.std.proofs.Common.{◌≡◌, ◌∙◌, ℕ, List, sym, subst, arith, inl, inr}
+use Rattle.std.specs.Prelude.{Result}
+use Rattle.std.specs.Borrow.{Bor}
+use Rattle.std.specs.Net.Grammar.{IsDotted}
+use Rattle.dns_value_text.specs.declared.text_error.TextError.{TextError}
+use Rattle.dns_fields_read.specs.Addresses.{IsIpv6Word}
+use Rattle.dns_fields_read.specs.GatewayWords.{IsGatewayAndKey, IsGatewayOf, IsNumberTo, IsRelayOf}
+use Rattle.dns_fields_read.specs.NameWords.{IsNameWord}
+use Rattle.dns_fields_read.specs.Reading.{AppendsOctets}
+use Rattle.dns_fields_read.proofs.AppendLemmas.{appends_as}
+
+-- a word is one number
+one_number : (most : ℕ) (word : List ℕ) (m n : ℕ) → IsNumberTo most word m → IsNumberTo most word n → m ≡ n
+one_number most word m n a b = sym a.0.1 ∙ b.0.1
+
+-- a gateway of each type
+module _ (t : ℕ) (word octets : List ℕ) where
+  dotted_of : t ≡ 1 → IsGatewayOf t word octets → IsDotted word octets
+  dotted_of one (inl is) = let other = is.0 in absurd (omega arith)
+  dotted_of one (inr (inl is)) = is.1
+  dotted_of one (inr (inr (inl is))) = let two = is.0 in absurd (omega arith)
+  dotted_of one (inr (inr (inr is))) = let three = is.0 in absurd (omega arith)
+
+  colon_of : t ≡ 2 → IsGatewayOf t word octets → IsIpv6Word word octets
+  colon_of two (inl is) = let other = is.0 in absurd (omega arith)
+  colon_of two (inr (inl is)) = let one = is.0 in absurd (omega arith)
+  colon_of two (inr (inr (inl is))) = is.1
+  colon_of two (inr (inr (inr is))) = let three = is.0 in absurd (omega arith)
+
+  name_of : t ≡ 3 → IsGatewayOf t word octets → IsNameWord word octets
+  name_of three (inl is) = let other = is.0 in absurd (omega arith)
+  name_of three (inr (inl is)) = let one = is.0 in absurd (omega arith)
+  name_of three (inr (inr (inl is))) = let two = is.0 in absurd (omega arith)
+  name_of three (inr (inr (inr is))) = is.1
+
+module _ (t : ℕ) (word old new : List ℕ) (result : Result Unit TextError) where
+  pub appends_ipv4 : t ≡ 1 → AppendsOctets (IsDotted word) old new result → AppendsOctets (IsGatewayOf t word) old new result
+  appends_ipv4 one appended = appends_as (IsDotted word) (IsGatewayOf t word) old new result (λ octets is. inr (inl (one, is))) (λ octets is. dotted_of t word octets one is) appended
+
+  pub appends_ipv6 : t ≡ 2 → AppendsOctets (IsIpv6Word word) old new result → AppendsOctets (IsGatewayOf t word) old new result
+  appends_ipv6 two appended = appends_as (IsIpv6Word word) (IsGatewayOf t word) old new result (λ octets is. inr (inr (inl (two, is)))) (λ octets is. colon_of t word octets two is) appended
+
+  pub appends_name : t ≡ 3 → AppendsOctets (IsNameWord word) old new result → AppendsOctets (IsGatewayOf t word) old new result
+  appends_name three appended = appends_as (IsNameWord word) (IsGatewayOf t word) old new result (λ octets is. inr (inr (inr (three, is)))) (λ octets is. name_of t word octets three is) appended
+
+-- no gateway of the type that was read
+pub no_gateway : (type_word algorithm_word word : List ℕ) (key_words : List (Bor (List ℕ))) (t : ℕ) → IsNumberTo 3 type_word t → ((octets : List ℕ) → ¬ (IsGatewayOf t word octets))
+    → (octets : List ℕ) → ¬ (IsGatewayAndKey type_word algorithm_word word key_words octets)
+no_gateway type_word algorithm_word word key_words t is_t none octets is =
+    none is.gateway (subst (λ (n : ℕ). IsGatewayOf n word is.gateway) (one_number 3 type_word is.gateway_type t is.is_type is_t) is.is_gateway)
+
+pub no_relay : (bit_word type_word word : List ℕ) (t : ℕ) → IsNumberTo 3 type_word t → ((octets : List ℕ) → ¬ (IsGatewayOf t word octets))
+    → (octets : List ℕ) → ¬ (IsRelayOf bit_word type_word word octets)
+no_relay bit_word type_word word t is_t none octets is =
+    none is.relay (subst (λ (n : ℕ). IsGatewayOf n word is.relay) (one_number 3 type_word is.relay_type t is.is_type is_t) is.is_relay)

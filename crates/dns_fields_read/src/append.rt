@@ -1,0 +1,29 @@
+//! Appending octets to those of a value.
+ghost use Rattle.std.specs.Prelude.{◌≡◌, ◌++◌, IfErr, OnOk};
+ghost use Rattle.dns_fields_read.specs.NameWords.{IsNameWord};
+ghost use Rattle.dns_fields_read.specs.Reading.{AppendsOctets};
+ghost use Rattle.dns_value_text.specs.declared.text_error.TextError.TheVariants.{OutOfMemory};
+
+use crate::name::read_name;
+use dns_value_text::TextError;
+
+/// Appends octets.
+pub(crate) fn push_octets(octets: &mut Vec<u8>, more: &[u8]) -> Result<(), TextError>
+    ensures ok { OnOk result (octets.new.items ≡ octets.old.items ++ more.now) }
+    ensures err { IfErr result (λ error. error ≡ OutOfMemory) }
+{
+    match octets.extend_from_slice(more) {
+        Ok(()) => Ok(()),
+        Err(_) => Err(TextError::OutOfMemory),
+    }
+}
+
+/// Appends the uncompressed octets of the name that a word represents.
+pub(crate) fn push_name(octets: &mut Vec<u8>, word: &str) -> Result<(), TextError>
+    ensures { AppendsOctets (IsNameWord word.now) octets.old.items octets.new.items result }
+{
+    let Some(name) = read_name(word) else {
+        return Err(TextError::BadWord);
+    };
+    push_octets(octets, name.as_slice())
+}

@@ -1,0 +1,85 @@
+//! Octets after their length (RFC 8945 section 4.2).
+ghost use Rattle.std.specs.Prelude.{◌≡◌, ◌<◌, length, IfErr, IfOk, []};
+ghost use Rattle.std.specs.Net.Grammar.{IsNumber};
+ghost use Rattle.dns_fields_read.specs.SizedWords.{AreSized, IsCountedBase64, IsSizedWords, sized};
+ghost use Rattle.dns_value_text.specs.Reading.{ReadsOctets};
+ghost use Rattle.dns_value_text.specs.declared.text_error.TextError.TheVariants.{OutOfMemory};
+
+use crate::append::push_octets;
+use dns_value_text::{TextError, read_base64, read_number};
+use std::alloc::Global;
+
+/// The greatest number of 16 bits.
+const MOST_OCTETS: usize = 65535;
+
+/// From 1 to 65,535 octets of base64 with padding.
+pub(crate) fn read_counted_base64(alloc: Global, word: &str) -> Result<Vec<u8>, TextError>
+    ensures { ReadsOctets (IsCountedBase64 word.now) result }
+{
+    let octets = read_base64(alloc, word)?;
+    if octets.is_empty() || octets.len() > MOST_OCTETS {
+        return Err(TextError::BadWord);
+    }
+    Ok(octets)
+}
+
+/// No octets, if the word is the number zero.
+fn read_none(alloc: Global, number: &str) -> Result<Vec<u8>, TextError>
+    ensures { ReadsOctets (λ octets. IsNumber 10 number.now 0 × (octets ≡ [])) result }
+{
+    match read_number(number, 0) {
+        Some(_) => Ok(Vec::new(alloc)),
+        None => Err(TextError::BadWord),
+    }
+}
+
+/// The octets of base64, if the other word is their number.
+fn read_some(alloc: Global, number: &str, word: &str) -> Result<Vec<u8>, TextError>
+    ensures { ReadsOctets (λ octets. IsNumber 10 number.now (length octets)
+        × IsCountedBase64 word.now octets) result }
+{
+    let octets = read_counted_base64(alloc, word)?;
+    let size = octets.len() as u64;
+    if read_number(number, size) == Some(size) {
+        Ok(octets)
+    } else {
+        Err(TextError::BadWord)
+    }
+}
+
+/// The octets that the words represent, without their number.
+fn read_octets(alloc: Global, words: &[&str]) -> Result<Vec<u8>, TextError>
+    ensures { ReadsOctets (AreSized words.now) result }
+{
+    match words {
+        [number] => read_none(alloc, number),
+        [number, word] => read_some(alloc, number, word),
+        _ => Err(TextError::BadWord),
+    }
+}
+
+/// The octets after their length of 16 bits.
+fn after_length(alloc: Global, octets: &[u8]) -> Result<Vec<u8>, TextError>
+    requires { length octets.now < 65536 }
+    ensures ok { IfOk result (λ all. all.items ≡ sized octets.now) }
+    ensures err { IfErr result (λ error. error ≡ OutOfMemory) }
+{
+    let mut all = Vec::new(alloc);
+    let size = octets.len();
+    if let Err(error) = push_octets(&mut all, &[(size / 256) as u8, (size % 256) as u8]) {
+        return Err(error);
+    }
+    match push_octets(&mut all, octets) {
+        Ok(()) => Ok(all),
+        Err(error) => Err(error),
+    }
+}
+
+/// Octets after their length of 16 bits. The words are their number and, if it isn't zero, the
+/// octets in base64.
+pub fn read_sized(alloc: Global, words: &[&str]) -> Result<Vec<u8>, TextError>
+    ensures { ReadsOctets (IsSizedWords words.now) result }
+{
+    let octets = read_octets(alloc, words)?;
+    after_length(alloc, octets.as_slice())
+}

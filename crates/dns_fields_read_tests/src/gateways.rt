@@ -1,0 +1,210 @@
+//! Words of gateways, relays, host identities, and octets after their length.
+use dns_fields_read::{
+    read_base64_words, read_gateway, read_hex_words, read_host_identity, read_relay, read_sized,
+};
+use std::test::Fail;
+
+/// The gateways of RFC 4025 section 3.2, after their precedence. Their keys are the same.
+const GATEWAYS: &[(&[&str], &[u8])] = &[
+    (&["1", "2", "192.0.2.38"], b"\x01\x02\xc0\x00\x02&"),
+    (&["0", "2", "."], b"\x00\x02"),
+    (
+        &["3", "2", "mygateway.example.com."],
+        b"\x03\x02\x09mygateway\x07example\x03com\x00",
+    ),
+    (
+        &["2", "2", "2001:0DB8:0:8002::2000:1"],
+        b"\x02\x02 \x01\x0d\xb8\x00\x00\x80\x02\x00\x00\x00\x00 \x00\x00\x01",
+    ),
+];
+
+#[test]
+fn gateways(rt: HostRuntime) -> Result<(), Fail> {
+    for (words, octets) in GATEWAYS {
+        let Ok(read) = read_gateway(rt.alloc(), words) else {
+            panic!(rt; "no gateway");
+        };
+        assert_eq!(rt; read.as_slice(), *octets);
+    }
+    Ok(())
+}
+
+/// The first gateway of RFC 4025 section 3.2, with its key in two words.
+#[test]
+fn keys(rt: HostRuntime) -> Result<(), Fail> {
+    let words = [
+        "1",
+        "2",
+        "192.0.2.38",
+        "AQNRU3mG7TVTO2BkR47usntb102uFJtu",
+        "gbo6BSGvgqt4AQ==",
+    ];
+    let Ok(read) = read_gateway(rt.alloc(), &words) else {
+        panic!(rt; "no gateway");
+    };
+    assert_eq!(rt;
+        read.as_slice(),
+        b"\x01\x02\xc0\x00\x02&\x01\x03QSy\x86\xed5S;`dG\x8e\xee\xb2{[\xd7M\xae\x14\x9bn\x81\xba:\x05!\xaf\x82\xabx\x01".as_slice()
+    );
+    Ok(())
+}
+
+/// Another type, gateways of another type than the number says, a number of more than 8 bits,
+/// missing words, and words that aren't base64.
+const NOT_GATEWAYS: &[&[&str]] = &[
+    &["4", "2", "."],
+    &["0", "2", "192.0.2.38"],
+    &["1", "2", "."],
+    &["1", "2", "2001:db8::1"],
+    &["2", "2", "192.0.2.38"],
+    &["3", "2", "a..b"],
+    &["0", "256", "."],
+    &["0", "2"],
+    &[],
+    &["0", "2", ".", "AQ=", "A"],
+];
+
+#[test]
+fn words_of_no_gateway(rt: HostRuntime) -> Result<(), Fail> {
+    for words in NOT_GATEWAYS {
+        assert!(rt; read_gateway(rt.alloc(), words).is_err());
+    }
+    Ok(())
+}
+
+/// The relays of RFC 8777 section 4.3.2, after their precedence.
+const RELAYS: &[(&[&str], &[u8])] = &[
+    (&["0", "1", "203.0.113.15"], b"\x01\xcb\x00q\x0f"),
+    (
+        &["0", "2", "2001:db8::15"],
+        b"\x02 \x01\x0d\xb8\x00\x00\x00\x00\x00\x00\x00\x00\x00\x00\x00\x15",
+    ),
+    (
+        &["1", "3", "amtrelays.example.com."],
+        b"\x83\x09amtrelays\x07example\x03com\x00",
+    ),
+    (&["0", "0", "."], b"\x00"),
+];
+
+#[test]
+fn relays(rt: HostRuntime) -> Result<(), Fail> {
+    for (words, octets) in RELAYS {
+        let Ok(read) = read_relay(rt.alloc(), words) else {
+            panic!(rt; "no relay");
+        };
+        assert_eq!(rt; read.as_slice(), *octets);
+    }
+    Ok(())
+}
+
+/// Another bit, another type, and other numbers of words.
+const NOT_RELAYS: &[&[&str]] = &[
+    &["2", "1", "203.0.113.15"],
+    &["0", "4", "203.0.113.15"],
+    &["0", "1"],
+    &["0", "1", "203.0.113.15", "203.0.113.15"],
+];
+
+#[test]
+fn words_of_no_relay(rt: HostRuntime) -> Result<(), Fail> {
+    for words in NOT_RELAYS {
+        assert!(rt; read_relay(rt.alloc(), words).is_err());
+    }
+    Ok(())
+}
+
+/// The words of the algorithm, the tag and the key in RFC 8005 section 6.
+const IDENTITY: [&str; 3] = [
+    "2",
+    "200100107B1A74DF365639CC39F1D578",
+    "AwEAAbdxyhNuSutc5EMzxTs9LBPCIkOFH8cIvM4p9+LrV4e19WzK00+CI6zBCQTdtWsuxKbWIy87UOoJTwkUs7lBu+Upr1gsNrut79ryra+bSRGQb1slImA8YVJyuIDsj7kwzG7jnERNqnWxZ48AWkskmdHaVDP4BcelrTI3rMXdXF5D",
+];
+
+/// The octets of these words.
+const IDENTITY_OCTETS: &[u8] =
+    b"\x10\x02\x00\x84 \x01\x00\x10{\x1at\xdf6V9\xcc9\xf1\xd5x\x03\x01\x00\x01\xb7q\xca\x13nJ\xeb\\\xe4C3\xc5;=,\x13\xc2\"C\x85\x1f\xc7\x08\xbc\xce)\xf7\xe2\xebW\x87\xb5\xf5l\xca\xd3O\x82#\xac\xc1\x09\x04\xdd\xb5k.\xc4\xa6\xd6#/;P\xea\x09O\x09\x14\xb3\xb9A\xbb\xe5)\xafX,6\xbb\xad\xef\xda\xf2\xad\xaf\x9bI\x11\x90o[%\"`<aRr\xb8\x80\xec\x8f\xb90\xccn\xe3\x9cDM\xaau\xb1g\x8f\x00ZK$\x99\xd1\xdaT3\xf8\x05\xc7\xa5\xad27\xac\xc5\xdd\\^C";
+
+#[test]
+fn identities(rt: HostRuntime) -> Result<(), Fail> {
+    let Ok(read) = read_host_identity(rt.alloc(), &IDENTITY) else {
+        panic!(rt; "no identity");
+    };
+    assert_eq!(rt; read.as_slice(), IDENTITY_OCTETS);
+    let words = [IDENTITY[0], IDENTITY[1], IDENTITY[2], "rvs.example.com."];
+    let Ok(served) = read_host_identity(rt.alloc(), &words) else {
+        panic!(rt; "no identity");
+    };
+    let Some((identity, servers)) = served.split_at_checked(IDENTITY_OCTETS.len()) else {
+        panic!(rt; "no servers");
+    };
+    assert_eq!(rt; identity, IDENTITY_OCTETS);
+    assert_eq!(rt; servers, b"\x03rvs\x07example\x03com\x00".as_slice());
+    Ok(())
+}
+
+/// A number of more than 8 bits, tags and keys that aren't digits, missing words, and a server
+/// that is no name.
+const NOT_IDENTITIES: &[&[&str]] = &[
+    &["256", "20", "AwE="],
+    &["2", "2", "AwE="],
+    &["2", "", "AwE="],
+    &["2", "20", "AwE"],
+    &["2", "20", ""],
+    &["2", "20"],
+    &["2", "20", "AwE=", "a..b"],
+];
+
+#[test]
+fn words_of_no_identity(rt: HostRuntime) -> Result<(), Fail> {
+    for words in NOT_IDENTITIES {
+        assert!(rt; read_host_identity(rt.alloc(), words).is_err());
+    }
+    Ok(())
+}
+
+#[test]
+fn octets_after_their_length(rt: HostRuntime) -> Result<(), Fail> {
+    let Ok(read) = read_sized(rt.alloc(), &["6", "Zm9vYmFy"]) else {
+        panic!(rt; "no octets");
+    };
+    assert_eq!(rt; read.as_slice(), b"\x00\x06foobar".as_slice());
+    let Ok(none) = read_sized(rt.alloc(), &["0"]) else {
+        panic!(rt; "no octets");
+    };
+    assert_eq!(rt; none.as_slice(), b"\x00\x00".as_slice());
+    Ok(())
+}
+
+/// Other numbers, and other numbers of words.
+const NOT_SIZED: &[&[&str]] = &[
+    &["5", "Zm9vYmFy"],
+    &["7", "Zm9vYmFy"],
+    &["65542", "Zm9vYmFy"],
+    &["0", ""],
+    &["6"],
+    &["6", "Zm9v", "YmFy"],
+    &[],
+];
+
+#[test]
+fn words_of_other_numbers(rt: HostRuntime) -> Result<(), Fail> {
+    for words in NOT_SIZED {
+        assert!(rt; read_sized(rt.alloc(), words).is_err());
+    }
+    Ok(())
+}
+
+/// Digits that are split, as in RFC 4034 section 2.3.
+#[test]
+fn split_digits(rt: HostRuntime) -> Result<(), Fail> {
+    let Ok(read) = read_base64_words(rt.alloc(), &["Zm9", "vYm", "Fy"]) else {
+        panic!(rt; "no octets");
+    };
+    assert_eq!(rt; read.as_slice(), b"foobar".as_slice());
+    let Ok(read) = read_hex_words(rt.alloc(), &["666", "f6F"]) else {
+        panic!(rt; "no octets");
+    };
+    assert_eq!(rt; read.as_slice(), b"foo".as_slice());
+    assert!(rt; read_base64_words(rt.alloc(), &["Zm9", "vYm"]).is_err());
+    Ok(())
+}
