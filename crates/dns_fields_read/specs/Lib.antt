@@ -1,10 +1,16 @@
 pub mod Addresses
+pub mod AnyOrder
 pub mod Base32Words
 pub mod EuiWords
 pub mod Laws
 pub mod LocatorWords
 pub mod NameWords
+pub mod ParameterKeys
+pub mod ParameterValues
+pub mod ParameterWords
 pub mod PrefixWords
+pub mod ProtocolNames
+pub mod ReadParameters
 pub mod Reading
 pub mod Salts
 pub mod TimeWords
