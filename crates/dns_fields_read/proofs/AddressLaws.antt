@@ -23,7 +23,7 @@ segment_count n (a ∷ []) even = absurd (omega arith)
 segment_count n (a ∷ b ∷ xs) even = let rest = segment_count (n - 1) xs (omega arith) in omega (arith, rest)
 
 -- each of 16 bits
-segments_fit : (xs : List ℕ) → IsBytes xs → (k : ℕ) → get_or (segments_of xs) k 0 < 2 ^ 16
+pub segments_fit : (xs : List ℕ) → IsBytes xs → (k : ℕ) → get_or (segments_of xs) k 0 < 2 ^ 16
 segments_fit [] small k = omega arith
 segments_fit (a ∷ []) small k = omega arith
 segments_fit (a ∷ b ∷ xs) small zero = let high : a < 256 = small 0 in let low : b < 256 = small 1 in omega arith

@@ -9,6 +9,7 @@ mod KeyLemmas
 mod LocatorLemmas
 mod NameLaws
 mod NameLemmas
+mod ParameterLaws
 mod ParameterLemmas
 mod PrefixLaws
 mod PrefixLemmas

@@ -13,6 +13,8 @@ use Rattle.dns_value_text.specs.String.{is_tag, quoted}
 use Rattle.dns_value_text.specs.Strings.{SpellsString}
 use Rattle.dns_value_text.specs.Time.{time_text}
 use Rattle.dns_fields_text.specs.FieldTexts.{salt_text}
+use Rattle.dns_fields_text.specs.ParameterItems.{ParameterItem}
+use Rattle.dns_fields_text.specs.Parameters.{parameter_word}
 use Rattle.dns_fields_text.specs.PrefixItems.{PrefixItem}
 use Rattle.dns_fields_text.specs.Prefixes.{has_word, prefix_text}
 use Rattle.dns_fields_text.specs.TypeMaps.{map_types}
@@ -21,6 +23,7 @@ use Rattle.dns_fields_text.specs.ZoneNames.{zone_name_text}
 use Rattle.dns_fields_read.specs.Addresses.{IsIpv6Word}
 use Rattle.dns_fields_read.specs.EuiWords.{IsEuiWord}
 use Rattle.dns_fields_read.specs.LocatorWords.{IsLocatorWord}
+use Rattle.dns_fields_read.specs.ParameterWords.{IsParameterWord}
 use Rattle.dns_fields_read.specs.PrefixWords.{IsPrefixWord}
 use Rattle.dns_fields_read.specs.Salts.{IsCounted, IsHashWord, IsSaltWord}
 use Rattle.dns_fields_read.specs.TimeWords.{IsTimeWord}
@@ -78,3 +81,7 @@ PrefixesReadBack = (item : PrefixItem) → IsBytes item.address → has_word ite
 -- type bit maps of blocks in order, none of them empty or with zero octets at the end
 abbrev pub TypeMapsReadBack : Type 0
 TypeMapsReadBack = (words : List (Bor (List ℕ))) (octets : List ℕ) → AreBlocks 0 octets → AreTypeTexts words (map_types octets) → IsTypeMap words octets
+
+-- service parameters, by name if the value is well-formed for the key, else by number
+abbrev pub ParametersReadBack : Type 0
+ParametersReadBack = (item : ParameterItem) → IsBytes item.value → item.key < 2 ^ 16 → length item.value < 2 ^ 16 → IsParameterWord (parameter_word item) item

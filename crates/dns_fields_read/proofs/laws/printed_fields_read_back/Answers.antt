@@ -4,6 +4,7 @@ use Rattle.dns_fields_read.proofs.AddressLaws.{ipv6_reads_back}
 use Rattle.dns_fields_read.proofs.EuiLemmas.{eui_reads_back}
 use Rattle.dns_fields_read.proofs.LocatorLemmas.{locators_read_back}
 use Rattle.dns_fields_read.proofs.NameLaws.{names_read_back}
+use Rattle.dns_fields_read.proofs.ParameterLaws.{parameters_read_back}
 use Rattle.dns_fields_read.proofs.PrefixLaws.{prefixes_read_back}
 use Rattle.dns_fields_read.proofs.SaltLaws.{hashes_read_back, salts_read_back}
 use Rattle.dns_fields_read.proofs.StringLaws.{string_reads_back, tag_reads_back}
@@ -49,3 +50,6 @@ returns-clause-prefixes c = prefixes_read_back
 
 pub returns-clause-type_maps : goal.returns-clause-type_maps
 returns-clause-type_maps c = type_maps_read_back
+
+pub returns-clause-parameters : goal.returns-clause-parameters
+returns-clause-parameters c = parameters_read_back c.printed_values_read_back.ensures.base64
