@@ -1,4 +1,5 @@
 pub mod Addresses
+pub mod AnyOrder
 pub mod Base32Words
 pub mod EuiWords
 pub mod GatewayWords
@@ -7,8 +8,13 @@ pub mod JoinedWords
 pub mod Laws
 pub mod LocatorWords
 pub mod NameWords
+pub mod ParameterKeys
+pub mod ParameterValues
+pub mod ParameterWords
 pub mod PrefixWords
 pub mod PrintedWords
+pub mod ProtocolNames
+pub mod ReadParameters
 pub mod Reading
 pub mod Salts
 pub mod SizedWords

@@ -1,5 +1,5 @@
 //! Theorems on values and their words. Each contract is a theorem.
-ghost use Rattle.dns_fields_read.specs.Laws.{EuiReadsBack, HashesReadBack, Ipv4ReadsBack, Ipv6ReadsBack, LocatorsReadBack, NamesReadBack, PrefixFieldsReadBack, PrefixesReadBack, SaltsReadBack, SmallTypeMapsReadBack, StringsReadBack, TagsReadBack, TimesReadBack, TypeMapsReadBack, TypesReadBack, GatewaysReadBack, IdentitiesReadBack, RelaysReadBack, SizedReadBack};
+ghost use Rattle.dns_fields_read.specs.Laws.{EuiReadsBack, HashesReadBack, Ipv4ReadsBack, Ipv6ReadsBack, LocatorsReadBack, NamesReadBack, PrefixFieldsReadBack, PrefixesReadBack, SaltsReadBack, SmallTypeMapsReadBack, StringsReadBack, TagsReadBack, TimesReadBack, TypeMapsReadBack, TypesReadBack, GatewaysReadBack, IdentitiesReadBack, RelaysReadBack, SizedReadBack, ParametersReadBack};
 
 use dns_value_text::laws::printed_values_read_back;
 
@@ -24,6 +24,7 @@ pub fn printed_fields_read_back()
     ensures gateways { GatewaysReadBack }
     ensures relays { RelaysReadBack }
     ensures identities { IdentitiesReadBack }
+    ensures parameters { ParametersReadBack }
 {
     printed_values_read_back();
 }

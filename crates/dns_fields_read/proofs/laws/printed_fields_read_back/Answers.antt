@@ -7,6 +7,7 @@ use Rattle.dns_fields_read.proofs.IdentityLaws.{identities_read_back}
 use Rattle.dns_fields_read.proofs.LocatorLemmas.{locators_read_back}
 use Rattle.dns_fields_read.proofs.NameLaws.{names_read_back}
 use Rattle.dns_fields_read.proofs.PrefixFieldLaws.{prefix_fields_read_back}
+use Rattle.dns_fields_read.proofs.ParameterLaws.{parameters_read_back}
 use Rattle.dns_fields_read.proofs.PrefixLaws.{prefixes_read_back}
 use Rattle.dns_fields_read.proofs.SaltLaws.{hashes_read_back, salts_read_back}
 use Rattle.dns_fields_read.proofs.SizedLaws.{sized_read_back}
@@ -71,3 +72,6 @@ returns-clause-relays c = relays_read_back
 
 pub returns-clause-identities : goal.returns-clause-identities
 returns-clause-identities c = identities_read_back c.printed_values_read_back.ensures.hexadecimal c.printed_values_read_back.ensures.base64
+
+pub returns-clause-parameters : goal.returns-clause-parameters
+returns-clause-parameters c = parameters_read_back c.printed_values_read_back.ensures.base64
