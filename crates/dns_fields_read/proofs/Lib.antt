@@ -3,6 +3,7 @@ mod Base32Lemmas
 mod BlockLemmas
 mod Calendar
 mod EuiLemmas
+mod LocationLemmas
 mod LocatorLemmas
 mod NameLaws
 mod NameLemmas

@@ -2,6 +2,7 @@ pub mod Addresses
 pub mod Base32Words
 pub mod EuiWords
 pub mod Laws
+pub mod LocationWords
 pub mod LocatorWords
 pub mod NameWords
 pub mod PrefixWords

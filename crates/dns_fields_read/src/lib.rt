@@ -6,6 +6,7 @@ mod address;
 mod base32;
 mod eui;
 pub mod laws;
+mod location;
 mod locator;
 mod name;
 mod prefix;
@@ -16,6 +17,7 @@ mod type_name;
 
 pub use address::{read_ipv4, read_ipv6};
 pub use eui::{read_eui48, read_eui64};
+pub use location::read_location;
 pub use locator::read_locator;
 pub use name::read_name;
 pub use prefix::read_prefixes;
