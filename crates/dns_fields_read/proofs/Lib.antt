@@ -3,6 +3,7 @@ mod Base32Lemmas
 mod BlockLemmas
 mod Calendar
 mod EuiLemmas
+mod LocationLaws
 mod LocationLemmas
 mod LocatorLemmas
 mod NameLaws

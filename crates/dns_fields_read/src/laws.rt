@@ -1,5 +1,5 @@
 //! Theorems on values and their words. Each contract is a theorem.
-ghost use Rattle.dns_fields_read.specs.Laws.{EuiReadsBack, HashesReadBack, Ipv4ReadsBack, Ipv6ReadsBack, LocatorsReadBack, NamesReadBack, PrefixesReadBack, SaltsReadBack, StringsReadBack, TagsReadBack, TimesReadBack, TypeMapsReadBack, TypesReadBack};
+ghost use Rattle.dns_fields_read.specs.Laws.{EuiReadsBack, HashesReadBack, Ipv4ReadsBack, Ipv6ReadsBack, LocationsReadBack, LocatorsReadBack, NamesReadBack, PrefixesReadBack, SaltsReadBack, StringsReadBack, TagsReadBack, TimesReadBack, TypeMapsReadBack, TypesReadBack};
 
 use dns_value_text::laws::printed_values_read_back;
 
@@ -14,6 +14,7 @@ pub fn printed_fields_read_back()
     ensures salts { SaltsReadBack }
     ensures hashes { HashesReadBack }
     ensures eui { EuiReadsBack }
+    ensures locations { LocationsReadBack }
     ensures locators { LocatorsReadBack }
     ensures times { TimesReadBack }
     ensures prefixes { PrefixesReadBack }
