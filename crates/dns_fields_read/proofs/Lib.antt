@@ -14,6 +14,8 @@ mod HashLemmas
 mod IdentityLaws
 mod IdentityLemmas
 mod KeyLemmas
+mod LocationLaws
+mod LocationLemmas
 mod LocatorLemmas
 mod NameLaws
 mod NameLemmas

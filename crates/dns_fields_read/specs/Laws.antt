@@ -1,5 +1,5 @@
 -- What is printed of a value reads back as that value.
-use Rattle.std.specs.Prelude.{◌≡◌, ℕ, ◌<◌, ◌≤◌, ◌^◌, true, List, length, map, All, Some, ◌++◌, codes}
+use Rattle.std.specs.Prelude.{◌≡◌, ℕ, ◌<◌, ◌≤◌, ◌^◌, true, List, length, map, All, Some, ◌++◌, codes, ◌≢◌}
 use Rattle.std.specs.Borrow.{Bor}
 use Rattle.std.specs.Net.Addr.{segments_of}
 use Rattle.std.specs.Net.Grammar.{IsDotted}
@@ -9,6 +9,7 @@ use Rattle.dns_name.specs.Names.{Labels, IsName}
 use Rattle.dns_name.specs.NameTexts.{SpellsName}
 use Rattle.dns_value_text.specs.Addresses.{eui_text, locator_text}
 use Rattle.dns_value_text.specs.Base32.{base32_text}
+use Rattle.dns_value_text.specs.LocationItems.{LocationItem, location_of, location_text}
 use Rattle.dns_value_text.specs.String.{is_tag, quoted}
 use Rattle.dns_value_text.specs.Strings.{SpellsString}
 use Rattle.dns_value_text.specs.Time.{time_text}
@@ -29,6 +30,7 @@ use Rattle.dns_fields_read.specs.Addresses.{IsIpv6Word}
 use Rattle.dns_fields_read.specs.EuiWords.{IsEuiWord}
 use Rattle.dns_fields_read.specs.GatewayWords.{IsGateway, IsRelay}
 use Rattle.dns_fields_read.specs.IdentityWords.{IsHostIdentity}
+use Rattle.dns_fields_read.specs.LocationWords.{IsLocation}
 use Rattle.dns_fields_read.specs.LocatorWords.{IsLocatorWord}
 use Rattle.dns_fields_read.specs.PrefixWords.{ArePrefixWords, IsPrefixWord}
 use Rattle.dns_fields_read.specs.PrintedWords.{AreWords}
@@ -78,6 +80,12 @@ EuiReadsBack = (octets : List ℕ) → IsBytes octets → IsEuiWord (length octe
 -- locators and node identifiers
 abbrev pub LocatorsReadBack : Type 0
 LocatorsReadBack = (octets : List ℕ) → length octets ≡ 8 → IsBytes octets → IsLocatorWord (locator_text octets) octets
+
+-- locations that have a presentation format, as the words between the spaces of their texts
+abbrev pub LocationsReadBack : Type 0
+LocationsReadBack =
+    (words : List (Bor (List ℕ))) (octets : List ℕ) (item : LocationItem) → IsBytes octets → location_of octets ≡ Some item
+    → spaced (map (λ word. word.now) words) ≡ location_text item → All (λ word. All (λ octet. octet ≢ 32) word.now) words → IsLocation words octets
 
 -- times of 32 bits
 abbrev pub TimesReadBack : Type 0

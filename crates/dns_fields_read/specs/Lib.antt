@@ -6,6 +6,7 @@ pub mod GatewayWords
 pub mod IdentityWords
 pub mod JoinedWords
 pub mod Laws
+pub mod LocationWords
 pub mod LocatorWords
 pub mod NameWords
 pub mod ParameterKeys

@@ -1,5 +1,5 @@
 //! Theorems on values and their words. Each contract is a theorem.
-ghost use Rattle.dns_fields_read.specs.Laws.{EuiReadsBack, HashesReadBack, Ipv4ReadsBack, Ipv6ReadsBack, LocatorsReadBack, NamesReadBack, PrefixFieldsReadBack, PrefixesReadBack, SaltsReadBack, SmallTypeMapsReadBack, StringsReadBack, TagsReadBack, TimesReadBack, TypeMapsReadBack, TypesReadBack, GatewaysReadBack, IdentitiesReadBack, RelaysReadBack, SizedReadBack, ParametersReadBack};
+ghost use Rattle.dns_fields_read.specs.Laws.{EuiReadsBack, HashesReadBack, Ipv4ReadsBack, Ipv6ReadsBack, LocatorsReadBack, NamesReadBack, PrefixFieldsReadBack, PrefixesReadBack, SaltsReadBack, SmallTypeMapsReadBack, StringsReadBack, TagsReadBack, TimesReadBack, TypeMapsReadBack, TypesReadBack, GatewaysReadBack, IdentitiesReadBack, RelaysReadBack, SizedReadBack, ParametersReadBack, LocationsReadBack};
 
 use dns_value_text::laws::printed_values_read_back;
 
@@ -14,6 +14,7 @@ pub fn printed_fields_read_back()
     ensures salts { SaltsReadBack }
     ensures hashes { HashesReadBack }
     ensures eui { EuiReadsBack }
+    ensures locations { LocationsReadBack }
     ensures locators { LocatorsReadBack }
     ensures times { TimesReadBack }
     ensures prefixes { PrefixesReadBack }

@@ -4,6 +4,7 @@ use Rattle.dns_fields_read.proofs.AddressLaws.{ipv6_reads_back}
 use Rattle.dns_fields_read.proofs.EuiLemmas.{eui_reads_back}
 use Rattle.dns_fields_read.proofs.GatewayLaws.{gateways_read_back, relays_read_back}
 use Rattle.dns_fields_read.proofs.IdentityLaws.{identities_read_back}
+use Rattle.dns_fields_read.proofs.LocationLaws.{locations_read_back}
 use Rattle.dns_fields_read.proofs.LocatorLemmas.{locators_read_back}
 use Rattle.dns_fields_read.proofs.NameLaws.{names_read_back}
 use Rattle.dns_fields_read.proofs.PrefixFieldLaws.{prefix_fields_read_back}
@@ -42,6 +43,9 @@ returns-clause-hashes c = hashes_read_back
 
 pub returns-clause-eui : goal.returns-clause-eui
 returns-clause-eui c = eui_reads_back
+
+pub returns-clause-locations : goal.returns-clause-locations
+returns-clause-locations c = locations_read_back
 
 pub returns-clause-locators : goal.returns-clause-locators
 returns-clause-locators c = locators_read_back
