@@ -7,4 +7,6 @@
 #[cfg(test)]
 mod octets;
 #[cfg(test)]
+mod parameters;
+#[cfg(test)]
 mod values;
