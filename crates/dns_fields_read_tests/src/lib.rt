@@ -9,4 +9,6 @@ mod gateways;
 #[cfg(test)]
 mod octets;
 #[cfg(test)]
+mod parameters;
+#[cfg(test)]
 mod values;
