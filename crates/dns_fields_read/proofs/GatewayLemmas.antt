@@ -1,9 +1,10 @@
 -- Gateways and relays, and their words.
-use Rattle.std.proofs.Common.{◌≡◌, ◌∙◌, ℕ, List, sym, subst, arith, inl, inr}
+use Rattle.std.proofs.Common.{◌≡◌, ◌∙◌, ◌⊎◌, ℕ, List, sym, subst, arith, inl, inr}
 use Rattle.std.specs.Prelude.{Result}
 use Rattle.std.specs.Borrow.{Bor}
 use Rattle.std.specs.Net.Grammar.{IsDotted}
 use Rattle.dns_value_text.specs.declared.text_error.TextError.{TextError}
+use Rattle.dns_value_text.specs.declared.text_error.TextError.TheVariants.{BadWord, OutOfMemory}
 use Rattle.dns_fields_read.specs.Addresses.{IsIpv6Word}
 use Rattle.dns_fields_read.specs.GatewayWords.{IsGatewayAndKey, IsGatewayOf, IsNumberTo, IsRelayOf}
 use Rattle.dns_fields_read.specs.NameWords.{IsNameWord}
@@ -44,13 +45,23 @@ module _ (t : ℕ) (word old new : List ℕ) (result : Result Unit TextError) wh
   pub appends_name : t ≡ 3 → AppendsOctets (IsNameWord word) old new result → AppendsOctets (IsGatewayOf t word) old new result
   appends_name three appended = appends_as (IsNameWord word) (IsGatewayOf t word) old new result (λ octets is. inr (inr (inr (three, is)))) (λ octets is. name_of t word octets three is) appended
 
--- no gateway of the type that was read
-pub no_gateway : (type_word algorithm_word word : List ℕ) (key_words : List (Bor (List ℕ))) (t : ℕ) → IsNumberTo 3 type_word t → ((octets : List ℕ) → ¬ (IsGatewayOf t word octets))
-    → (octets : List ℕ) → ¬ (IsGatewayAndKey type_word algorithm_word word key_words octets)
-no_gateway type_word algorithm_word word key_words t is_t none octets is =
-    none is.gateway (subst (λ (n : ℕ). IsGatewayOf n word is.gateway) (one_number 3 type_word is.gateway_type t is.is_type is_t) is.is_gateway)
+-- why no gateway is read, of the type that was read
+abbrev Fails : (List ℕ → Type 0) → TextError → Type 0
+Fails Represents e = (e ≡ OutOfMemory) ⊎ ((e ≡ BadWord) × ((octets : List ℕ) → ¬ (Represents octets)))
 
-pub no_relay : (bit_word type_word word : List ℕ) (t : ℕ) → IsNumberTo 3 type_word t → ((octets : List ℕ) → ¬ (IsGatewayOf t word octets))
-    → (octets : List ℕ) → ¬ (IsRelayOf bit_word type_word word octets)
-no_relay bit_word type_word word t is_t none octets is =
-    none is.relay (subst (λ (n : ℕ). IsGatewayOf n word is.relay) (one_number 3 type_word is.relay_type t is.is_type is_t) is.is_relay)
+pub gateway_fails : (type_word algorithm_word word : List ℕ) (key_words : List (Bor (List ℕ))) (t : ℕ) (e : TextError) → IsNumberTo 3 type_word t → Fails (IsGatewayOf t word) e
+    → Fails (IsGatewayAndKey type_word algorithm_word word key_words) e
+gateway_fails type_word algorithm_word word key_words t e is_t (inl memory) = inl memory
+gateway_fails type_word algorithm_word word key_words t e is_t (inr bad) =
+    inr (
+      bad.0,
+      λ octets is. bad.1 is.gateway (subst (λ (n : ℕ). IsGatewayOf n word is.gateway) (one_number 3 type_word is.gateway_type t is.is_type is_t) is.is_gateway),
+    )
+
+pub relay_fails : (bit_word type_word word : List ℕ) (t : ℕ) (e : TextError) → IsNumberTo 3 type_word t → Fails (IsGatewayOf t word) e → Fails (IsRelayOf bit_word type_word word) e
+relay_fails bit_word type_word word t e is_t (inl memory) = inl memory
+relay_fails bit_word type_word word t e is_t (inr bad) =
+    inr (
+      bad.0,
+      λ octets is. bad.1 is.relay (subst (λ (n : ℕ). IsGatewayOf n word is.relay) (one_number 3 type_word is.relay_type t is.is_type is_t) is.is_relay),
+    )

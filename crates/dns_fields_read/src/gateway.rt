@@ -66,10 +66,8 @@ fn push_gateway(octets: &mut Vec<u8>, gateway_type: u8, word: &str) -> Result<()
 fn push_key(alloc: Global, octets: &mut Vec<u8>, words: &[&str]) -> Result<(), TextError>
     ensures { AppendsOctets (AreBase64 words.now) octets.old.items octets.new.items result }
 {
-    match read_base64_words(alloc, words) {
-        Ok(key) => push_octets(octets, key.as_slice()),
-        Err(error) => Err(error),
-    }
+    let key = read_base64_words(alloc, words)?;
+    push_octets(octets, key.as_slice())
 }
 
 /// A gateway type, an algorithm, a gateway and a public key.
@@ -90,16 +88,10 @@ fn read_gateway_and_key(
         return Err(TextError::BadWord);
     };
     let mut octets = Vec::new(alloc);
-    if let Err(error) = push_octets(&mut octets, &[gateway_type, algorithm]) {
-        return Err(error);
-    }
-    if let Err(error) = push_gateway(&mut octets, gateway_type, gateway) {
-        return Err(error);
-    }
-    match push_key(alloc, &mut octets, key) {
-        Ok(()) => Ok(octets),
-        Err(error) => Err(error),
-    }
+    push_octets(&mut octets, &[gateway_type, algorithm])?;
+    push_gateway(&mut octets, gateway_type, gateway)?;
+    push_key(alloc, &mut octets, key)?;
+    Ok(octets)
 }
 
 /// A gateway and its public key. The words are the gateway type, the algorithm, the gateway and the
@@ -129,13 +121,9 @@ fn read_typed_relay(
         return Err(TextError::BadWord);
     };
     let mut octets = Vec::new(alloc);
-    if let Err(error) = push_octets(&mut octets, &[bit * 128 + relay_type]) {
-        return Err(error);
-    }
-    match push_gateway(&mut octets, relay_type, relay) {
-        Ok(()) => Ok(octets),
-        Err(error) => Err(error),
-    }
+    push_octets(&mut octets, &[bit * 128 + relay_type])?;
+    push_gateway(&mut octets, relay_type, relay)?;
+    Ok(octets)
 }
 
 /// A relay. The words are a bit that says whether discovery is optional, the relay type and the

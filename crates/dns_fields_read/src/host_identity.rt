@@ -58,12 +58,8 @@ fn push_identity(
         (size / 256) as u8,
         (size % 256) as u8,
     ];
-    if let Err(error) = push_octets(octets, &head) {
-        return Err(error);
-    }
-    if let Err(error) = push_octets(octets, tag) {
-        return Err(error);
-    }
+    push_octets(octets, &head)?;
+    push_octets(octets, tag)?;
     push_octets(octets, key)
 }
 
@@ -83,13 +79,9 @@ fn read_identity(
     let tag = read_counted_hex(alloc, tag)?;
     let key = read_counted_base64(alloc, key)?;
     let mut octets = Vec::new(alloc);
-    if let Err(error) = push_identity(&mut octets, algorithm, tag.as_slice(), key.as_slice()) {
-        return Err(error);
-    }
-    match push_names(&mut octets, servers) {
-        Ok(()) => Ok(octets),
-        Err(error) => Err(error),
-    }
+    push_identity(&mut octets, algorithm, tag.as_slice(), key.as_slice())?;
+    push_names(&mut octets, servers)?;
+    Ok(octets)
 }
 
 /// A host identity. The words are the algorithm, the tag in hexadecimal, the key in base64 and the

@@ -66,13 +66,9 @@ fn after_length(alloc: Global, octets: &[u8]) -> Result<Vec<u8>, TextError>
 {
     let mut all = Vec::new(alloc);
     let size = octets.len();
-    if let Err(error) = push_octets(&mut all, &[(size / 256) as u8, (size % 256) as u8]) {
-        return Err(error);
-    }
-    match push_octets(&mut all, octets) {
-        Ok(()) => Ok(all),
-        Err(error) => Err(error),
-    }
+    push_octets(&mut all, &[(size / 256) as u8, (size % 256) as u8])?;
+    push_octets(&mut all, octets)?;
+    Ok(all)
 }
 
 /// Octets after their length of 16 bits. The words are their number and, if it isn't zero, the

@@ -7,6 +7,8 @@
 #[cfg(test)]
 mod gateways;
 #[cfg(test)]
+mod locations;
+#[cfg(test)]
 mod octets;
 #[cfg(test)]
 mod parameters;
