@@ -4,7 +4,6 @@ mod BlockLemmas
 mod ByteLemmas
 mod Calendar
 mod EuiLemmas
-mod HashLemmas
 mod LocatorLemmas
 mod NameLaws
 mod NameLemmas
@@ -13,6 +12,7 @@ mod PrefixLaws
 mod PrefixLemmas
 mod RowLemmas
 mod SaltLaws
+mod SaltLemmas
 mod SmallMapLemmas
 mod SpacedWords
 mod StringLaws
