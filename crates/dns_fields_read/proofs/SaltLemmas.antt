@@ -8,14 +8,13 @@ use Rattle.dns_value_text.specs.Reading.{ReadsOctets}
 use Rattle.dns_value_text.specs.declared.text_error.TextError.{TextError}
 use Rattle.dns_fields_read.specs.Base32Words.{IsBase32}
 use Rattle.dns_fields_read.specs.Salts.{IsCounted, IsHashWord, IsSaltWord}
-use Rattle.dns_fields_read.proofs.Base32Lemmas.{text_bound, text_length, word_length}
+use Rattle.dns_fields_read.proofs.Base32Lemmas.{text_size, word_length}
 
 -- base32
 pub hash_digits : (word octets : List ℕ) → IsHashWord word octets → (0 < length word) × (length word ≤ 408)
 hash_digits word octets is =
     let digits = word_length word octets is.0 in
-    let size = text_length octets in
-    let bound = text_bound octets in
+    let size = text_size octets in
     let some = is.1.0 in
     let few = is.1.1 in
     (omega arith, omega arith)
@@ -23,8 +22,7 @@ hash_digits word octets is =
 hash_octets : (word octets : List ℕ) → IsBase32 word octets → 0 < length word → length word ≤ 408 → IsCounted octets
 hash_octets word octets is some few =
     let digits = word_length word octets is in
-    let size = text_length octets in
-    let bound = text_bound octets in
+    let size = text_size octets in
     (omega arith, omega arith)
 
 pub hash_read : (word : List ℕ) (result : Result (Vec ℕ) TextError) → 0 < length word → length word ≤ 408 → ReadsOctets (IsBase32 word) result → ReadsOctets (IsHashWord word) result
