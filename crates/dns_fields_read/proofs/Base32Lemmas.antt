@@ -360,29 +360,18 @@ text_upper (a ∷ b ∷ c ∷ d ∷ e ∷ octets) =
 pub base32_reads_back : (octets : List ℕ) → IsBytes octets → IsBase32 (base32_text octets) octets
 base32_reads_back octets bytes = (bytes, text_upper octets)
 
--- the digits of octets say how many octets there are
-pub text_length : (octets : List ℕ) → length octets ≡ length (base32_text octets) * 5 / 8
-text_length [] = refl
-text_length (a ∷ []) = omega (arith, digits_length 2 (number_of (a ∷ []) * 4))
-text_length (a ∷ b ∷ []) = omega (arith, digits_length 4 (number_of (a ∷ b ∷ []) * 16))
-text_length (a ∷ b ∷ c ∷ []) = omega (arith, digits_length 5 (number_of (a ∷ b ∷ c ∷ []) * 2))
-text_length (a ∷ b ∷ c ∷ d ∷ []) = omega (arith, digits_length 7 (number_of (a ∷ b ∷ c ∷ d ∷ []) * 8))
-text_length (a ∷ b ∷ c ∷ d ∷ e ∷ octets) =
+-- eight digits for five octets
+pub text_size : (octets : List ℕ) → (8 * length octets ≤ 5 * length (base32_text octets)) × (5 * length (base32_text octets) ≤ 8 * length octets + 4)
+text_size [] = (omega arith, omega arith)
+text_size (a ∷ []) = let size = digits_length 2 (number_of (a ∷ []) * 4) in (omega arith, omega arith)
+text_size (a ∷ b ∷ []) = let size = digits_length 4 (number_of (a ∷ b ∷ []) * 16) in (omega arith, omega arith)
+text_size (a ∷ b ∷ c ∷ []) = let size = digits_length 5 (number_of (a ∷ b ∷ c ∷ []) * 2) in (omega arith, omega arith)
+text_size (a ∷ b ∷ c ∷ d ∷ []) = let size = digits_length 7 (number_of (a ∷ b ∷ c ∷ d ∷ []) * 8) in (omega arith, omega arith)
+text_size (a ∷ b ∷ c ∷ d ∷ e ∷ octets) =
     let first = digits_length 8 (number_of (a ∷ b ∷ c ∷ d ∷ e ∷ [])) in
-    let others = text_length octets in
-    omega (arith, first, others, length-append (base32_digits 8 (number_of (a ∷ b ∷ c ∷ d ∷ e ∷ []))) (base32_text octets))
-
--- and the octets, how many digits at most
-pub text_bound : (octets : List ℕ) → length (base32_text octets) * 5 ≤ length octets * 8 + 4
-text_bound [] = omega arith
-text_bound (a ∷ []) = omega (arith, digits_length 2 (number_of (a ∷ []) * 4))
-text_bound (a ∷ b ∷ []) = omega (arith, digits_length 4 (number_of (a ∷ b ∷ []) * 16))
-text_bound (a ∷ b ∷ c ∷ []) = omega (arith, digits_length 5 (number_of (a ∷ b ∷ c ∷ []) * 2))
-text_bound (a ∷ b ∷ c ∷ d ∷ []) = omega (arith, digits_length 7 (number_of (a ∷ b ∷ c ∷ d ∷ []) * 8))
-text_bound (a ∷ b ∷ c ∷ d ∷ e ∷ octets) =
-    let first = digits_length 8 (number_of (a ∷ b ∷ c ∷ d ∷ e ∷ [])) in
-    let others = text_bound octets in
-    omega (arith, first, others, length-append (base32_digits 8 (number_of (a ∷ b ∷ c ∷ d ∷ e ∷ []))) (base32_text octets))
+    let others = text_size octets in
+    let whole = length-append (base32_digits 8 (number_of (a ∷ b ∷ c ∷ d ∷ e ∷ []))) (base32_text octets) in
+    (omega arith, omega arith)
 
 pub word_length : (word octets : List ℕ) → IsBase32 word octets → length word ≡ length (base32_text octets)
 word_length word octets is = sym (length-map word to_ascii_uppercase) ∙ ap length is.1

@@ -10,7 +10,6 @@ mod EuiLemmas
 mod FoundNames
 mod GatewayLaws
 mod GatewayLemmas
-mod HashLemmas
 mod IdentityLaws
 mod IdentityLemmas
 mod KeyLemmas
@@ -27,6 +26,7 @@ mod PrefixLemmas
 mod ProtocolLemmas
 mod RowLemmas
 mod SaltLaws
+mod SaltLemmas
 mod SizedLaws
 mod SmallMapLemmas
 mod SpaceLemmas

@@ -6,11 +6,11 @@ use crate::base32::read_base32;
 use dns_value_text::{TextError, read_hex};
 use std::alloc::Global;
 
-/// The greatest number that a length octet counts.
-const MOST_OCTETS: usize = 255;
+/// The number of hexadecimal digits of 255 octets, the most that a length octet counts.
+const MOST_HEX_DIGITS: usize = 510;
 
-/// The number of base32 digits of that number of octets.
-const MOST_DIGITS: usize = 408;
+/// The number of base32 digits of 255 octets.
+const MOST_BASE32_DIGITS: usize = 408;
 
 /// A salt: hexadecimal digits in either case, or a hyphen for no octets. At most 255 octets.
 pub fn read_salt(alloc: Global, word: &str) -> Result<Vec<u8>, TextError>
@@ -19,18 +19,17 @@ pub fn read_salt(alloc: Global, word: &str) -> Result<Vec<u8>, TextError>
     if word == "-" {
         return Ok(Vec::new(alloc));
     }
-    let octets = read_hex(alloc, word)?;
-    if octets.is_empty() || octets.len() > MOST_OCTETS {
+    if word.is_empty() || word.len() > MOST_HEX_DIGITS {
         return Err(TextError::BadWord);
     }
-    Ok(octets)
+    read_hex(alloc, word)
 }
 
 /// A hash: base32 digits without padding, in either case. From 1 to 255 octets.
 pub fn read_hash(alloc: Global, word: &str) -> Result<Vec<u8>, TextError>
     ensures { ReadsOctets (IsHashWord word.now) result }
 {
-    if word.is_empty() || word.len() > MOST_DIGITS {
+    if word.is_empty() || word.len() > MOST_BASE32_DIGITS {
         return Err(TextError::BadWord);
     }
     read_base32(alloc, word)

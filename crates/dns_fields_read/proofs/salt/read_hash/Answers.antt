@@ -1,7 +1,7 @@
 use Rattle.std.proofs.Common.{◌∙◌, length, refl, sym, inr, arith}
 use Rattle.std.proofs.lemmas.Bool.{eqb-false}
 use Rattle.std.proofs.lemmas.Grind.{common_steps}
-use Rattle.dns_fields_read.proofs.HashLemmas.{digits_counted, hash_read}
+use Rattle.dns_fields_read.proofs.SaltLemmas.{hash_digits, hash_read}
 use Rattle.dns_fields_read.proofs.salt.read_hash.Goals as goal
 
 pub returns-then-is_empty : goal.returns-then-is_empty
@@ -9,7 +9,7 @@ returns-then-is_empty c =
     inr (
       refl,
       λ octets is.
-          let counted = digits_counted c.args.word.now octets is in
+          let counted = hash_digits c.args.word.now octets is in
           let some = counted.0 in
           let few = counted.1 in
           grind (arith, common_steps),
@@ -18,4 +18,4 @@ returns-then-is_empty c =
 pub returns : goal.returns
 returns c =
     let some = eqb-false (length c.args.word.now) 0 (sym c.is_empty.ensures ∙ c.if-is_empty.false) in
-    hash_read c.args.word.now c.read_base32.result (omega arith) c.if-word-gt-MOST_DIGITS.false c.read_base32.ensures
+    hash_read c.args.word.now c.read_base32.result (omega arith) c.if-word-gt-MOST_BASE32_DIGITS.false c.read_base32.ensures
