@@ -1,6 +1,10 @@
--- Octets in hexadecimal digits.
+-- Numbers and octets in hexadecimal digits.
 use Rattle.std.specs.Prelude.{ℕ, ◌/◌, ◌%◌, false, List, [], ◌∷◌}
-use Rattle.std.specs.Fmt.{digit_glyph}
+use Rattle.std.specs.Fmt.{digits, digit_glyph}
+
+-- a number in lower-case hexadecimal digits
+abbrev pub hexadecimal : ℕ → List ℕ
+hexadecimal n = digits 16 false n
 
 -- an octet in two lower-case hexadecimal digits
 abbrev pub octet_text : ℕ → List ℕ

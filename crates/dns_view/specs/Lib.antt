@@ -1,4 +1,5 @@
 pub mod Digits
+pub mod Joined
 pub mod Pages
 pub mod Printed
 pub mod Requests

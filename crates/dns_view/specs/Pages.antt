@@ -1,8 +1,9 @@
 -- What `print_page` prints for rows. The words for their meanings, and those of the title, are left open.
 use Rattle.std.specs.Prelude.{◌≡◌, ℕ, ◌/◌, ◌%◌, ◌==◌, nat_lt, if◌then◌else◌, List, [], ◌∷◌, ◌++◌, length, count_by, codes, decimal}
 use Rattle.std.specs.List.{concat, enumerate_from, flat_map, AllZip}
-use Rattle.dns_rows.specs.Rows.{is_pointer, row_octets, target_in}
-use Rattle.dns_view.specs.Digits.{octet_text}
+use Rattle.dns_rows.specs.Rows.{is_item, is_pointer, row_octets, target_in}
+use Rattle.dns_view.specs.Digits.{hexadecimal, octet_text}
+use Rattle.dns_view.specs.Joined.{joined}
 use Rattle.dns_rows.specs.declared.row.Row.{Row}
 use Rattle.dns_rows.specs.declared.row.Kind.{Kind}
 use Rattle.dns_rows.specs.declared.row.Field.{Field}
@@ -30,38 +31,43 @@ pointer_count rows = count_by (λ row. is_pointer row.kind) rows
 abbrev pub opening_text : List Row → List ℕ
 opening_text rows = if nat_lt (pointer_count rows) 20 then codes "<main class=few>\n<div class=grid>" else codes "<main>\n<div class=grid>"
 
--- the attribute for a field's class in the page's style sheet
-abbrev pub field_class : Field → List ℕ
-field_class fields.Id = codes " class=h"
-field_class fields.Flags = codes " class=h"
-field_class (fields.Count _) = codes " class=h"
-field_class (fields.Label _) = codes " class=n"
-field_class (fields.Root _ _) = codes " class=n"
-field_class fields.Type = []
-field_class fields.Class = []
-field_class fields.Ttl = []
-field_class fields.RdLength = []
-field_class fields.PayloadSize = codes " class=o"
-field_class fields.ExtendedRcode = codes " class=o"
-field_class fields.Version = codes " class=o"
-field_class fields.OptFlags = codes " class=o"
-field_class fields.OptionCode = codes " class=o"
-field_class (fields.OptionLength _) = codes " class=o"
-field_class (fields.OptionData _) = codes " class=o"
-field_class _ = codes " class=d"
+-- the letter for a field's colour in the page's style sheet
+abbrev pub field_letter : Field → List ℕ
+field_letter fields.Id = codes "h"
+field_letter fields.Flags = codes "h"
+field_letter (fields.Count _) = codes "h"
+field_letter (fields.Label _) = codes "n"
+field_letter (fields.Root _ _) = codes "n"
+field_letter (fields.Pointer _ _) = codes "p"
+field_letter fields.Type = codes "k"
+field_letter fields.Class = codes "k"
+field_letter fields.Ttl = codes "k"
+field_letter fields.RdLength = codes "k"
+field_letter fields.PayloadSize = codes "o"
+field_letter fields.ExtendedRcode = codes "o"
+field_letter fields.Version = codes "o"
+field_letter fields.OptFlags = codes "o"
+field_letter fields.OptionCode = codes "o"
+field_letter (fields.OptionLength _) = codes "o"
+field_letter (fields.OptionData _) = codes "o"
+field_letter _ = codes "d"
 
--- the attribute for the class of a row
-abbrev pub class_text : Kind → List ℕ
-class_text (kinds.Field field) = field_class field
-class_text _ = codes " class=f"
+-- the letter for the colour of a row
+abbrev pub letter_of : Kind → List ℕ
+letter_of (kinds.Field field) = field_letter field
+letter_of _ = codes "f"
+
+-- the `id` of a row's cells: the letter for its colour, and its offset in hexadecimal
+abbrev pub cell_id : Row → List ℕ
+cell_id row = letter_of row.kind ++ hexadecimal row.start
 
 -- the attribute of a pointer: its offset, and the offset where it leads
 abbrev pub arrow_text : ℕ → ℕ → List ℕ
-arrow_text from target = codes " style=--f:" ++ decimal from ++ codes ";--t:" ++ decimal target
+arrow_text from target = codes " style=--p:" ++ decimal from ++ codes "," ++ decimal target
 
--- the attribute that says what a row is
+-- the attribute of a row that is a pointer; nothing for other rows
 abbrev pub mark_text : List ℕ → Row → List ℕ
-mark_text message row = if is_pointer row.kind then arrow_text row.start (target_in (row_octets message row)) else class_text row.kind
+mark_text message row = if is_pointer row.kind then arrow_text row.start (target_in (row_octets message row)) else []
 
 -- what begins at an offset before its octet: a part of the grid, whose octets are 256; else a line with the offset, whose octets are sixteen; else nothing
 abbrev pub line_start : ℕ → List ℕ
@@ -70,17 +76,17 @@ line_start offset =
     else if offset % 16 == 0 then codes "\n<s>" ++ decimal offset ++ codes "</s>"
     else []
 
--- the attributes of a link to a row, and the end of its tag
+-- the other attributes of a link to a row, and the end of its tag
 abbrev pub link_text : List ℕ → Row → List ℕ
 link_text message row = codes " href=#" ++ decimal row.start ++ mark_text message row ++ codes ">"
 
 -- what precedes the first octet of a row: the start of the row's link
 abbrev pub first_link : List ℕ → Row → List ℕ
-first_link message row = line_start row.start ++ codes "<a id=c" ++ decimal row.start ++ link_text message row
+first_link message row = line_start row.start ++ codes "<a id=" ++ cell_id row ++ link_text message row
 
 -- the row's link ends, and its next one begins in the part of the grid that begins at an offset
 abbrev pub next_link : List ℕ → Row → ℕ → List ℕ
-next_link message row offset = codes "</a>" ++ line_start offset ++ codes "<a" ++ link_text message row
+next_link message row offset = codes "</a>" ++ line_start offset ++ codes "<a class=" ++ letter_of row.kind ++ link_text message row
 
 -- what precedes an octet of a row
 abbrev pub cell_start : List ℕ → Row → ℕ → List ℕ
@@ -104,15 +110,15 @@ digits octets = flat_map octet_text octets
 
 -- a row of the list without octets: its words
 abbrev pub heading_row_text : Row → List ℕ → List ℕ
-heading_row_text row words = codes "<b" ++ class_text row.kind ++ codes ">" ++ escaped words ++ codes "</b>"
+heading_row_text row words = (if is_item row.kind then codes "<b>" else codes "<b class=f>") ++ escaped words ++ codes "</b>"
 
 -- the start of a row's link to its cells, with its offset
-abbrev pub field_link_text : List ℕ → Row → List ℕ
-field_link_text message row = codes "<a id=" ++ decimal row.start ++ codes " href=#c" ++ decimal row.start ++ mark_text message row ++ codes ">"
+abbrev pub field_link_text : Row → List ℕ
+field_link_text row = codes "<a id=" ++ decimal row.start ++ codes " href=#" ++ cell_id row ++ codes ">"
 
 -- any other row of the list: the link, with its octets and words
 abbrev pub field_row_text : List ℕ → Row → List ℕ → List ℕ
-field_row_text message row words = field_link_text message row ++ digits (row_octets message row) ++ codes "\t" ++ escaped words ++ codes "</a>"
+field_row_text message row words = field_link_text row ++ digits (row_octets message row) ++ codes "\t" ++ escaped words ++ codes "</a>"
 
 -- what precedes a row of the list: the start of a part, if a multiple of 64 is past the row's start and up to its end; else nothing
 abbrev pub part_start : Row → List ℕ
@@ -126,9 +132,9 @@ row_text message row words = if length (row_octets message row) == 0 then headin
 abbrev pub IsListRow : List ℕ → Row → List ℕ → Type 0
 IsListRow message row text = (words : List ℕ) × (text ≡ part_start row ++ row_text message row words)
 
--- the text of a page: a title of some words, the grid with the cells of all rows, and the list of all rows
+-- the text of a page: a title of some words, the grid with the cells of all rows, and the list of all rows; rows that share a line are one
 pub record IsPage (message : List ℕ) (rows : List Row) (text : List ℕ) : Type 0 where
   pub title : List ℕ
   pub list : List (List ℕ)
-  pub are_rows : AllZip (IsListRow message) rows list
-  pub is : text ≡ top_text title ++ opening_text rows ++ flat_map (row_cells message) rows ++ codes "\n</div>\n<div class=list>\n<p>" ++ concat list ++ codes "\n</div>\n</main>\n</body>\n</html>\n"
+  pub are_rows : AllZip (IsListRow message) (joined rows) list
+  pub is : text ≡ top_text title ++ opening_text rows ++ flat_map (row_cells message) (joined rows) ++ codes "\n</div>\n<div class=list>\n<p>" ++ concat list ++ codes "\n</div>\n</main>\n</body>\n</html>\n"

@@ -1,11 +1,13 @@
 //! Rows printed as a page of HTML: the octets in a grid, and the rows as a list. A field's cell and
-//! its row lead to each other, and each draws the arrow of a pointer where it is hovered.
+//! its row lead to each other. The cell of a pointer draws its arrow.
 ghost use Rattle.std.specs.Prelude.{◌≡◌, ◌+◌, ◌^◌, ◌<◌, length, OnOk};
 ghost use Rattle.std.specs.Io.KnownBytes.{Appends};
 ghost use Rattle.std.specs.List.{flat_map};
-ghost use Rattle.dns_view.specs.Pages.{arrow_text, cell_start, cell_text, class_text, digits, escaped, escaped_octet, field_class, field_link_text, field_row_text, first_link, heading_row_text, line_start, link_text, mark_text, next_link, octet_cells, opening_text, part_start, pointer_count, row_cells, row_text, top_text, IsListRow, IsPage};
+ghost use Rattle.dns_view.specs.Joined.{joined};
+ghost use Rattle.dns_view.specs.Pages.{arrow_text, cell_id, cell_start, cell_text, digits, escaped, escaped_octet, field_letter, field_link_text, field_row_text, first_link, heading_row_text, letter_of, line_start, link_text, mark_text, next_link, octet_cells, opening_text, part_start, pointer_count, row_cells, row_text, top_text, IsListRow, IsPage};
 ghost use Rattle.dns_view.specs.Printed.{Prints, PrintsEach};
 
+use crate::joined::joined;
 use crate::meaning::Meaning;
 use crate::summary::Summary;
 use crate::text::print_octet;
@@ -35,9 +37,9 @@ const HEAD: &str = "<!DOCTYPE html>
 <title>";
 
 /// The text between the title and the first line, which is the title again. The grid has 8 columns
-/// before the octets of a line, and 3 for each octet. `--f` is the offset of a pointer, and `--t`
-/// the offset where it leads. A part that may draw an arrow is always laid out: any other cuts off
-/// what leaves its box.
+/// before the octets of a line, and 3 for each octet. The `id` of a cell begins with the letter of
+/// its colour. `--p` has the offset of a pointer, `--f`, and the lower offset where it leads, `--t`.
+/// A part that may draw an arrow is always laid out: any other cuts off what leaves its box.
 const STYLE: &str = "</title>
 <style>
 :root { color-scheme: light dark; --page: #fff; --text: #111; --dim: #5a6570; --arrow: #b3261e;
@@ -55,7 +57,7 @@ h1 { font-size: 1.1em; overflow-wrap: anywhere; }
 main { position: relative; display: flex; flex-wrap: wrap; gap: 1em 2ch; align-items: flex-start;
 font: 14px/24px monospace; }
 main p { margin: 0; content-visibility: auto; }
-main p:hover, main p:focus-within, main p:has(:target), .few .grid p:has([style]) {
+main p:hover, main p:focus-within, main p:has(:target), .few p:has([style]) {
 content-visibility: visible; }
 .grid { width: 56ch; }
 .grid p { contain-intrinsic-height: 384px; white-space: pre; }
@@ -70,17 +72,18 @@ text-align: right; text-indent: 0; color: var(--dim); }
 text-decoration: none; color: var(--dim); background: var(--page); }
 a, .k { color: inherit; text-decoration: none; background: var(--field); }
 .grid a[id], .list a, .legend span { box-shadow: -2px 0 var(--edge); }
-.h { background: var(--header); }
-.n { background: var(--name); }
-.grid .d, .list a.d, span.d { background: var(--data); }
-.o { background: var(--option); }
-.f { background: var(--fault); }
-a[style], .p { background: var(--pointer); }
+.h, [id^=h], [href^='#h'] { background: var(--header); }
+.n, [id^=n], [href^='#n'] { background: var(--name); }
+.p, [id^=p], [href^='#p'] { background: var(--pointer); }
+.d, [id^=d], [href^='#d'] { background: var(--data); }
+.o, [id^=o], [href^='#o'] { background: var(--option); }
+.f, [id^=f], [href^='#f'] { background: var(--fault); }
 a { scroll-margin: 40vh 0; }
 a:hover, a:focus, a:target { outline: 2px solid var(--text); outline-offset: -2px; }
-a[style] { --x: calc((mod(var(--t), 16) - mod(var(--f), 16)) * 3ch);
+a[style] { --f: max(var(--p)); --t: min(var(--p));
+--x: calc((mod(var(--t), 16) - mod(var(--f), 16)) * 3ch);
 --y: calc((round(down, var(--t) / 16, 1) - round(down, var(--f) / 16, 1)) * 24px + 15px); }
-.few .grid a[style]::after, a[style]:hover::after, a[style]:focus::after, a[style]:target::after {
+.few a[style]::after, a[style]:hover::after, a[style]:focus::after, a[style]:target::after {
 content: ''; position: absolute; left: calc(mod(var(--f), 16) * 3ch + 9ch);
 top: calc(round(down, var(--f) / 16, 1) * 24px - 1px); width: hypot(var(--x), var(--y));
 height: 10px; background: var(--arrow); transform-origin: 0 50%; rotate: atan2(var(--y), var(--x));
@@ -112,11 +115,13 @@ pub fn print_page<W: Write>(
 {
     let summary = Summary { message, rows };
     let words = format!(in alloc; "{summary}")?;
+    let joined = joined(alloc, rows)?;
+    let lines = joined.as_slice();
     print_top(writer, words.as_bytes())?;
     print_opening(writer, rows)?;
-    print_cells(writer, message, rows)?;
+    print_cells(writer, message, lines)?;
     writer.write_all(b"\n</div>\n<div class=list>\n<p>")?;
-    print_list(alloc, writer, message, rows)?;
+    print_list(alloc, writer, message, lines)?;
     writer.write_all(b"\n</div>\n</main>\n</body>\n</html>\n")
 }
 
@@ -151,31 +156,42 @@ fn pointer_count(rows: &[Row]) -> usize
     rows.iter().filter(|row| row.kind.is_pointer()).count()
 }
 
-/// The attribute that gives a row its colour. Those of most rows have none.
-fn class_of(kind: Kind) -> &'static str
-    ensures { result.now ≡ class_text kind }
+/// The letter for the colour of a row in the style.
+fn letter_of(kind: Kind) -> &'static str
+    ensures { result.now ≡ letter_of kind }
 {
     match kind {
-        Kind::Field(field) => field_class(field),
-        Kind::ShortHeader | Kind::Fault(_) | Kind::Unread => " class=f",
+        Kind::Field(field) => field_letter(field),
+        Kind::ShortHeader | Kind::Fault(_) | Kind::Unread => "f",
     }
 }
 
-fn field_class(field: Field) -> &'static str
-    ensures { result.now ≡ field_class field }
+fn field_letter(field: Field) -> &'static str
+    ensures { result.now ≡ field_letter field }
 {
     match field {
-        Field::Id | Field::Flags | Field::Count(_) => " class=h",
-        Field::Label(_) | Field::Root(_, _) => " class=n",
-        Field::Type | Field::Class | Field::Ttl | Field::RdLength => "",
-        Field::PayloadSize | Field::ExtendedRcode | Field::Version | Field::OptFlags => " class=o",
-        Field::OptionCode | Field::OptionLength(_) | Field::OptionData(_) => " class=o",
-        _ => " class=d",
+        Field::Id | Field::Flags | Field::Count(_) => "h",
+        Field::Label(_) | Field::Root(_, _) => "n",
+        Field::Pointer(_, _) => "p",
+        Field::Type | Field::Class | Field::Ttl | Field::RdLength => "k",
+        Field::PayloadSize | Field::ExtendedRcode | Field::Version | Field::OptFlags => "o",
+        Field::OptionCode | Field::OptionLength(_) | Field::OptionData(_) => "o",
+        _ => "d",
     }
 }
 
-/// Prints the attribute that says what a row is: of a pointer its offset and where it leads, of
-/// other rows the class.
+/// Prints the `id` of a row's cells: the letter for its colour, and its offset in hexadecimal.
+fn print_cell_id<W: Write>(writer: &mut W, row: &Row) -> io::Result<()>
+    ensures { OnOk result (Appends (W.contents writer.old) (W.contents writer.new)
+        (cell_id row.now)) }
+{
+    let start = row.start;
+    writer.write_all(letter_of(row.kind).as_bytes())?;
+    write!(writer, "{start:x}")
+}
+
+/// Prints the attribute of a pointer that draws its arrow: its offset, and where it leads. Other
+/// rows have none.
 fn print_mark<W: Write>(writer: &mut W, message: &[u8], row: &Row) -> io::Result<()>
     ensures { OnOk result (Appends (W.contents writer.old) (W.contents writer.new)
         (mark_text message.now row.now)) }
@@ -183,15 +199,15 @@ fn print_mark<W: Write>(writer: &mut W, message: &[u8], row: &Row) -> io::Result
     if row.kind.is_pointer() {
         return print_arrow(writer, row.start, target_of(octets_of(message, row)));
     }
-    writer.write_all(class_of(row.kind).as_bytes())
+    Ok(())
 }
 
-/// Prints the attribute of a pointer.
+/// Prints the attribute of a pointer at an offset.
 fn print_arrow<W: Write>(writer: &mut W, from: usize, target: usize) -> io::Result<()>
     ensures { OnOk result (Appends (W.contents writer.old) (W.contents writer.new)
         (arrow_text from target)) }
 {
-    write!(writer, " style=--f:{from};--t:{target}")
+    write!(writer, " style=--p:{from},{target}")
 }
 
 /// Prints a text with its markup characters escaped.
@@ -301,9 +317,9 @@ fn print_first_link<W: Write>(writer: &mut W, message: &[u8], row: &Row) -> io::
     ensures { OnOk result (Appends (W.contents writer.old) (W.contents writer.new)
         (first_link message.now row.now)) }
 {
-    let start = row.start;
-    print_line_start(writer, start)?;
-    write!(writer, "<a id=c{start}")?;
+    print_line_start(writer, row.start)?;
+    writer.write_all(b"<a id=")?;
+    print_cell_id(writer, row)?;
     print_link(writer, message, row)
 }
 
@@ -319,11 +335,12 @@ fn print_next_link<W: Write>(
 {
     writer.write_all(b"</a>")?;
     print_line_start(writer, offset)?;
-    writer.write_all(b"<a")?;
+    writer.write_all(b"<a class=")?;
+    writer.write_all(letter_of(row.kind).as_bytes())?;
     print_link(writer, message, row)
 }
 
-/// Prints the attributes of a link to a row, and ends its tag.
+/// Prints the other attributes of a link to a row, and ends its tag.
 fn print_link<W: Write>(writer: &mut W, message: &[u8], row: &Row) -> io::Result<()>
     ensures { OnOk result (Appends (W.contents writer.old) (W.contents writer.new)
         (link_text message.now row.now)) }
@@ -409,9 +426,11 @@ fn print_heading_row<W: Write>(writer: &mut W, row: &Row, words: &[u8]) -> io::R
     ensures { OnOk result (Appends (W.contents writer.old) (W.contents writer.new)
         (heading_row_text row.now words.now)) }
 {
-    writer.write_all(b"<b")?;
-    writer.write_all(class_of(row.kind).as_bytes())?;
-    writer.write_all(b">")?;
+    writer.write_all(if row.kind.is_item() {
+        b"<b>"
+    } else {
+        b"<b class=f>"
+    })?;
     print_escaped(writer, words)?;
     writer.write_all(b"</b>")
 }
@@ -427,7 +446,7 @@ fn print_field_row<W: Write>(
     ensures { OnOk result (Appends (W.contents writer.old) (W.contents writer.new)
         (field_row_text message.now row.now words.now)) }
 {
-    print_field_link(writer, message, row)?;
+    print_field_link(writer, row)?;
     print_digits(writer, octets_of(message, row))?;
     writer.write_all(b"\t")?;
     print_escaped(writer, words)?;
@@ -435,13 +454,13 @@ fn print_field_row<W: Write>(
 }
 
 /// Prints the start of a row's link to its cells.
-fn print_field_link<W: Write>(writer: &mut W, message: &[u8], row: &Row) -> io::Result<()>
+fn print_field_link<W: Write>(writer: &mut W, row: &Row) -> io::Result<()>
     ensures { OnOk result (Appends (W.contents writer.old) (W.contents writer.new)
-        (field_link_text message.now row.now)) }
+        (field_link_text row.now)) }
 {
     let start = row.start;
-    write!(writer, "<a id={start} href=#c{start}")?;
-    print_mark(writer, message, row)?;
+    write!(writer, "<a id={start} href=#")?;
+    print_cell_id(writer, row)?;
     writer.write_all(b">")
 }
 

@@ -9,6 +9,7 @@
 
 mod codes;
 mod html;
+mod joined;
 mod meaning;
 mod option;
 mod program;

@@ -3,6 +3,7 @@ use crate::codes::{OpcodeName, OptionName, RcodeName};
 use crate::option::OptionData;
 use crate::quoted::{Quoted, octet_count, second_count};
 use crate::rdata::{RdataField, Words};
+use dns_fields_text::Strings;
 use dns_message::code::{Class, OptRcode, Rtype};
 use dns_message::header::Header;
 use dns_message::name::ParsedName;
@@ -99,7 +100,11 @@ impl<'a> Meaning<'a> {
                 let word = word_of(part);
                 write!(f, "{word} {number}")
             }
-            Field::Label(name) => write_label(f, name, octets),
+            Field::Label(name) => {
+                let words = words_of(name);
+                write!(f, "{words}, ")?;
+                write_strings(f, "label", octets)
+            }
             Field::Root(name, start) => {
                 let words = words_of(name);
                 write!(f, "{words}, root label: ")?;
@@ -110,7 +115,7 @@ impl<'a> Meaning<'a> {
                 let field = RdataField { name, kind, octets };
                 write!(f, "{field}")
             }
-            Field::Text => write_text(f, octets),
+            Field::Text => write_strings(f, "text", octets),
             Field::ExtendedRcode => write_extended(f, self.message, octets),
             Field::OptionCode | Field::OptionLength(_) | Field::OptionData(_) => {
                 write_option(f, field, octets)
@@ -119,7 +124,7 @@ impl<'a> Meaning<'a> {
         }
     }
 
-    /// Prints where a pointer leads and, if labels precede the pointer, the whole name.
+    /// Prints where a pointer leads, and the whole name that it ends.
     fn write_pointer<W: fmt::Write>(
         &self,
         f: &mut fmt::Formatter<W>,
@@ -129,11 +134,6 @@ impl<'a> Meaning<'a> {
         let words = words_of(name);
         let target = target_of(self.octets());
         write!(f, "{words}, pointer to {target}: ")?;
-        write_name(f, self.message, target)?;
-        if start == self.row.start {
-            return Ok(());
-        }
-        f.write_str(", whole name ")?;
         write_name(f, self.message, start)
     }
 }
@@ -249,29 +249,26 @@ fn write_set<W: fmt::Write>(f: &mut fmt::Formatter<W>, header: Header) -> fmt::R
     Ok(())
 }
 
-/// Prints a label, which follows its length octet.
-fn write_label<W: fmt::Write>(
+/// Prints a label or a character string, which follows its length octet, or several of them.
+fn write_strings<W: fmt::Write>(
     f: &mut fmt::Formatter<W>,
-    name: NameOf,
+    word: &str,
     octets: &[u8],
 ) -> fmt::Result {
-    let words = words_of(name);
-    let [len, label @ ..] = octets else {
-        return Ok(());
-    };
-    let count = octet_count(usize::from(*len));
-    let label = Quoted(label);
-    write!(f, "{words}, label of {count}: {label}")
-}
-
-/// Prints a character string, which follows its length octet.
-fn write_text<W: fmt::Write>(f: &mut fmt::Formatter<W>, octets: &[u8]) -> fmt::Result {
     let [len, text @ ..] = octets else {
         return Ok(());
     };
-    let count = octet_count(usize::from(*len));
-    let text = Quoted(text);
-    write!(f, "text of {count}: {text}")
+    if text.len() == usize::from(*len) {
+        let count = octet_count(text.len());
+        let text = Quoted(text);
+        return write!(f, "{word} of {count}: {text}");
+    }
+    write!(f, "{word}s:")?;
+    for text in Strings::new(octets) {
+        let text = Quoted(text);
+        write!(f, " {text}")?;
+    }
+    Ok(())
 }
 
 /// Prints the upper eight bits of an extended RCODE and, unless they are 0, the RCODE that they

@@ -16,15 +16,20 @@ use std::fmt;
 #[derive(Clone, Copy)]
 pub(crate) struct Words(pub(crate) &'static str);
 
-/// The name of a field of RDATA, without abbreviations of RFC 1035.
+/// The name of a field of RDATA, without the abbreviations of RFC 1035 section 3.3.
 fn written_out(name: &'static str) -> &'static str {
     match name {
         "nsdname" => "name server",
+        "madname" => "mail host",
+        "mgmname" => "group member",
+        "newname" => "new name",
         "cname" => "canonical name",
         "ptrdname" => "target",
         "exchange" => "mail exchange",
         "mname" => "primary server",
         "rname" => "mailbox",
+        "rmailbx" => "responsible mailbox",
+        "emailbx" => "error mailbox",
         other => other,
     }
 }

@@ -62,8 +62,8 @@ answer 2
     83  00 09                    data length 9
     85  00 0a                    preference 10
     87  04 6d 61 69 6c           mail exchange, label of 4 octets: "mail"
-    92  c0 1d                    mail exchange, pointer to 29: Example.COM.,
-                                 whole name mail.Example.COM.
+    92  c0 1d                    mail exchange, pointer to 29:
+                                 mail.Example.COM.
 authority 1
     94  c0 1d                    owner, pointer to 29: Example.COM.
     96  00 02                    type NS
@@ -82,8 +82,7 @@ authority 2
    131  00 00 0e 10              TTL 3600 seconds
    135  00 06                    data length 6
    137  03 6e 73 31              name server, label of 3 octets: "ns1"
-   141  c0 1d                    name server, pointer to 29: Example.COM.,
-                                 whole name ns1.Example.COM.
+   141  c0 1d                    name server, pointer to 29: ns1.Example.COM.
 authority 3
    143  c0 1d                    owner, pointer to 29: Example.COM.
    145  00 02                    type NS
@@ -91,8 +90,7 @@ authority 3
    149  00 00 0e 10              TTL 3600 seconds
    153  00 06                    data length 6
    155  03 4e 53 32              name server, label of 3 octets: "NS2"
-   159  c0 0c                    name server, pointer to 12: example.com.,
-                                 whole name NS2.example.com.
+   159  c0 0c                    name server, pointer to 12: NS2.example.com.
 additional 1
    161  c0 57                    owner, pointer to 87: mail.Example.COM.
    163  00 01                    type A
@@ -102,8 +100,7 @@ additional 1
    173  c0 00 02 19              address 192.0.2.25
 additional 2
    177  05 6d 61 69 6c 32        owner, label of 5 octets: "mail2"
-   183  c0 1d                    owner, pointer to 29: Example.COM., whole name
-                                 mail2.Example.COM.
+   183  c0 1d                    owner, pointer to 29: mail2.Example.COM.
    185  00 01                    type A
    187  00 01                    class IN
    189  00 00 0e 10              TTL 3600 seconds
@@ -118,8 +115,7 @@ additional 3
    211  c0 00 02 01              address 192.0.2.1
 additional 4
    215  03 6e 73 32              owner, label of 3 octets: "ns2"
-   219  c0 1d                    owner, pointer to 29: Example.COM., whole name
-                                 ns2.Example.COM.
+   219  c0 1d                    owner, pointer to 29: ns2.Example.COM.
    221  00 01                    type A
    223  00 01                    class IN
    225  00 00 0e 10              TTL 3600 seconds

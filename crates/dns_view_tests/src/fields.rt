@@ -182,7 +182,7 @@ const FIELDS_OF_ZONES_MAIL_AND_TEXTS: Case = Case {
     23  02 6e 73                 primary server, label of 2 octets: "ns"
     26  00                       primary server, root label: ns.
     27  01 68                    mailbox, label of 1 octet: "h"
-    29  c0 17                    mailbox, pointer to 23: ns., whole name h.ns.
+    29  c0 17                    mailbox, pointer to 23: h.ns.
     31  00 00 00 01              serial 1
     35  00 00 00 02              refresh 2 seconds
     39  00 00 00 03              retry 3 seconds

@@ -19,6 +19,8 @@ mod fields;
 #[cfg(test)]
 mod names;
 #[cfg(test)]
+mod older;
+#[cfg(test)]
 mod options;
 #[cfg(test)]
 mod page;

@@ -21,8 +21,7 @@ const POINTERS_LEAD: Case = Case {
     26  00 01                    class IN
 question 2
     28  03 46 4f 4f              name, label of 3 octets: "FOO"
-    32  c0 0c                    name, pointer to 12: F.ISI.ARPA., whole name
-                                 FOO.F.ISI.ARPA.
+    32  c0 0c                    name, pointer to 12: FOO.F.ISI.ARPA.
     34  00 01                    type A
     36  00 01                    class IN
 question 3
@@ -51,7 +50,7 @@ const POINTER_TO_A_POINTER: Case = Case {
     17  00 01                    class IN
 question 2
     19  01 62                    name, label of 1 octet: "b"
-    21  c0 0c                    name, pointer to 12: a., whole name b.a.
+    21  c0 0c                    name, pointer to 12: b.a.
     23  00 01                    type A
     25  00 01                    class IN
 question 3

@@ -56,7 +56,7 @@ const COUNTS: &[Count] = &[
     },
     Count {
         name: "a label as markup",
-        text: "<b>",
+        text: "a<b>",
         count: 0,
     },
     Count {
@@ -75,32 +75,32 @@ const COUNTS: &[Count] = &[
 const GRID: &str = "<main class=few>
 <div class=grid>
 <p><s>0</s>\
-<a id=c0 href=#0 class=h>00 01 </a><a id=c2 href=#2 class=h>84 00 </a>\
-<a id=c4 href=#4 class=h>00 01 </a><a id=c6 href=#6 class=h>00 02 </a>\
-<a id=c8 href=#8 class=h>00 00 </a><a id=c10 href=#10 class=h>00 00 </a>\
-<a id=c12 href=#12 class=n>05 61 3c 62 \n\
-<s>16</s>3e 26 </a><a id=c18 href=#18 class=n>01 63 </a><a id=c20 href=#20 class=n>00 </a>\
-<a id=c21 href=#21>00 01 </a><a id=c23 href=#23>00 01 </a>\
-<a id=c25 href=#25 style=--f:25;--t:12>c0 0c </a><a id=c27 href=#27>00 05 </a>\
-<a id=c29 href=#29>00 01 </a><a id=c31 href=#31>00 \n\
-<s>32</s>00 00 3c </a><a id=c35 href=#35>00 04 </a><a id=c37 href=#37 class=n>01 64 </a>\
-<a id=c39 href=#39 style=--f:39;--t:18>c0 12 </a>\
-<a id=c41 href=#41 style=--f:41;--t:37>c0 25 </a><a id=c43 href=#43>00 01 </a>\
-<a id=c45 href=#45>00 01 </a><a id=c47 href=#47>00 \n\
-<s>48</s>00 00 3c </a><a id=c51 href=#51>00 04 </a>\
-<a id=c53 href=#53 class=d>c0 00 02 01 </a><a id=c57 href=#57 class=f>ff </a>
+<a id=h0 href=#0>00 01 </a><a id=h2 href=#2>84 00 </a>\
+<a id=h4 href=#4>00 01 </a><a id=h6 href=#6>00 02 </a>\
+<a id=h8 href=#8>00 00 </a><a id=ha href=#10>00 00 </a>\
+<a id=nc href=#12>05 61 3c 62 \n\
+<s>16</s>3e 26 </a><a id=n12 href=#18>01 63 </a><a id=n14 href=#20>00 </a>\
+<a id=k15 href=#21>00 01 </a><a id=k17 href=#23>00 01 </a>\
+<a id=p19 href=#25 style=--p:25,12>c0 0c </a><a id=k1b href=#27>00 05 </a>\
+<a id=k1d href=#29>00 01 </a><a id=k1f href=#31>00 \n\
+<s>32</s>00 00 3c </a><a id=k23 href=#35>00 04 </a><a id=n25 href=#37>01 64 </a>\
+<a id=p27 href=#39 style=--p:39,18>c0 12 </a>\
+<a id=p29 href=#41 style=--p:41,37>c0 25 </a><a id=k2b href=#43>00 01 </a>\
+<a id=k2d href=#45>00 01 </a><a id=k2f href=#47>00 \n\
+<s>48</s>00 00 3c </a><a id=k33 href=#51>00 04 </a>\
+<a id=d35 href=#53>c0 00 02 01 </a><a id=f39 href=#57>ff </a>
 </div>
 ";
 
 /// Rows of the list: of a field, an item, names as text, pointers and unread octets.
 const ROWS: &[&str] = &[
-    "<div class=list>\n<p><a id=0 href=#c0 class=h>0001\tidentifier 1</a><a id=2 ",
-    "</a><b class=d>question 1</b><a id=12 href=#c12 class=n>05613c623e26\t",
+    "<div class=list>\n<p><a id=0 href=#h0>0001\tidentifier 1</a><a id=2 ",
+    "</a><b>question 1</b><a id=12 href=#nc>05613c623e26\t",
     "\tname, label of 5 octets: \"a&lt;b&gt;&amp;\"</a><a id=18 ",
-    "</a><a id=21 href=#c21>0001\ttype A</a><a id=23 ",
-    "</b><a id=25 href=#c25 style=--f:25;--t:12>c00c\towner, pointer to 12: a&lt;b&gt;&amp;.c.</a>",
-    "</a><a id=53 href=#c53 class=d>c0000201\taddress 192.0.2.1</a><a id=57 ",
-    "</a><a id=57 href=#c57 class=f>ff\tunread, 1 octet</a>\n</div>\n</main>\n</body>\n</html>\n",
+    "</a><a id=21 href=#k15>0001\ttype A</a><a id=23 ",
+    "</b><a id=25 href=#p19>c00c\towner, pointer to 12: a&lt;b&gt;&amp;.c.</a>",
+    "</a><a id=53 href=#d35>c0000201\taddress 192.0.2.1</a><a id=57 ",
+    "</a><a id=57 href=#f39>ff\tunread, 1 octet</a>\n</div>\n</main>\n</body>\n</html>\n",
 ];
 
 #[test]
@@ -139,16 +139,16 @@ fn draws_all_arrows_below_twenty(rt: HostRuntime) -> Result<(), Fail> {
     assert_count(&rt, "19 pointers", &few, "<main class=few>", 1);
     let many = page_of_pointers(rt.alloc(), 20)?;
     assert_count(&rt, "20 pointers", &many, "<main>", 1);
-    assert_count(&rt, "20 pointers", &many, ";--t:12>", 40);
+    assert_count(&rt, "20 pointers", &many, ",12>", 20);
     Ok(())
 }
 
 /// Texts where a part begins: of a row whose octets are in two parts of the grid, and of the list.
 const PARTS: &[&str] = &[
-    "<a id=c255 href=#255>00 </a>\n<p><s>256</s><a href=#255>01 </a><a id=c257 ",
-    "</a>\n<p><a id=63 href=#c63>0001\tclass IN</a><b class=d>question 10</b><a id=65 ",
-    "</a>\n<p><a id=127 href=#c127>0001\ttype A</a><a id=129 ",
-    "</b>\n<p><a id=191 href=#c191 style=--f:191;--t:12>c00c\t",
+    "<a id=kff href=#255>00 </a>\n<p><s>256</s><a class=k href=#255>01 </a><a id=p101 ",
+    "</a>\n<p><a id=63 href=#k3f>0001\tclass IN</a><b>question 10</b><a id=65 ",
+    "</a>\n<p><a id=127 href=#k7f>0001\ttype A</a><a id=129 ",
+    "</b>\n<p><a id=191 href=#pbf>c00c\t",
 ];
 
 #[test]
@@ -163,6 +163,32 @@ fn begins_parts(rt: HostRuntime) -> Result<(), Fail> {
     );
     for part in PARTS {
         assert_count(&rt, part, &page, part, 1);
+    }
+    Ok(())
+}
+
+/// A question for `1.2.3`, and an answer whose character strings are "", "a", "bc", "" and "".
+const TINY: &[u8] = b"\0\x01\x84\0\0\x01\0\x01\0\0\0\0\x011\x012\x013\0\0\x10\0\x01\
+\xc0\x0c\0\x10\0\x01\0\0\0\x3c\0\x08\0\x01a\x02bc\0\0";
+
+/// Labels and character strings of at most one octet share a link of the grid, if they begin on one
+/// line of it, and a line of the list.
+const JOINED: &[&str] = &[
+    "<a id=nc href=#12>01 31 01 32 </a>\n<s>16</s><a id=n10 href=#16>01 33 </a><a id=n12 ",
+    "<a id=d23 href=#35>00 01 61 </a><a id=d26 href=#38>02 62 63 </a>\
+<a id=d29 href=#41>00 00 </a>\n</div>",
+    "<a id=12 href=#nc>01310132\tname, labels: \"1\" \"2\"</a>\
+<a id=16 href=#n10>0133\tname, label of 1 octet: \"3\"</a>",
+    "<a id=35 href=#d23>000161\ttexts: \"\" \"a\"</a>\
+<a id=38 href=#d26>026263\ttext of 2 octets: \"bc\"</a>\
+<a id=41 href=#d29>0000\ttexts: \"\" \"\"</a>\n</div>",
+];
+
+#[test]
+fn joins_tiny_rows(rt: HostRuntime) -> Result<(), Fail> {
+    let page = page(rt.alloc(), TINY)?;
+    for row in JOINED {
+        assert_count(&rt, row, &page, row, 1);
     }
     Ok(())
 }

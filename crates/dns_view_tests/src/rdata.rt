@@ -21,7 +21,7 @@ const SERVICE: Case = Case {
     27  00 3c                    weight 60
     29  13 c4                    port 5060
     31  03 6e 73 31              target, label of 3 octets: "ns1"
-    35  c0 0c                    target, pointer to 12: x., whole name ns1.x.
+    35  c0 0c                    target, pointer to 12: ns1.x.
 "#,
 };
 
@@ -152,8 +152,7 @@ const POINTER_OF_AUTHORITY: Case = Case {
     31  07 53 49 50 2b 44 32 55  services of 7 octets: "SIP+D2U"
     39  00                       regexp of 0 octets: ""
     40  03 73 69 70              replacement, label of 3 octets: "sip"
-    44  c0 0c                    replacement, pointer to 12: x., whole name
-                                 sip.x.
+    44  c0 0c                    replacement, pointer to 12: sip.x.
 "#,
 };
 
