@@ -1,2 +1,6 @@
+mod Ipv6Texts
 mod LineLemmas
+mod PrefixTexts
+mod SpacedTexts
 mod WordLemmas
+mod WordTexts

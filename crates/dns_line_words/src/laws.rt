@@ -1,7 +1,27 @@
 //! Theorems on the words of lines. Each contract is a theorem.
-ghost use Rattle.dns_line_words.specs.Laws.{WordsAreUnique};
+ghost use Rattle.dns_line_words.specs.Laws.{Base64IsWord, ClassesAreWords, EuiAreWords, HashesAreWords, HexIsWord, Ipv4IsWord, Ipv6IsWord, LocatorsAreWords, NamesAreWords, NumbersAreWords, PrefixesAreWords, SaltsAreWords, StringsAreWords, TagsAreWords, TimesAreWords, TypesAreWords, WordsAreUnique};
 
 /// A line has at most one list of words.
 pub fn words_are_unique()
     ensures { WordsAreUnique }
+{}
+
+/// What is printed of a value of a field is one word.
+pub fn printed_values_are_words()
+    ensures numbers { NumbersAreWords }
+    ensures types { TypesAreWords }
+    ensures classes { ClassesAreWords }
+    ensures times { TimesAreWords }
+    ensures names { NamesAreWords }
+    ensures strings { StringsAreWords }
+    ensures tags { TagsAreWords }
+    ensures salts { SaltsAreWords }
+    ensures ipv4 { Ipv4IsWord }
+    ensures ipv6 { Ipv6IsWord }
+    ensures locators { LocatorsAreWords }
+    ensures eui { EuiAreWords }
+    ensures hexadecimal { HexIsWord }
+    ensures base64 { Base64IsWord }
+    ensures hashes { HashesAreWords }
+    ensures prefixes { PrefixesAreWords }
 {}

@@ -54,7 +54,8 @@ fn skip_blanks(text: &str) -> &str
     left
 }
 
-/// The words of a line, or of several. A comment is no word. Quotes and backslashes stay in the words.
+/// The words of a line, or of several. A comment is no word. Quotes and backslashes stay in the
+/// words.
 pub fn split_words<'a>(alloc: Global, line: &'a str) -> Result<Vec<&'a str>, TextError>
     ensures { SplitsWords line.now result }
 {

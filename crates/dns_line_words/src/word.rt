@@ -16,7 +16,8 @@ fn ends_word(character: u8) -> bool
     is_blank(character) || character == b';'
 }
 
-/// The text after the word that a text begins with. `None` if a quote or a backslash is open at the end.
+/// The text after the word that a text begins with. `None` if a quote or a backslash is open at the
+/// end.
 fn after_word(text: &[u8]) -> Option<&[u8]>
     ensures { MatchOption result
         ((word : List ℕ) (after : List ℕ) → ¬ (SplitsWord text.now word after))
@@ -40,8 +41,8 @@ fn after_word(text: &[u8]) -> Option<&[u8]>
     if quoted || escaped { None } else { Some(left) }
 }
 
-/// The word that a text begins with, and the text after it. `None` if a quote or a backslash is open at
-/// the end.
+/// The word that a text begins with, and the text after it. `None` if a quote or a backslash is open
+/// at the end.
 pub(crate) fn split_word(text: &str) -> Option<(&str, &str)>
     ensures { MatchOption result
         ((word : List ℕ) (after : List ℕ) → ¬ (SplitsWord text.now word after))
