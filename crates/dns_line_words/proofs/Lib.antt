@@ -1,5 +1,6 @@
 mod Ipv6Texts
 mod LineLemmas
+mod ListTexts
 mod PrefixTexts
 mod SpacedTexts
 mod WordLemmas

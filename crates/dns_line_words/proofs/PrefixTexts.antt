@@ -44,7 +44,7 @@ hash_word (a ∷ b ∷ c ∷ d ∷ []) some = (digits_size 7 _ (omega arith), di
 hash_word (a ∷ b ∷ c ∷ d ∷ e ∷ octets) some = word_append _ _ (digits_size 8 _ (omega arith), digits_rest 8 _) (hash_rest octets)
 
 -- octets and the zeros after them
-bytes_take : (n : ℕ) (xs : List ℕ) → IsBytes xs → IsBytes (take n xs)
+pub bytes_take : (n : ℕ) (xs : List ℕ) → IsBytes xs → IsBytes (take n xs)
 bytes_take zero xs bytes i = omega arith
 bytes_take (suc n) [] bytes i = omega arith
 bytes_take (suc n) (x ∷ xs) bytes zero = bytes 0
@@ -77,8 +77,8 @@ prefix_address address true bytes = ipv4_word (padded 4 address) (padded_bytes 4
 prefix_address address false bytes = ipv6_word (padded 16 address) (padded_bytes 16 address bytes) (padded_size 16 address)
 
 -- a prefix
-pub prefix_word : (item : PrefixItem) → IsBytes item.address → item.family < 2 ^ 16 → item.size < 256 → IsWord (prefix_text item)
-prefix_word item bytes family size =
+pub prefix_is_word : (item : PrefixItem) → IsBytes item.address → item.family < 2 ^ 16 → item.size < 256 → IsWord (prefix_text item)
+prefix_is_word item bytes family size =
     let start = sign_word item.negated (decimal item.family) (decimal_word item.family (omega arith)) in
     let address = prefix_address item.address (item.family == 1) bytes in
     let colon = word_append (sign item ++ decimal item.family) (codes ":") start (plain refl nothing) in

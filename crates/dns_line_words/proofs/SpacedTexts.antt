@@ -38,9 +38,14 @@ spaced_append first second words others (word {text = after} {words = left} fron
     subst (λ (xs : List ℕ). AreSpaced xs ((front ∷ left) ++ others)) (sym (append_assoc front after second))
     (word front is (ends_append after second at ends) (spaced_append after second left others g ends h))
 
--- a word after a space
-pub after_space : (text : List ℕ) (words : List (List ℕ)) → AreSpaced text words → AreSpaced (codes " " ++ text) words
-after_space text words h = space h
+-- the words of a text after others
+pub words_append : (first second : List ℕ) (words others : List (List ℕ)) → AreSpaced first words → EndsWord second → AreWordsOf second others → AreWordsOf (first ++ second) (words ++ others)
+words_append first second words others nothing ends h = h
+words_append first second words others (space {text = after} g) ends h = blank refl (words_append after second words others g ends h)
+words_append first second words others (word {text = after} {words = left} front is at g) ends h =
+    let split : SplitsWord (front ++ after ++ second) front (after ++ second) =
+    record { whole = append_assoc front after second; rest = is.1; ends = ends_append after second at ends } in
+    more is.0 split (words_append after second left others g ends h)
 
 -- words, each after a space
 spaces_end : (words : List (List ℕ)) → EndsWord (separated (codes " ") (codes " ") words)

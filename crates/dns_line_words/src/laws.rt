@@ -1,5 +1,6 @@
 //! Theorems on the words of lines. Each contract is a theorem.
 ghost use Rattle.dns_line_words.specs.Laws.{Base64IsWord, ClassesAreWords, EuiAreWords, HashesAreWords, HexIsWord, Ipv4IsWord, Ipv6IsWord, LocatorsAreWords, NamesAreWords, NumbersAreWords, PrefixesAreWords, SaltsAreWords, StringsAreWords, TagsAreWords, TimesAreWords, TypesAreWords, WordsAreUnique};
+ghost use Rattle.dns_line_words.specs.ListLaws.{GatewaysSplit, OpaqueSplits, PrefixesSplit, RecordsSplit, RelaysSplit, SizedSplit, StringsSplit, TypesSplit};
 
 /// A line has at most one list of words.
 pub fn words_are_unique()
@@ -24,4 +25,16 @@ pub fn printed_values_are_words()
     ensures base64 { Base64IsWord }
     ensures hashes { HashesAreWords }
     ensures prefixes { PrefixesAreWords }
+{}
+
+/// What is printed of a list of values, or of a record, is these words.
+pub fn printed_lists_split()
+    ensures strings { StringsSplit }
+    ensures types { TypesSplit }
+    ensures prefixes { PrefixesSplit }
+    ensures sized { SizedSplit }
+    ensures gateways { GatewaysSplit }
+    ensures relays { RelaysSplit }
+    ensures opaque { OpaqueSplits }
+    ensures records { RecordsSplit }
 {}

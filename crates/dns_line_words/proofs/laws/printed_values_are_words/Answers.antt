@@ -1,5 +1,5 @@
 use Rattle.dns_line_words.proofs.Ipv6Texts.{ipv6_word}
-use Rattle.dns_line_words.proofs.PrefixTexts.{hash_word, prefix_word}
+use Rattle.dns_line_words.proofs.PrefixTexts.{hash_word, prefix_is_word}
 use Rattle.dns_line_words.proofs.WordTexts.{base64_word, class_word, decimal_word, eui_word, hex_word, ipv4_word, locator_word, name_word, quoted_word, salt_word, tag_word, time_word, type_is_word}
 use Rattle.dns_line_words.proofs.laws.printed_values_are_words.Goals as goal
 
@@ -49,4 +49,4 @@ pub returns-clause-hashes : goal.returns-clause-hashes
 returns-clause-hashes c = λ octets bytes some. hash_word octets some
 
 pub returns-clause-prefixes : goal.returns-clause-prefixes
-returns-clause-prefixes c = prefix_word
+returns-clause-prefixes c = prefix_is_word

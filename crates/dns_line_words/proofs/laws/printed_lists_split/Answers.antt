@@ -1,0 +1,26 @@
+use Rattle.dns_line_words.proofs.ListTexts.{gateway_split, opaque_split, prefixes_split, record_split, relay_split, sized_split, strings_split, types_split}
+use Rattle.dns_line_words.proofs.laws.printed_lists_split.Goals as goal
+
+pub returns-clause-strings : goal.returns-clause-strings
+returns-clause-strings c = strings_split
+
+pub returns-clause-types : goal.returns-clause-types
+returns-clause-types c = types_split
+
+pub returns-clause-prefixes : goal.returns-clause-prefixes
+returns-clause-prefixes c = prefixes_split
+
+pub returns-clause-sized : goal.returns-clause-sized
+returns-clause-sized c = sized_split
+
+pub returns-clause-gateways : goal.returns-clause-gateways
+returns-clause-gateways c = gateway_split
+
+pub returns-clause-relays : goal.returns-clause-relays
+returns-clause-relays c = relay_split
+
+pub returns-clause-opaque : goal.returns-clause-opaque
+returns-clause-opaque c = opaque_split
+
+pub returns-clause-records : goal.returns-clause-records
+returns-clause-records c = record_split
