@@ -1,3 +1,4 @@
+mod GatewayTexts
 mod Ipv6Texts
 mod LineLemmas
 mod ListTexts

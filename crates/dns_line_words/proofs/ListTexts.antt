@@ -33,7 +33,7 @@ use Rattle.dns_line_words.proofs.SpacedTexts.AreSpaced.{nothing as no_words, spa
 use Rattle.dns_line_words.proofs.WordTexts.{base64_word, class_word, decimal_word, glyph_plain, name_word, quoted_word, type_is_word}
 
 -- a word after others and a space
-then_word : (first text : List ℕ) (words : List (List ℕ)) → AreSpaced first words → IsWord text → AreSpaced (first ++ codes " " ++ text) (words ++ text ∷ [])
+pub then_word : (first text : List ℕ) (words : List (List ℕ)) → AreSpaced first words → IsWord text → AreSpaced (first ++ codes " " ++ text) (words ++ text ∷ [])
 then_word first text words h is =
     subst (λ (xs : List ℕ). AreSpaced xs (words ++ text ∷ [])) (sym (append_assoc first (codes " ") text))
     (spaced_append first (codes " " ++ text) words (text ∷ []) h refl (space (one_word text is)))
@@ -83,7 +83,7 @@ items_all P item_at steps zero octets bytes = All-nil P
 items_all P item_at steps (suc count) octets bytes =
     first_all P item_at steps count octets bytes (items_all P item_at steps count) (item_at octets) refl
 
-some_same : {A : Type 0} (x y : A) → Some x ≡ Some y → x ≡ y
+pub some_same : {A : Type 0} (x y : A) → Some x ≡ Some y → x ≡ y
 some_same x y e = cc
 
 -- prefixes
@@ -150,7 +150,7 @@ prefixes_split octets text bytes e =
     words_are text _ (all_split (prefixes_of octets) text (items_all IsPrefix prefix_at prefix_steps (length octets) octets bytes) e)
 
 -- octets in base64 after a space, if there are any
-key_spaced : (octets : List ℕ) → AreSpaced (key_text octets) (word_of_any (encode_of standard) octets) × EndsWord (key_text octets)
+pub key_spaced : (octets : List ℕ) → AreSpaced (key_text octets) (word_of_any (encode_of standard) octets) × EndsWord (key_text octets)
 key_spaced [] = (no_words, tt)
 key_spaced (x ∷ xs) = (space (one_word (encode_of standard (x ∷ xs)) (base64_word (x ∷ xs) (omega arith))), refl)
 

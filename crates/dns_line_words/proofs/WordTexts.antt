@@ -207,12 +207,20 @@ dotted_size : (label : List ℕ) → 0 < length label → 0 < length (dotted_lab
 dotted_size [] some = absurd (omega arith)
 dotted_size (o ∷ label) some = omega (arith, length-append (zone_label_text (o ∷ label)) (codes "."))
 
-pub name_word : (name : Labels) → IsName name → IsWord (zone_name_text name)
-name_word [] is = (omega arith, plain refl nothing)
-name_word (label ∷ name) is =
-    let some = (All-head IsLabel label name is.labels).some in
+-- the first label, if there is one, has an octet
+abbrev pub BeginsLabel : Labels → Type 0
+BeginsLabel [] = Unit {0}
+BeginsLabel (label ∷ name) = 0 < length label
+
+pub labels_word : (name : Labels) → BeginsLabel name → IsWord (zone_name_text name)
+labels_word [] some = (omega arith, plain refl nothing)
+labels_word (label ∷ name) some =
     let size = dotted_size label some in
     (omega (arith, size, length-append (dotted_label label) (flat_map dotted_label (with_root name))), labels_rest (with_root (label ∷ name)))
+
+pub name_word : (name : Labels) → IsName name → IsWord (zone_name_text name)
+name_word [] is = labels_word [] tt
+name_word (label ∷ name) is = labels_word (label ∷ name) (All-head IsLabel label name is.labels).some
 
 -- addresses of IPv4
 dot_rest : IsRest false (codes ".")

@@ -1,4 +1,5 @@
-use Rattle.dns_line_words.proofs.ListTexts.{gateway_split, opaque_split, prefixes_split, record_split, relay_split, sized_split, strings_split, types_split}
+use Rattle.dns_line_words.proofs.GatewayTexts.{gateways_split, identities_split, relays_split}
+use Rattle.dns_line_words.proofs.ListTexts.{opaque_split, prefixes_split, record_split, sized_split, strings_split, types_split}
 use Rattle.dns_line_words.proofs.laws.printed_lists_split.Goals as goal
 
 pub returns-clause-strings : goal.returns-clause-strings
@@ -14,13 +15,16 @@ pub returns-clause-sized : goal.returns-clause-sized
 returns-clause-sized c = sized_split
 
 pub returns-clause-gateways : goal.returns-clause-gateways
-returns-clause-gateways c = gateway_split
+returns-clause-gateways c = gateways_split
 
 pub returns-clause-relays : goal.returns-clause-relays
-returns-clause-relays c = relay_split
+returns-clause-relays c = relays_split
 
 pub returns-clause-opaque : goal.returns-clause-opaque
 returns-clause-opaque c = opaque_split
 
 pub returns-clause-records : goal.returns-clause-records
 returns-clause-records c = record_split
+
+pub returns-clause-identities : goal.returns-clause-identities
+returns-clause-identities c = identities_split
