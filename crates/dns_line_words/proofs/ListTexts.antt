@@ -67,21 +67,21 @@ bytes_drop zero xs bytes i = bytes i
 bytes_drop (suc n) [] bytes i = bytes i
 bytes_drop (suc n) (x ∷ xs) bytes i = bytes_drop n xs (λ k. bytes (suc k)) i
 
--- the items of octets
-abbrev Steps : {A : Type 0} → (A → Type 0) → (List ℕ → Option (A × List ℕ)) → Type 0
-Steps {A} P item_at = (octets after : List ℕ) (item : A) → IsBytes octets → item_at octets ≡ Some (item, after) → P item × IsBytes after
+-- the items of octets, if the octets after each item are as those before it
+abbrev pub Steps : {A : Type 0} → (A → Type 0) → (List ℕ → Type 0) → (List ℕ → Option (A × List ℕ)) → Type 0
+Steps {A} P Q item_at = (octets after : List ℕ) (item : A) → Q octets → item_at octets ≡ Some (item, after) → P item × Q after
 
-first_all : {A : Type 0} (P : A → Type 0) (item_at : List ℕ → Option (A × List ℕ)) → Steps P item_at → (count : ℕ) (octets : List ℕ) → IsBytes octets
-    → ((after : List ℕ) → IsBytes after → All P (items_in item_at count after))
+first_all : {A : Type 0} (P : A → Type 0) (Q : List ℕ → Type 0) (item_at : List ℕ → Option (A × List ℕ)) → Steps P Q item_at → (count : ℕ) (octets : List ℕ) → Q octets
+    → ((after : List ℕ) → Q after → All P (items_in item_at count after))
     → (o : Option (A × List ℕ)) → item_at octets ≡ o → All P (option_map_or (λ first. first.0 ∷ items_in item_at count first.1) o [])
-first_all P item_at steps count octets bytes later None e = All-nil P
-first_all P item_at steps count octets bytes later (Some (item, after)) e =
-    let step = steps octets after item bytes e in All-cons P item (items_in item_at count after) step.0 (later after step.1)
+first_all P Q item_at steps count octets own later None e = All-nil P
+first_all P Q item_at steps count octets own later (Some (item, after)) e =
+    let step = steps octets after item own e in All-cons P item (items_in item_at count after) step.0 (later after step.1)
 
-pub items_all : {A : Type 0} (P : A → Type 0) (item_at : List ℕ → Option (A × List ℕ)) → Steps P item_at → (count : ℕ) (octets : List ℕ) → IsBytes octets → All P (items_in item_at count octets)
-items_all P item_at steps zero octets bytes = All-nil P
-items_all P item_at steps (suc count) octets bytes =
-    first_all P item_at steps count octets bytes (items_all P item_at steps count) (item_at octets) refl
+pub items_all : {A : Type 0} (P : A → Type 0) (Q : List ℕ → Type 0) (item_at : List ℕ → Option (A × List ℕ)) → Steps P Q item_at → (count : ℕ) (octets : List ℕ) → Q octets → All P (items_in item_at count octets)
+items_all P Q item_at steps zero octets own = All-nil P
+items_all P Q item_at steps (suc count) octets own =
+    first_all P Q item_at steps count octets own (items_all P Q item_at steps count) (item_at octets) refl
 
 pub some_same : {A : Type 0} (x y : A) → Some x ≡ Some y → x ≡ y
 some_same x y e = cc
@@ -90,7 +90,7 @@ some_same x y e = cc
 abbrev IsPrefix : PrefixItem → Type 0
 IsPrefix item = IsBytes item.address × (item.family < 2 ^ 16) × (item.size < 256)
 
-prefix_steps : Steps IsPrefix prefix_at
+prefix_steps : Steps IsPrefix IsBytes prefix_at
 prefix_steps [] after item bytes e = absurd (cc e)
 prefix_steps (a ∷ []) after item bytes e = absurd (cc e)
 prefix_steps (a ∷ b ∷ []) after item bytes e = absurd (cc e)
@@ -147,7 +147,7 @@ all_split (item ∷ items) text all e =
 
 pub prefixes_split : (octets text : List ℕ) → IsBytes octets → prefixes_text octets ≡ Some text → AreWordsOf text (map prefix_text (prefixes_of octets))
 prefixes_split octets text bytes e =
-    words_are text _ (all_split (prefixes_of octets) text (items_all IsPrefix prefix_at prefix_steps (length octets) octets bytes) e)
+    words_are text _ (all_split (prefixes_of octets) text (items_all IsPrefix IsBytes prefix_at prefix_steps (length octets) octets bytes) e)
 
 -- octets in base64 after a space, if there are any
 pub key_spaced : (octets : List ℕ) → AreSpaced (key_text octets) (word_of_any (encode_of standard) octets) × EndsWord (key_text octets)

@@ -267,10 +267,10 @@ base64_word octets some =
     word_append _ _ (symbols_size standard.encode_table octets some, symbols_rest (standard.encode_table) octets refl) (padding_rest (padding_len (length octets)))
 
 -- record types and classes
-abbrev is_plain_word : List ℕ → Bool
+abbrev pub is_plain_word : List ℕ → Bool
 is_plain_word text = not (length text == 0) && list_all (is_plain false) text
 
-plain_word : (text : List ℕ) → is_plain_word text ≡ true → IsWord text
+pub plain_word : (text : List ℕ) → is_plain_word text ≡ true → IsWord text
 plain_word [] all = absurd (cc all)
 plain_word (c ∷ text) all =
     (omega arith, plain_rest (c ∷ text) (and_parts (not (length (c ∷ text) == 0)) (list_all (is_plain false) (c ∷ text)) all).1)

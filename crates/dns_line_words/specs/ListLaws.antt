@@ -9,9 +9,11 @@ use Rattle.dns_name.specs.Names.{IsName, Labels}
 use Rattle.dns_number.specs.Classes.{class_text}
 use Rattle.dns_value_text.specs.Hex.{hex_text}
 use Rattle.dns_value_text.specs.String.{quoted}
-use Rattle.dns_fields_text.specs.FieldTexts.{prefixes_text, sized_text, strings_text}
+use Rattle.dns_fields_text.specs.FieldTexts.{parameters_text, prefixes_text, sized_text, strings_text}
 use Rattle.dns_fields_text.specs.GatewayTexts.{gateway_at, gateway_text, relay_text}
 use Rattle.dns_fields_text.specs.HostIdentities.{identity_text}
+use Rattle.dns_fields_text.specs.ParameterItems.{parameters_of}
+use Rattle.dns_fields_text.specs.Parameters.{parameter_word}
 use Rattle.dns_fields_text.specs.PrefixItems.{prefixes_of}
 use Rattle.dns_fields_text.specs.Prefixes.{prefix_text}
 use Rattle.dns_fields_text.specs.RecordLines.{record_text}
@@ -37,6 +39,10 @@ TypesSplit = (types : List ℕ) → All (λ n. n < 2 ^ 16) types → AreWordsOf 
 -- address prefixes that have a presentation format
 abbrev pub PrefixesSplit : Type 0
 PrefixesSplit = (octets text : List ℕ) → IsBytes octets → prefixes_text octets ≡ Some text → AreWordsOf text (map prefix_text (prefixes_of octets))
+
+-- service parameters
+abbrev pub ParametersSplit : Type 0
+ParametersSplit = (octets : List ℕ) → IsBytes octets → AreWordsOf (parameters_text octets) (map parameter_word (parameters_of octets))
 
 -- octets after their number
 abbrev pub SizedSplit : Type 0

@@ -1,6 +1,6 @@
 //! Theorems on the words of lines. Each contract is a theorem.
 ghost use Rattle.dns_line_words.specs.Laws.{Base64IsWord, ClassesAreWords, EuiAreWords, HashesAreWords, HexIsWord, Ipv4IsWord, Ipv6IsWord, LocatorsAreWords, NamesAreWords, NumbersAreWords, PrefixesAreWords, SaltsAreWords, StringsAreWords, TagsAreWords, TimesAreWords, TypesAreWords, WordsAreUnique};
-ghost use Rattle.dns_line_words.specs.ListLaws.{GatewaysSplit, IdentitiesSplit, OpaqueSplits, PrefixesSplit, RecordsSplit, RelaysSplit, SizedSplit, StringsSplit, TypesSplit};
+ghost use Rattle.dns_line_words.specs.ListLaws.{GatewaysSplit, IdentitiesSplit, OpaqueSplits, ParametersSplit, PrefixesSplit, RecordsSplit, RelaysSplit, SizedSplit, StringsSplit, TypesSplit};
 
 /// A line has at most one list of words.
 pub fn words_are_unique()
@@ -32,6 +32,7 @@ pub fn printed_lists_split()
     ensures strings { StringsSplit }
     ensures types { TypesSplit }
     ensures prefixes { PrefixesSplit }
+    ensures parameters { ParametersSplit }
     ensures sized { SizedSplit }
     ensures gateways { GatewaysSplit }
     ensures relays { RelaysSplit }

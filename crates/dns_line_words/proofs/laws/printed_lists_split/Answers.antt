@@ -1,3 +1,4 @@
+use Rattle.dns_line_words.proofs.ParameterTexts.{parameters_split}
 use Rattle.dns_line_words.proofs.GatewayTexts.{gateways_split, identities_split, relays_split}
 use Rattle.dns_line_words.proofs.ListTexts.{opaque_split, prefixes_split, record_split, sized_split, strings_split, types_split}
 use Rattle.dns_line_words.proofs.laws.printed_lists_split.Goals as goal
@@ -28,3 +29,6 @@ returns-clause-records c = record_split
 
 pub returns-clause-identities : goal.returns-clause-identities
 returns-clause-identities c = identities_split
+
+pub returns-clause-parameters : goal.returns-clause-parameters
+returns-clause-parameters c = parameters_split
