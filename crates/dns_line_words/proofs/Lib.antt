@@ -2,6 +2,7 @@ mod GatewayTexts
 mod Ipv6Texts
 mod LineLemmas
 mod ListTexts
+mod LocationTexts
 mod ParameterTexts
 mod PrefixTexts
 mod SpacedTexts

@@ -159,7 +159,7 @@ locator_word (a ∷ b ∷ c ∷ d ∷ e ∷ f ∷ g ∷ h ∷ []) bytes size = (
 locator_word (a ∷ b ∷ c ∷ d ∷ e ∷ f ∷ g ∷ h ∷ i ∷ octets) bytes size = absurd (omega arith)
 
 -- times
-two_rest : (n : ℕ) (rest : List ℕ) → IsRest false rest → IsRest false (two_digits n ++ rest)
+pub two_rest : (n : ℕ) (rest : List ℕ) → IsRest false rest → IsRest false (two_digits n ++ rest)
 two_rest n rest h = plain (digit_plain (n / 10 % 10) (omega arith)) (plain (digit_plain (n % 10) (omega arith)) h)
 
 date_rest : (year month day : ℕ) → IsRest false (date_text year month day)

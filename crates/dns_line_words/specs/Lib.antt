@@ -1,3 +1,4 @@
 pub mod Laws
 pub mod LineWords
 pub mod ListLaws
+pub mod LocationLaws

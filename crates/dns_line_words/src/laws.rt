@@ -1,6 +1,7 @@
 //! Theorems on the words of lines. Each contract is a theorem.
 ghost use Rattle.dns_line_words.specs.Laws.{Base64IsWord, ClassesAreWords, EuiAreWords, HashesAreWords, HexIsWord, Ipv4IsWord, Ipv6IsWord, LocatorsAreWords, NamesAreWords, NumbersAreWords, PrefixesAreWords, SaltsAreWords, StringsAreWords, TagsAreWords, TimesAreWords, TypesAreWords, WordsAreUnique};
 ghost use Rattle.dns_line_words.specs.ListLaws.{GatewaysSplit, IdentitiesSplit, OpaqueSplits, ParametersSplit, PrefixesSplit, RecordsSplit, RelaysSplit, SizedSplit, StringsSplit, TypesSplit};
+ghost use Rattle.dns_line_words.specs.LocationLaws.{LocationsSplit};
 
 /// A line has at most one list of words.
 pub fn words_are_unique()
@@ -37,6 +38,7 @@ pub fn printed_lists_split()
     ensures gateways { GatewaysSplit }
     ensures relays { RelaysSplit }
     ensures identities { IdentitiesSplit }
+    ensures locations { LocationsSplit }
     ensures opaque { OpaqueSplits }
     ensures records { RecordsSplit }
 {}

@@ -1,3 +1,4 @@
+use Rattle.dns_line_words.proofs.LocationTexts.{locations_split}
 use Rattle.dns_line_words.proofs.ParameterTexts.{parameters_split}
 use Rattle.dns_line_words.proofs.GatewayTexts.{gateways_split, identities_split, relays_split}
 use Rattle.dns_line_words.proofs.ListTexts.{opaque_split, prefixes_split, record_split, sized_split, strings_split, types_split}
@@ -32,3 +33,6 @@ returns-clause-identities c = identities_split
 
 pub returns-clause-parameters : goal.returns-clause-parameters
 returns-clause-parameters c = parameters_split
+
+pub returns-clause-locations : goal.returns-clause-locations
+returns-clause-locations c = locations_split
