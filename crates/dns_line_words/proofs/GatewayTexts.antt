@@ -16,13 +16,13 @@ use Rattle.dns_value_text.specs.Hex.{hex_text}
 use Rattle.dns_fields_text.specs.GatewayTexts.{gateway_at, gateway_text, gateway_words, labels_at, last_relay, name_at, name_word_at, relay_text, relay_words, word_at}
 use Rattle.dns_fields_text.specs.HostIdentities.{identity_parts, identity_text, identity_words, servers_in, servers_text}
 use Rattle.dns_fields_text.specs.ZoneNames.{zone_name_text}
-use Rattle.dns_line_words.specs.LineWords.{AreWordsOf, EndsWord, IsWord}
+use Rattle.dns_line_words.specs.LineWords.{EndsWord, IsWord}
 use Rattle.dns_line_words.specs.LineWords.IsRest.{nothing, plain}
 use Rattle.dns_line_words.specs.ListLaws.{word_of_any}
 use Rattle.dns_line_words.proofs.Ipv6Texts.{ipv6_word}
 use Rattle.dns_line_words.proofs.ListTexts.{gateway_split, relay_split, some_same, then_word}
 use Rattle.dns_line_words.proofs.PrefixTexts.{bytes_take}
-use Rattle.dns_line_words.proofs.SpacedTexts.{AreSpaced, one_word, spaced_append, words_are}
+use Rattle.dns_line_words.proofs.SpacedTexts.{AreSpaced, one_word, spaced_append}
 use Rattle.dns_line_words.proofs.SpacedTexts.AreSpaced.{nothing as no_words, space, word as first_word}
 use Rattle.dns_line_words.proofs.WordTexts.{BeginsLabel, base64_word, decimal_word, hex_word, ipv4_word, labels_word}
 
@@ -95,7 +95,7 @@ gateway_word gateway_type octets word after bytes e =
 gateway_then : (gateway_type algorithm : ℕ) (octets text : List ℕ) → IsBytes octets → gateway_type < 256 → algorithm < 256 → (o : Option (List ℕ × List ℕ)) → gateway_at gateway_type octets ≡ o
     → option_map (λ gateway. gateway_words gateway_type algorithm gateway.0 gateway.1) o ≡ Some text
     → (word key : List ℕ) × (gateway_at gateway_type octets ≡ Some (word, key))
-    × AreWordsOf text (decimal gateway_type ∷ decimal algorithm ∷ word ∷ word_of_any (encode_of standard) key)
+    × AreSpaced text (decimal gateway_type ∷ decimal algorithm ∷ word ∷ word_of_any (encode_of standard) key) × EndsWord text
 gateway_then gateway_type algorithm octets text bytes t a None e f = absurd (cc f)
 gateway_then gateway_type algorithm octets text bytes t a (Some (word, key)) e f =
     let same = some_same (gateway_words gateway_type algorithm word key) text f in
@@ -103,29 +103,34 @@ gateway_then gateway_type algorithm octets text bytes t a (Some (word, key)) e f
       word,
       key,
       e,
-      subst (λ (xs : List ℕ). AreWordsOf xs (decimal gateway_type ∷ decimal algorithm ∷ word ∷ word_of_any (encode_of standard) key)) same
+      subst (λ (xs : List ℕ). AreSpaced xs (decimal gateway_type ∷ decimal algorithm ∷ word ∷ word_of_any (encode_of standard) key)) same
           (gateway_split gateway_type algorithm word key t a is),
+      subst EndsWord same refl,
     )
 
 pub gateways_split : (gateway_type algorithm : ℕ) (octets text : List ℕ) → IsBytes (gateway_type ∷ algorithm ∷ octets) → gateway_text (gateway_type ∷ algorithm ∷ octets) ≡ Some text
     → (word key : List ℕ) × (gateway_at gateway_type octets ≡ Some (word, key))
-    × AreWordsOf text (decimal gateway_type ∷ decimal algorithm ∷ word ∷ word_of_any (encode_of standard) key)
+    × AreSpaced text (decimal gateway_type ∷ decimal algorithm ∷ word ∷ word_of_any (encode_of standard) key) × EndsWord text
 gateways_split gateway_type algorithm octets text bytes e =
     gateway_then gateway_type algorithm octets text (λ i. bytes (suc (suc i))) (bytes 0) (bytes 1) (gateway_at gateway_type octets) refl e
 
 -- a relay
 relay_then : (first : ℕ) (octets text : List ℕ) → IsBytes octets → first < 256 → (o : Option (List ℕ × List ℕ)) → gateway_at (first % 128) octets ≡ o → option_and_then (last_relay first) o ≡ Some text
-    → (word after : List ℕ) × (gateway_at (first % 128) octets ≡ Some (word, after)) × AreWordsOf text (decimal (first / 128) ∷ decimal (first % 128) ∷ word ∷ [])
+    → (word after : List ℕ) × (gateway_at (first % 128) octets ≡ Some (word, after)) × AreSpaced text (decimal (first / 128) ∷ decimal (first % 128) ∷ word ∷ []) × EndsWord text
 relay_then first octets text bytes small None e f = absurd (cc f)
-relay_then first octets text bytes small (Some (word, after)) e f = (word, after, e, by_end (length after == 0) f) where
-  by_end : (b : Bool) → (if b then Some (relay_words (first / 128) (first % 128) word) else None) ≡ Some text → AreWordsOf text (decimal (first / 128) ∷ decimal (first % 128) ∷ word ∷ [])
+relay_then first octets text bytes small (Some (word, after)) e f = let ends = by_end (length after == 0) f in (word, after, e, ends.0, ends.1) where
+  by_end : (b : Bool) → (if b then Some (relay_words (first / 128) (first % 128) word) else None) ≡ Some text
+      → AreSpaced text (decimal (first / 128) ∷ decimal (first % 128) ∷ word ∷ []) × EndsWord text
   by_end true g =
-      subst (λ (xs : List ℕ). AreWordsOf xs (decimal (first / 128) ∷ decimal (first % 128) ∷ word ∷ [])) (some_same (relay_words (first / 128) (first % 128) word) text g)
-      (relay_split (first / 128) (first % 128) word (omega arith) (omega arith) (gateway_word (first % 128) octets word after bytes e))
+      let same = some_same (relay_words (first / 128) (first % 128) word) text g in (
+        subst (λ (xs : List ℕ). AreSpaced xs (decimal (first / 128) ∷ decimal (first % 128) ∷ word ∷ [])) same
+            (relay_split (first / 128) (first % 128) word (omega arith) (omega arith) (gateway_word (first % 128) octets word after bytes e)),
+        subst EndsWord same refl,
+      )
   by_end false g = absurd (cc g)
 
 pub relays_split : (first : ℕ) (octets text : List ℕ) → IsBytes (first ∷ octets) → relay_text (first ∷ octets) ≡ Some text
-    → (word after : List ℕ) × (gateway_at (first % 128) octets ≡ Some (word, after)) × AreWordsOf text (decimal (first / 128) ∷ decimal (first % 128) ∷ word ∷ [])
+    → (word after : List ℕ) × (gateway_at (first % 128) octets ≡ Some (word, after)) × AreSpaced text (decimal (first / 128) ∷ decimal (first % 128) ∷ word ∷ []) × EndsWord text
 relays_split first octets text bytes e = relay_then first octets text (λ i. bytes (suc i)) (bytes 0) (gateway_at (first % 128) octets) refl e
 
 -- the names of servers, each after a space
@@ -168,7 +173,7 @@ identity_spaced algorithm tag key small bytes some_tag some_key =
     then_word (decimal algorithm ++ codes " " ++ hex_text tag) (encode_of standard key) (decimal algorithm ∷ hex_text tag ∷ []) two (base64_word key some_key)
 
 parts_split : (algorithm : ℕ) (tag key servers text : List ℕ) → algorithm < 256 → IsBytes tag → identity_parts algorithm tag key servers ≡ Some text
-    → (names : List Labels) × AreWordsOf text (decimal algorithm ∷ hex_text tag ∷ encode_of standard key ∷ map zone_name_text names)
+    → (names : List Labels) × AreSpaced text (decimal algorithm ∷ hex_text tag ∷ encode_of standard key ∷ map zone_name_text names)
 parts_split algorithm [] key servers text small bytes e = absurd (cc e)
 parts_split algorithm (t ∷ tag) [] servers text small bytes e = absurd (cc e)
 parts_split algorithm (t ∷ tag) (k ∷ key) servers text small bytes e =
@@ -177,20 +182,19 @@ parts_split algorithm (t ∷ tag) (k ∷ key) servers text small bytes e =
     let parts = joined own (servers_text servers) text e in
     let rest = servers_split (length servers) servers parts.0 parts.1 in (
       rest.0,
-      subst (λ (xs : List ℕ). AreWordsOf xs (first ++ map zone_name_text rest.0)) parts.2
-          (words_are (own ++ parts.0) (first ++ map zone_name_text rest.0)
-          (spaced_append own parts.0 first (map zone_name_text rest.0) (identity_spaced algorithm (t ∷ tag) (k ∷ key) small bytes (omega arith) (omega arith)) rest.2 rest.1)),
+      subst (λ (xs : List ℕ). AreSpaced xs (first ++ map zone_name_text rest.0)) parts.2
+          (spaced_append own parts.0 first (map zone_name_text rest.0) (identity_spaced algorithm (t ∷ tag) (k ∷ key) small bytes (omega arith) (omega arith)) rest.2 rest.1),
     )
 
 pub identities_split : (tag_size algorithm high low : ℕ) (octets text : List ℕ) → IsBytes (tag_size ∷ algorithm ∷ high ∷ low ∷ octets)
     → identity_text (tag_size ∷ algorithm ∷ high ∷ low ∷ octets) ≡ Some text
     → (servers : List Labels)
-    × AreWordsOf text
+    × AreSpaced text
     (decimal algorithm ∷ hex_text (take tag_size octets) ∷ encode_of standard (take (high * 256 + low) (drop tag_size octets)) ∷ map zone_name_text servers)
 identities_split tag_size algorithm high low octets text bytes e = by_size (nat_le (tag_size + (high * 256 + low)) (length octets)) e where
   by_size : (b : Bool) → (if b then identity_parts algorithm (take tag_size octets) (take (high * 256 + low) (drop tag_size octets)) (drop (high * 256 + low) (drop tag_size octets)) else None) ≡ Some text
       → (servers : List Labels)
-      × AreWordsOf text
+      × AreSpaced text
       (decimal algorithm ∷ hex_text (take tag_size octets) ∷ encode_of standard (take (high * 256 + low) (drop tag_size octets)) ∷ map zone_name_text servers)
   by_size true f =
       parts_split algorithm (take tag_size octets) (take (high * 256 + low) (drop tag_size octets)) (drop (high * 256 + low) (drop tag_size octets)) text (bytes 1)

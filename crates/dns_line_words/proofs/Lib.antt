@@ -1,3 +1,4 @@
+mod FieldWords
 mod GatewayTexts
 mod Ipv6Texts
 mod LineLemmas

@@ -28,7 +28,7 @@ use Rattle.dns_line_words.specs.LineWords.AreWordsOf.{blank}
 use Rattle.dns_line_words.specs.LineWords.IsRest.{nothing, plain, escaped}
 use Rattle.dns_line_words.specs.ListLaws.{word_of_any}
 use Rattle.dns_line_words.proofs.PrefixTexts.{bytes_take, prefix_is_word}
-use Rattle.dns_line_words.proofs.SpacedTexts.{AreSpaced, items_are, one_word, spaced_append, spaced_are, words_append, words_are}
+use Rattle.dns_line_words.proofs.SpacedTexts.{AreSpaced, items_are, one_word, spaced_append, spaced_are, words_append}
 use Rattle.dns_line_words.proofs.SpacedTexts.AreSpaced.{nothing as no_words, space, word}
 use Rattle.dns_line_words.proofs.WordTexts.{base64_word, class_word, decimal_word, glyph_plain, name_word, quoted_word, type_is_word}
 
@@ -49,8 +49,8 @@ strings_words : (strings : List (List ℕ)) → All IsWord (map quoted strings)
 strings_words [] = All-nil IsWord
 strings_words (string ∷ strings) = All-cons IsWord (quoted string) (map quoted strings) (quoted_word string) (strings_words strings)
 
-pub strings_split : (octets : List ℕ) → AreWordsOf (strings_text octets) (map quoted (strings_of octets))
-strings_split octets = words_are _ _ (spaced_are (map quoted (strings_of octets)) (strings_words (strings_of octets)))
+pub strings_split : (octets : List ℕ) → AreSpaced (strings_text octets) (map quoted (strings_of octets))
+strings_split octets = (spaced_are (map quoted (strings_of octets)) (strings_words (strings_of octets)))
 
 -- record types
 types_words : (types : List ℕ) → All (λ n. n < 2 ^ 16) types → All (λ n. IsWord (type_word n)) types
@@ -58,8 +58,8 @@ types_words [] all = All-nil (λ n. IsWord (type_word n))
 types_words (n ∷ types) all =
     All-cons (λ n. IsWord (type_word n)) n types (type_is_word n (All-head (λ n. n < 2 ^ 16) n types all)) (types_words types (All-tail (λ n. n < 2 ^ 16) n types all))
 
-pub types_split : (types : List ℕ) → All (λ n. n < 2 ^ 16) types → AreWordsOf (types_text types) (map type_word types)
-types_split types all = words_are _ _ (items_are type_word types (types_words types all))
+pub types_split : (types : List ℕ) → All (λ n. n < 2 ^ 16) types → AreSpaced (types_text types) (map type_word types)
+types_split types all = (items_are type_word types (types_words types all))
 
 -- the octets after an item
 pub bytes_drop : (n : ℕ) (xs : List ℕ) → IsBytes xs → IsBytes (drop n xs)
@@ -145,9 +145,9 @@ all_split (item ∷ items) text all e =
     let here = prefix_of item (All-head IsPrefix item items all) in
     subst (λ (xs : List ℕ). AreSpaced xs (map prefix_text (item ∷ items))) parts.2 (word (prefix_text item) here rest.1 rest.0)
 
-pub prefixes_split : (octets text : List ℕ) → IsBytes octets → prefixes_text octets ≡ Some text → AreWordsOf text (map prefix_text (prefixes_of octets))
+pub prefixes_split : (octets text : List ℕ) → IsBytes octets → prefixes_text octets ≡ Some text → AreSpaced text (map prefix_text (prefixes_of octets))
 prefixes_split octets text bytes e =
-    words_are text _ (all_split (prefixes_of octets) text (items_all IsPrefix IsBytes prefix_at prefix_steps (length octets) octets bytes) e)
+    (all_split (prefixes_of octets) text (items_all IsPrefix IsBytes prefix_at prefix_steps (length octets) octets bytes) e)
 
 -- octets in base64 after a space, if there are any
 pub key_spaced : (octets : List ℕ) → AreSpaced (key_text octets) (word_of_any (encode_of standard) octets) × EndsWord (key_text octets)
@@ -155,30 +155,30 @@ key_spaced [] = (no_words, tt)
 key_spaced (x ∷ xs) = (space (one_word (encode_of standard (x ∷ xs)) (base64_word (x ∷ xs) (omega arith))), refl)
 
 -- octets after their number
-pub sized_split : (octets : List ℕ) → length octets < 2 ^ 64 → AreWordsOf (sized_text octets) (decimal (length octets) ∷ word_of_any (encode_of standard) octets)
+pub sized_split : (octets : List ℕ) → length octets < 2 ^ 64 → AreSpaced (sized_text octets) (decimal (length octets) ∷ word_of_any (encode_of standard) octets)
 sized_split octets small =
     let key = key_spaced octets in
-    words_are _ _ (word (decimal (length octets)) (decimal_word (length octets) small) key.1 key.0)
+    (word (decimal (length octets)) (decimal_word (length octets) small) key.1 key.0)
 
 -- gateways and relays, whose texts begin with a space
 pub gateway_split : (gateway_type algorithm : ℕ) (text key : List ℕ) → gateway_type < 256 → algorithm < 256 → IsWord text
-    → AreWordsOf (gateway_words gateway_type algorithm text key) (decimal gateway_type ∷ decimal algorithm ∷ text ∷ word_of_any (encode_of standard) key)
+    → AreSpaced (gateway_words gateway_type algorithm text key) (decimal gateway_type ∷ decimal algorithm ∷ text ∷ word_of_any (encode_of standard) key)
 gateway_split gateway_type algorithm text key t a is =
     let first = decimal_word gateway_type (omega arith) in
     let one : AreSpaced (codes " " ++ decimal gateway_type) (decimal gateway_type ∷ []) = space (one_word (decimal gateway_type) first) in
     let two = then_word (codes " " ++ decimal gateway_type) (decimal algorithm) (decimal gateway_type ∷ []) one (decimal_word algorithm (omega arith)) in
     let three = then_word (codes " " ++ decimal gateway_type ++ codes " " ++ decimal algorithm) text (decimal gateway_type ∷ decimal algorithm ∷ []) two is in
     let last = key_spaced key in
-    words_are _ _ (spaced_append (codes " " ++ decimal gateway_type ++ codes " " ++ decimal algorithm ++ codes " " ++ text) (key_text key)
+    (spaced_append (codes " " ++ decimal gateway_type ++ codes " " ++ decimal algorithm ++ codes " " ++ text) (key_text key)
     (decimal gateway_type ∷ decimal algorithm ∷ text ∷ []) (word_of_any (encode_of standard) key) three last.1 last.0)
 
 pub relay_split : (discovery relay_type : ℕ) (text : List ℕ) → discovery < 2 → relay_type < 128 → IsWord text
-    → AreWordsOf (relay_words discovery relay_type text) (decimal discovery ∷ decimal relay_type ∷ text ∷ [])
+    → AreSpaced (relay_words discovery relay_type text) (decimal discovery ∷ decimal relay_type ∷ text ∷ [])
 relay_split discovery relay_type text d t is =
     let first = decimal_word discovery (omega arith) in
     let one : AreSpaced (codes " " ++ decimal discovery) (decimal discovery ∷ []) = space (one_word (decimal discovery) first) in
     let two = then_word (codes " " ++ decimal discovery) (decimal relay_type) (decimal discovery ∷ []) one (decimal_word relay_type (omega arith)) in
-    words_are _ _ (then_word (codes " " ++ decimal discovery ++ codes " " ++ decimal relay_type) text (decimal discovery ∷ decimal relay_type ∷ []) two is)
+    (then_word (codes " " ++ decimal discovery ++ codes " " ++ decimal relay_type) text (decimal discovery ∷ decimal relay_type ∷ []) two is)
 
 -- octets in lowercase hexadecimal
 octets_rest : (octets : List ℕ) → IsBytes octets → IsRest false (flat_map hex_octet octets)
@@ -195,14 +195,14 @@ number_spaced : (n : ℕ) → n < 2 ^ 64 → AreSpaced (codes "\\# " ++ decimal 
 number_spaced n small = word (codes "\\#") sharp_word refl (space (one_word (decimal n) (decimal_word n small)))
 
 pub opaque_split : (octets : List ℕ) → IsBytes octets → length octets < 2 ^ 64
-    → AreWordsOf (opaque_text octets) (codes "\\#" ∷ decimal (length octets) ∷ word_of_any (flat_map hex_octet) octets)
+    → AreSpaced (opaque_text octets) (codes "\\#" ∷ decimal (length octets) ∷ word_of_any (flat_map hex_octet) octets)
 opaque_split [] bytes small =
-    words_are _ _ (spaced_append (codes "\\# " ++ decimal 0) [] (codes "\\#" ∷ decimal 0 ∷ []) [] (number_spaced 0 small) tt no_words)
+    (spaced_append (codes "\\# " ++ decimal 0) [] (codes "\\#" ∷ decimal 0 ∷ []) [] (number_spaced 0 small) tt no_words)
 opaque_split (o ∷ octets) bytes small =
     let size = length (o ∷ octets) in
     let text = flat_map hex_octet (o ∷ octets) in
     let last : IsWord text = (omega arith, octets_rest (o ∷ octets) bytes) in
-    words_are _ _ (spaced_append (codes "\\# " ++ decimal size) (codes " " ++ text) (codes "\\#" ∷ decimal size ∷ []) (text ∷ []) (number_spaced size small) refl (space (one_word text last)))
+    (spaced_append (codes "\\# " ++ decimal size) (codes " " ++ text) (codes "\\#" ∷ decimal size ∷ []) (text ∷ []) (number_spaced size small) refl (space (one_word text last)))
 
 -- records
 pub record_split : (owner : Labels) (ttl class rtype : ℕ) (value : List ℕ) (words : List (List ℕ)) → IsName owner → ttl < 2 ^ 32 → class < 2 ^ 16 → rtype < 2 ^ 16 → AreWordsOf value words

@@ -19,12 +19,12 @@ use Rattle.dns_fields_text.specs.Parameters.{are_protocols, are_protocols_from, 
 use Rattle.dns_fields_text.specs.Separated.{comma_text, separated}
 use Rattle.dns_fields_text.specs.Strings.{string_at, strings_of}
 use Rattle.dns_fields_text.specs.FieldTexts.{parameters_text}
-use Rattle.dns_line_words.specs.LineWords.{AreWordsOf, IsRest, IsWord, is_plain}
+use Rattle.dns_line_words.specs.LineWords.{IsRest, IsWord, is_plain}
 use Rattle.dns_line_words.specs.LineWords.IsRest.{nothing, plain, turned}
 use Rattle.dns_line_words.proofs.Ipv6Texts.{ipv6_word}
 use Rattle.dns_line_words.proofs.ListTexts.{Steps, bytes_drop, items_all, some_same}
 use Rattle.dns_line_words.proofs.PrefixTexts.{bytes_take}
-use Rattle.dns_line_words.proofs.SpacedTexts.{items_are, words_are}
+use Rattle.dns_line_words.proofs.SpacedTexts.{AreSpaced, items_are}
 use Rattle.dns_line_words.proofs.WordTexts.{is_plain_word, plain_word, base64_rest, decimal_rest, ipv4_word, quoted_rest, rest_append, word_append}
 
 -- texts with commas between them, within quotes or not
@@ -229,6 +229,6 @@ parameter_steps (high ∷ low ∷ size_high ∷ size_low ∷ octets) after item 
       subst (λ (p : ParameterItem × List ℕ). IsBytes p.1) same (bytes_drop size octets rest),
     )
 
-pub parameters_split : (octets : List ℕ) → IsBytes octets → AreWordsOf (parameters_text octets) (map parameter_word (parameters_of octets))
+pub parameters_split : (octets : List ℕ) → IsBytes octets → AreSpaced (parameters_text octets) (map parameter_word (parameters_of octets))
 parameters_split octets bytes =
-    words_are _ _ (items_are parameter_word (parameters_of octets) (items_all IsParameter IsBytes parameter_at parameter_steps (length octets) octets bytes))
+    (items_are parameter_word (parameters_of octets) (items_all IsParameter IsBytes parameter_at parameter_steps (length octets) octets bytes))

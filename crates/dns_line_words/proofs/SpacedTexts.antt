@@ -26,7 +26,7 @@ pub one_word : (text : List ℕ) → IsWord text → AreSpaced text (text ∷ []
 one_word text is = subst (λ (xs : List ℕ). AreSpaced xs (text ∷ [])) (append-nil text) (word text is tt nothing)
 
 -- a text that a word may precede
-ends_append : (first second : List ℕ) → EndsWord first → EndsWord second → EndsWord (first ++ second)
+pub ends_append : (first second : List ℕ) → EndsWord first → EndsWord second → EndsWord (first ++ second)
 ends_append [] second f s = s
 ends_append (c ∷ first) second f s = f
 
@@ -65,7 +65,7 @@ spaced_are (first ∷ words) all =
 
 -- the texts of items, each after a space
 module _ {A : Type 0} (text : A → List ℕ) where
-  items_end : (items : List A) → EndsWord (flat_map (λ item. codes " " ++ text item) items)
+  pub items_end : (items : List A) → EndsWord (flat_map (λ item. codes " " ++ text item) items)
   items_end [] = tt
   items_end (item ∷ items) = refl
 

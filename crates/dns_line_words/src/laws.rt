@@ -1,4 +1,5 @@
 //! Theorems on the words of lines. Each contract is a theorem.
+ghost use Rattle.dns_line_words.specs.FieldLaws.{FieldsSplit};
 ghost use Rattle.dns_line_words.specs.Laws.{Base64IsWord, ClassesAreWords, EuiAreWords, HashesAreWords, HexIsWord, Ipv4IsWord, Ipv6IsWord, LocatorsAreWords, NamesAreWords, NumbersAreWords, PrefixesAreWords, SaltsAreWords, StringsAreWords, TagsAreWords, TimesAreWords, TypesAreWords, WordsAreUnique};
 ghost use Rattle.dns_line_words.specs.ListLaws.{GatewaysSplit, IdentitiesSplit, OpaqueSplits, ParametersSplit, PrefixesSplit, RecordsSplit, RelaysSplit, SizedSplit, StringsSplit, TypesSplit};
 ghost use Rattle.dns_line_words.specs.LocationLaws.{LocationsSplit};
@@ -41,4 +42,9 @@ pub fn printed_lists_split()
     ensures locations { LocationsSplit }
     ensures opaque { OpaqueSplits }
     ensures records { RecordsSplit }
+{}
+
+/// What is printed of fields is words.
+pub fn printed_fields_split()
+    ensures { FieldsSplit }
 {}
