@@ -1,0 +1,11 @@
+mod FieldWords
+mod GatewayTexts
+mod Ipv6Texts
+mod LineLemmas
+mod ListTexts
+mod LocationTexts
+mod ParameterTexts
+mod PrefixTexts
+mod SpacedTexts
+mod WordLemmas
+mod WordTexts

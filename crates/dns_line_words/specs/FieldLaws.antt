@@ -1,0 +1,30 @@
+-- The words of printed fields. RFC 1035 section 5.1.
+use Rattle.std.specs.Prelude.{◌≡◌, ℕ, ◌<◌, ◌^◌, All, Some, List, [], length}
+use Rattle.hex.specs.Hex.{IsBytes}
+use Rattle.dns_name.specs.Names.{IsName}
+use Rattle.dns_wire.specs.Parts.{Part}
+use Rattle.dns_wire.specs.Parts.Part.{Octets as OctetsPart, CompressibleName, UncompressedName as UncompressedPart}
+use Rattle.dns_fields.specs.FieldParts.{NamedPart}
+use Rattle.dns_fields.specs.Shapes.{shape_of}
+use Rattle.dns_fields.specs.declared.shape.Shape.{Shape}
+use Rattle.dns_fields.specs.declared.shape.Shape.TheVariants.{Octets, Counted, Sized, Name, UncompressedName, Rest}
+use Rattle.dns_fields_text.specs.FieldTexts.{fields_text}
+use Rattle.dns_line_words.specs.LineWords.{AreWordsOf}
+
+-- the part is one of a field of this shape
+abbrev pub IsPartOf : Shape → Part → Type 0
+IsPartOf (Octets n) (OctetsPart octets) = IsBytes octets × (length octets ≡ n)
+IsPartOf Counted (OctetsPart octets) = IsBytes octets × (length octets < 2 ^ 16)
+IsPartOf Sized (OctetsPart octets) = IsBytes octets × (length octets < 2 ^ 32)
+IsPartOf Rest (OctetsPart octets) = IsBytes octets × (length octets < 2 ^ 32)
+IsPartOf Name (CompressibleName name) = IsName name
+IsPartOf (UncompressedName pointers lowers) (UncompressedPart lowered name) = IsName name
+IsPartOf shape part = ⊥
+
+-- the part of each field is one of its kind
+abbrev pub AreFields : List NamedPart → Type 0
+AreFields fields = All (λ field. IsPartOf (shape_of field.kind) field.part) fields
+
+-- the text of fields that have a presentation format has words
+abbrev pub FieldsSplit : Type 0
+FieldsSplit = (fields : List NamedPart) (text : List ℕ) → AreFields fields → fields_text [] fields ≡ Some text → (words : List (List ℕ)) × AreWordsOf text words

@@ -1,0 +1,5 @@
+pub mod FieldLaws
+pub mod Laws
+pub mod LineWords
+pub mod ListLaws
+pub mod LocationLaws

@@ -1,0 +1,55 @@
+//! The word that a text begins with (RFC 1035 section 5.1).
+ghost use Rattle.std.specs.Prelude.{◌≡◌, ℕ, List, MatchOption};
+ghost use Rattle.dns_line_words.specs.LineWords.{SplitsWord, ends_word, is_blank};
+
+/// Whether the character separates words. Parentheses only join lines.
+pub(crate) fn is_blank(character: u8) -> bool
+    ensures { result ≡ is_blank character }
+{
+    matches!(character, b' ' | b'\t' | b'\r' | b'\n' | b'(' | b')')
+}
+
+/// Whether the character ends a word outside of quotes.
+fn ends_word(character: u8) -> bool
+    ensures { result ≡ ends_word character }
+{
+    is_blank(character) || character == b';'
+}
+
+/// The text after the word that a text begins with. `None` if a quote or a backslash is open at the
+/// end.
+fn after_word(text: &[u8]) -> Option<&[u8]>
+    ensures { MatchOption result
+        ((word : List ℕ) (after : List ℕ) → ¬ (SplitsWord text.now word after))
+        (λ after. (word : List ℕ) × SplitsWord text.now word after.now) }
+{
+    let mut quoted = false;
+    let mut escaped = false;
+    let mut left = text;
+    'characters: while let [first, after @ ..] = left {
+        if escaped {
+            escaped = false;
+        } else if *first == b'\\' {
+            escaped = true;
+        } else if *first == b'"' {
+            quoted = !quoted;
+        } else if !quoted && ends_word(*first) {
+            return Some(left);
+        }
+        left = after;
+    }
+    if quoted || escaped { None } else { Some(left) }
+}
+
+/// The word that a text begins with, and the text after it. `None` if a quote or a backslash is open
+/// at the end.
+pub(crate) fn split_word(text: &str) -> Option<(&str, &str)>
+    ensures { MatchOption result
+        ((word : List ℕ) (after : List ℕ) → ¬ (SplitsWord text.now word after))
+        (λ split. SplitsWord text.now split.0.now split.1.now) }
+{
+    let Some(after) = after_word(text.as_bytes()) else {
+        return None;
+    };
+    Some(text.split_at(text.len() - after.len()))
+}

@@ -1,0 +1,91 @@
+//! Lines and their words.
+use dns_line_words::split_words;
+use std::alloc::Global;
+use std::process::Abort;
+use std::test::Fail;
+
+/// Fails unless the line has these words.
+fn assert_splits(rt: &impl Abort, alloc: Global, line: &str, words: &[&str]) -> Result<(), Fail> {
+    let Ok(split) = split_words(alloc, line) else {
+        assert_eq!(rt; line, "a line of words");
+        return Ok(());
+    };
+    assert_eq!(rt; split.len(), words.len());
+    for (word, expected) in split.as_slice().iter().zip(words) {
+        assert_eq!(rt; *word, *expected);
+    }
+    Ok(())
+}
+
+/// The lines of RFC 1035 section 5.3, with the SOA record over several lines.
+#[test]
+fn start_of_authority(rt: HostRuntime) -> Result<(), Fail> {
+    let line = "@   IN  SOA     VENERA      Action\\.domains (\n\
+                                 20     ; SERIAL\n\
+                                 7200   ; REFRESH\n\
+                                 600    ; RETRY\n\
+                                 3600000; EXPIRE\n\
+                                 60)    ; MINIMUM\n";
+    let words = [
+        "@",
+        "IN",
+        "SOA",
+        "VENERA",
+        "Action\\.domains",
+        "20",
+        "7200",
+        "600",
+        "3600000",
+        "60",
+    ];
+    assert_splits(&rt, rt.alloc(), line, &words)
+}
+
+/// Lines, each with its words.
+const LINES: &[(&str, &[&str])] = &[
+    ("", &[]),
+    (" \t\r\n()", &[]),
+    ("; only a comment", &[]),
+    ("; a \"comment\nA", &["A"]),
+    ("TXT \"a b\" \"c;d\" ; e", &["TXT", "\"a b\"", "\"c;d\""]),
+    ("TXT \"a\\\"b (c\" \"\"", &["TXT", "\"a\\\"b (c\"", "\"\""]),
+    ("a\\ b\\;c\\(d\\\"e f", &["a\\ b\\;c\\(d\\\"e", "f"]),
+    (
+        "1 . alpn=\"h2,h3\" port=53",
+        &["1", ".", "alpn=\"h2,h3\"", "port=53"],
+    ),
+    ("a;b\r\nc(d)e", &["a", "c", "d", "e"]),
+    ("é \"ü ö\";ß", &["é", "\"ü ö\""]),
+];
+
+#[test]
+fn lines(rt: HostRuntime) -> Result<(), Fail> {
+    for (line, words) in LINES {
+        assert_splits(&rt, rt.alloc(), line, words)?;
+    }
+    Ok(())
+}
+
+/// Lines with a quote or a backslash that is open at the end.
+const OPEN: &[&str] = &[
+    "\"",
+    "TXT \"a b",
+    "a \"b\\\"",
+    "a \"b\n; c",
+    "\\",
+    "a b\\",
+    "\"a\\",
+    "a\"b\"\"",
+];
+
+#[test]
+fn open_quotes_and_backslashes(rt: HostRuntime) -> Result<(), Fail> {
+    for line in OPEN {
+        let Err(error) = split_words(rt.alloc(), line) else {
+            assert_eq!(&rt; *line, "an open quote or backslash");
+            return Ok(());
+        };
+        assert_eq!(&rt; format!(in rt.alloc(); "{error}")?.as_str(), "bad word");
+    }
+    Ok(())
+}
