@@ -1,5 +1,5 @@
 -- What is printed for an input, up to a flush, and odd numbers of digits.
-use Rattle.std.proofs.Common.{◌≡◌, ◌∙◌, ℕ, ◌<◌, ◌≤◌, ◌%◌, ◌-◌, ◌||◌, ◌&&◌, inl, inr, Bool, true, false, Option, Some, None, IfSome, Result, Ok, Err, OnOk, IfOk, List, [], ◌∷◌, ◌++◌, length, ap, refl, sym, subst, arith, eqb-true, nat_eq}
+use Rattle.std.proofs.Common.{◌≡◌, ◌∙◌, ℕ, ◌<◌, ◌%◌, ◌-◌, ◌||◌, ◌&&◌, inl, inr, Bool, true, false, Option, Some, None, IfSome, Result, Ok, Err, OnOk, IfOk, List, [], ◌∷◌, ◌++◌, length, ap, refl, sym, subst, arith, eqb-true, nat_eq}
 use Rattle.std.specs.Prelude.{is_some, if◌then◌else◌, not, cond}
 use Rattle.std.specs.Char.{is_ascii_hexdigit, is_ascii_whitespace}
 use Rattle.std.specs.Io.KnownBytes.{Appends, Keeps}
@@ -23,7 +23,7 @@ use Rattle.dns_view.specs.Viewing.IsViewed.{help, version, wrong, view}
 use Rattle.dns_view.specs.declared.request.Form.{Form}
 use Rattle.dns_view.specs.declared.request.Form.TheVariants.{Text, Page, Lines}
 use Rattle.dns_view.specs.declared.request.Request.{Request}
-use Rattle.dns_view.specs.declared.request.Request.TheVariants.{Help, Version, View, Wrong}
+use Rattle.dns_view.specs.declared.request.Request.TheVariants.{Help, Version, View}
 
 -- what was appended stays if nothing changes
 pub appends_kept : (a b c : Option (List ℕ)) (xs : List ℕ) → Appends a b xs → Keeps b c → Appends a c xs

@@ -103,6 +103,9 @@ const LEGEND: &str = "</h1>
 
 /// Prints rows of a message as one page of HTML, which needs no network and no script.
 ///
+/// Consecutive labels, or character strings, of at most one octet share a link of the grid and a
+/// line of the list, if they begin on one line of the grid.
+///
 /// Returns an error if `writer` or an allocation fails.
 pub fn print_page<W: Write>(
     alloc: Global,

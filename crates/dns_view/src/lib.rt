@@ -2,9 +2,9 @@
 //! those of `dns_rows`.
 //!
 //! Each row is printed once and in order, with its offset and all of its octets in digits. A page
-//! also has a cell for each octet at its offset, and an arrow from each pointer to its target. The
-//! program prints all rows of the message in its input. The words for what a row means are only
-//! tested.
+//! also has a cell for each octet at its offset, and an arrow from each pointer to its target;
+//! consecutive labels or character strings of at most one octet are one row there. The program
+//! prints all rows of the message in its input. The words for what a row means are only tested.
 #![tactic(auto)]
 
 mod codes;
