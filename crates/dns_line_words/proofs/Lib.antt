@@ -1,3 +1,4 @@
+mod DataWords
 mod FieldWords
 mod GatewayTexts
 mod Ipv6Texts

@@ -8,7 +8,9 @@ use Rattle.dns_fields.specs.FieldParts.{NamedPart}
 use Rattle.dns_fields.specs.Shapes.{shape_of}
 use Rattle.dns_fields.specs.declared.shape.Shape.{Shape}
 use Rattle.dns_fields.specs.declared.shape.Shape.TheVariants.{Octets, Counted, Sized, Name, UncompressedName, Rest}
-use Rattle.dns_fields_text.specs.FieldTexts.{fields_text}
+use Rattle.dns_fields.specs.declared.field_data.FieldData.{FieldData}
+use Rattle.dns_fields_text.specs.DataTexts.{data_fields, data_line}
+use Rattle.dns_fields_text.specs.FieldTexts.{fields_octets, fields_text}
 use Rattle.dns_line_words.specs.LineWords.{AreWordsOf}
 
 -- the part is one of a field of this shape
@@ -28,3 +30,7 @@ AreFields fields = All (λ field. IsPartOf (shape_of field.kind) field.part) fie
 -- the text of fields that have a presentation format has words
 abbrev pub FieldsSplit : Type 0
 FieldsSplit = (fields : List NamedPart) (text : List ℕ) → AreFields fields → fields_text [] fields ≡ Some text → (words : List (List ℕ)) × AreWordsOf text words
+
+-- the text of record data has words, whether it is that of its fields or that of an unknown type
+abbrev pub DataSplits : Type 0
+DataSplits = (fields : FieldData) → IsBytes (fields_octets (data_fields fields)) → (words : List (List ℕ)) × AreWordsOf (data_line fields) words

@@ -1,8 +1,10 @@
 //! Theorems on the words of lines. Each contract is a theorem.
-ghost use Rattle.dns_line_words.specs.FieldLaws.{FieldsSplit};
+ghost use Rattle.dns_line_words.specs.FieldLaws.{DataSplits, FieldsSplit};
 ghost use Rattle.dns_line_words.specs.Laws.{Base64IsWord, ClassesAreWords, EuiAreWords, HashesAreWords, HexIsWord, Ipv4IsWord, Ipv6IsWord, LocatorsAreWords, NamesAreWords, NumbersAreWords, PrefixesAreWords, SaltsAreWords, StringsAreWords, TagsAreWords, TimesAreWords, TypesAreWords, WordsAreUnique};
 ghost use Rattle.dns_line_words.specs.ListLaws.{GatewaysSplit, IdentitiesSplit, OpaqueSplits, ParametersSplit, PrefixesSplit, RecordsSplit, RelaysSplit, SizedSplit, StringsSplit, TypesSplit};
 ghost use Rattle.dns_line_words.specs.LocationLaws.{LocationsSplit};
+
+use dns_fields_text::laws::fields_are_all;
 
 /// A line has at most one list of words.
 pub fn words_are_unique()
@@ -44,7 +46,10 @@ pub fn printed_lists_split()
     ensures records { RecordsSplit }
 {}
 
-/// What is printed of fields is words.
+/// What is printed of fields, or of record data, is words.
 pub fn printed_fields_split()
-    ensures { FieldsSplit }
-{}
+    ensures fields { FieldsSplit }
+    ensures rdata { DataSplits }
+{
+    fields_are_all();
+}
