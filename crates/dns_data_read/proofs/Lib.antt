@@ -1,0 +1,4 @@
+mod AppendLemmas
+mod CountLemmas
+mod RdataLemmas
+mod StringLemmas

@@ -1,0 +1,6 @@
+pub mod Appended
+pub mod DataWords
+pub mod Extents
+pub mod FieldWords
+pub mod Rdata
+pub mod WordCounts
