@@ -3,4 +3,5 @@ pub mod DataWords
 pub mod Extents
 pub mod FieldWords
 pub mod Rdata
+pub mod RecordWords
 pub mod WordCounts
