@@ -1,0 +1,5 @@
+mod AppendLemmas
+mod CountLemmas
+mod RdataLemmas
+mod RecordLemmas
+mod StringLemmas

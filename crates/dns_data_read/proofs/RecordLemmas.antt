@@ -1,0 +1,49 @@
+-- Records from words.
+use Rattle.std.proofs.Common.{◌≡◌, ℕ, ◌-◌, ◌≤◌, ◌<◌, ◌^◌, List, [], ◌∷◌, length, get_or, take, drop, length-drop, subst, arith, inl, inr}
+use Rattle.std.proofs.lemmas.List.{take_all}
+use Rattle.std.specs.Prelude.{◌↔◌, ◌⊎◌}
+use Rattle.std.specs.Borrow.{Bor}
+use Rattle.std.specs.Net.Grammar.{IsNumber}
+use Rattle.dns_name.specs.Names.{Labels}
+use Rattle.dns_name.specs.NameTexts.{SpellsName}
+use Rattle.dns_number.specs.Classes.{SpellsClass}
+use Rattle.dns_fields_read.specs.TypeWords.{IsTypeWord}
+use Rattle.dns_value_text.specs.declared.text_error.TextError.{TextError}
+use Rattle.dns_value_text.specs.declared.text_error.TextError.TheVariants.{BadWord, OutOfMemory}
+use Rattle.dns_data_read.specs.DataWords.{IsNoData}
+use Rattle.dns_data_read.specs.FieldWords.{Words}
+use Rattle.dns_data_read.specs.RecordWords.{AreHeadWords, IsNoRecord}
+
+module _ (owner : Labels) (ttl class rtype : ℕ) (words : Words) where
+  -- the head by its four words
+  abbrev pub Head : List ℕ → List ℕ → List ℕ → List ℕ → Type 0
+  Head name seconds class_word type_word =
+      SpellsName name owner × (IsNumber 10 seconds ttl × (ttl < 2 ^ 32)) × SpellsClass class_word class × IsTypeWord type_word rtype
+
+  pub head_is : (x y z w : Bor (List ℕ)) → 4 ≤ length words
+      → AreHeadWords words owner ttl class rtype ↔ Head (get_or words 0 x).now (get_or words 1 y).now (get_or words 2 z).now (get_or words 3 w).now
+  head_is x y z w many = by_words words many where
+    by_words : (ws : Words) → 4 ≤ length ws → AreHeadWords ws owner ttl class rtype ↔ Head (get_or ws 0 x).now (get_or ws 1 y).now (get_or ws 2 z).now (get_or ws 3 w).now
+    by_words [] many = absurd (omega arith)
+    by_words (a ∷ []) many = absurd (omega arith)
+    by_words (a ∷ b ∷ []) many = absurd (omega arith)
+    by_words (a ∷ b ∷ c ∷ []) many = absurd (omega arith)
+    by_words (a ∷ b ∷ c ∷ d ∷ ws) many = (λ is. is, λ is. is)
+
+  -- one of the words
+  pub owner_is : (x : Bor (List ℕ)) → 4 ≤ length words → AreHeadWords words owner ttl class rtype → SpellsName (get_or words 0 x).now owner
+  owner_is x many are = ((head_is x x x x many).0 are).0
+
+  pub class_is : (x : Bor (List ℕ)) → 4 ≤ length words → AreHeadWords words owner ttl class rtype → SpellsClass (get_or words 2 x).now class
+  class_is x many are = ((head_is x x x x many).0 are).2
+
+  pub type_is : (x : Bor (List ℕ)) → 4 ≤ length words → AreHeadWords words owner ttl class rtype → IsTypeWord (get_or words 3 x).now rtype
+  type_is x many are = ((head_is x x x x many).0 are).3
+
+  -- no RDATA after the head
+  pub no_record : (error : TextError) → AreHeadWords words owner ttl class rtype
+      → (error ≡ OutOfMemory) ⊎ ((error ≡ BadWord) × IsNoData rtype (take (length words - 4) (drop 4 words))) → (error ≡ OutOfMemory) ⊎ ((error ≡ BadWord) × IsNoRecord words)
+  no_record error head (inl memory) = inl memory
+  no_record error head (inr bad) =
+      let all : take (length words - 4) (drop 4 words) ≡ drop 4 words = take_all _ (drop 4 words) (omega (arith, length-drop 4 words)) in
+      inr (bad.0, inr (owner, ttl, class, rtype, head, subst (IsNoData rtype) all bad.1))

@@ -1,0 +1,6 @@
+use Rattle.std.proofs.Common.{ℕ, List, refl, sym, subst, inr}
+use Rattle.dns_fields_read.specs.Addresses.{IsIpv6Word}
+use Rattle.dns_data_read.proofs.word.push_ipv6.Goals as goal
+
+pub returns-in-None : goal.returns-in-None
+returns-in-None c = inr (refl, λ octets is. c.in-None.ensures octets (subst (λ (text : List ℕ). IsIpv6Word text octets) (sym c.as_bytes.ensures.value) is))

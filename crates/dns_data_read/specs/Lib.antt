@@ -1,0 +1,7 @@
+pub mod Appended
+pub mod DataWords
+pub mod Extents
+pub mod FieldWords
+pub mod Rdata
+pub mod RecordWords
+pub mod WordCounts

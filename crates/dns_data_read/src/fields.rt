@@ -1,0 +1,46 @@
+//! The fields of record data, in order.
+ghost use Rattle.dns_data_read.specs.DataWords.{AreFields};
+ghost use Rattle.dns_fields.specs.Table.{kinds, kinds_of};
+ghost use Rattle.dns_fields_read.specs.Reading.{AppendsOctets};
+ghost use Rattle.dns_value_text.specs.Reading.{ReadsOctets};
+
+use crate::extent::word_count;
+use crate::field::push_field;
+use dns_fields::{Kind, fields_of};
+use dns_value_text::TextError;
+use std::alloc::Global;
+
+/// Appends the fields that the words represent.
+fn push_fields(
+    alloc: Global,
+    octets: &mut Vec<u8>,
+    fields: &[(&'static str, Kind)],
+    words: &[&str],
+) -> Result<(), TextError>
+    ensures { AppendsOctets (AreFields (kinds fields.now) words.now) octets.old.items
+        octets.new.items result }
+{
+    let [field, others @ ..] = fields else {
+        return if words.is_empty() {
+            Ok(())
+        } else {
+            Err(TextError::BadWord)
+        };
+    };
+    let (own, after) = words.split_at(word_count(field.1, words));
+    match push_field(alloc, octets, field.1, own) {
+        Ok(()) => push_fields(alloc, octets, others, after),
+        Err(error) => Err(error),
+    }
+}
+
+/// The octets of the fields of this type.
+pub(crate) fn read_fields(alloc: Global, rtype: u16, words: &[&str]) -> Result<Vec<u8>, TextError>
+    ensures { ReadsOctets (AreFields (kinds_of rtype) words.now) result }
+{
+    let mut octets = Vec::new(alloc);
+    match push_fields(alloc, &mut octets, fields_of(rtype), words) {
+        Ok(()) => Ok(octets),
+        Err(error) => Err(error),
+    }
+}

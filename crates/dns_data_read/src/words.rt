@@ -1,0 +1,98 @@
+//! Fields that are all words that are left (RFC 1035 section 5.1).
+ghost use Rattle.std.specs.Prelude.{◌≢◌, []};
+ghost use Rattle.dns_data_read.specs.FieldWords.{AreStrings, AreFieldWords};
+ghost use Rattle.dns_fields_read.specs.JoinedWords.{AreBase64, AreHex};
+ghost use Rattle.dns_fields_read.specs.LocationWords.{IsLocation};
+ghost use Rattle.dns_fields_read.specs.Reading.{AppendsOctets};
+
+use crate::append::{push_octets, push_read};
+use crate::word::push_string;
+use dns_fields::Kind;
+use dns_fields_read::{
+    read_base64_words, read_gateway, read_hex_words, read_host_identity, read_location,
+    read_parameters, read_prefixes, read_relay, read_small_type_map, read_type_map,
+};
+use dns_value_text::TextError;
+use std::alloc::Global;
+
+/// Appends character strings.
+fn push_strings(alloc: Global, octets: &mut Vec<u8>, words: &[&str]) -> Result<(), TextError>
+    ensures { AppendsOctets (AreStrings words.now) octets.old.items octets.new.items result }
+{
+    let [word, after @ ..] = words else {
+        return Ok(());
+    };
+    match push_string(alloc, octets, word) {
+        Ok(()) => push_strings(alloc, octets, after),
+        Err(error) => Err(error),
+    }
+}
+
+/// Appends character strings, one at least.
+fn push_some_strings(alloc: Global, octets: &mut Vec<u8>, words: &[&str]) -> Result<(), TextError>
+    ensures { AppendsOctets (λ all. (words.now ≢ []) × AreStrings words.now all)
+        octets.old.items octets.new.items result }
+{
+    if words.is_empty() {
+        return Err(TextError::BadWord);
+    }
+    push_strings(alloc, octets, words)
+}
+
+/// Appends the octets of hexadecimal digits, one word at least.
+fn push_hex(alloc: Global, octets: &mut Vec<u8>, words: &[&str]) -> Result<(), TextError>
+    ensures { AppendsOctets (λ all. (words.now ≢ []) × AreHex words.now all)
+        octets.old.items octets.new.items result }
+{
+    if words.is_empty() {
+        return Err(TextError::BadWord);
+    }
+    push_read(octets, read_hex_words(alloc, words))
+}
+
+/// Appends the octets of base64, one word at least.
+fn push_base64(alloc: Global, octets: &mut Vec<u8>, words: &[&str]) -> Result<(), TextError>
+    ensures { AppendsOctets (λ all. (words.now ≢ []) × AreBase64 words.now all)
+        octets.old.items octets.new.items result }
+{
+    if words.is_empty() {
+        return Err(TextError::BadWord);
+    }
+    push_read(octets, read_base64_words(alloc, words))
+}
+
+/// Appends a location.
+fn push_location(octets: &mut Vec<u8>, words: &[&str]) -> Result<(), TextError>
+    ensures { AppendsOctets (IsLocation words.now) octets.old.items octets.new.items result }
+{
+    match read_location(words) {
+        Some(location) => push_octets(octets, &location),
+        None => Err(TextError::BadWord),
+    }
+}
+
+/// Appends a field of this kind.
+pub(crate) fn push_words(
+    alloc: Global,
+    octets: &mut Vec<u8>,
+    kind: Kind,
+    words: &[&str],
+) -> Result<(), TextError>
+    ensures { AppendsOctets (AreFieldWords kind words.now) octets.old.items octets.new.items
+        result }
+{
+    match kind {
+        Kind::Strings => push_some_strings(alloc, octets, words),
+        Kind::Hexadecimal => push_hex(alloc, octets, words),
+        Kind::Base64 => push_base64(alloc, octets, words),
+        Kind::TypeBitMap => push_read(octets, read_type_map(alloc, words)),
+        Kind::SmallTypeBitMap => push_read(octets, read_small_type_map(alloc, words)),
+        Kind::ServiceParameters => push_read(octets, read_parameters(alloc, words)),
+        Kind::AddressPrefixes => push_read(octets, read_prefixes(alloc, words)),
+        Kind::Location => push_location(octets, words),
+        Kind::GatewayAndKey => push_read(octets, read_gateway(alloc, words)),
+        Kind::Relay => push_read(octets, read_relay(alloc, words)),
+        Kind::HostIdentity => push_read(octets, read_host_identity(alloc, words)),
+        _ => Err(TextError::BadWord),
+    }
+}

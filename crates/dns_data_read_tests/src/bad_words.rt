@@ -1,0 +1,108 @@
+//! Words that aren't record data of a type.
+use dns_code::Rtype;
+use dns_data_read::from_text;
+use dns_value_text::TextError;
+use std::alloc::Global;
+use std::test::Fail;
+
+/// A record type, and words that aren't its record data: a word is missing, left over or bad.
+const BAD: &[(u16, &[&str])] = &[
+    (1, &[]),
+    (1, &["192.0.2.1", "192.0.2.2"]),
+    (2, &["a..example."]),
+    (6, &["a.example.", "b.example.", "1", "2", "3", "4"]),
+    (15, &["65536", "mail.example."]),
+    (16, &[]),
+    (43, &["60485", "5", "1"]),
+    (48, &["256", "3", "5", "AQO"]),
+    (
+        50,
+        &[
+            "1",
+            "1",
+            "12",
+            "aabbccdd",
+            "2t7b4g4vsa5smi47k61mv5bv1a22bojr",
+            "NOSUCHTYPE",
+        ],
+    ),
+    (
+        250,
+        &["hmac.example.", "0", "300", "3", "AA==", "1", "0", "0"],
+    ),
+];
+
+/// The same of the form of unknown types (RFC 3597 section 5): another number of octets, a missing
+/// digit, octets of another type, a compression pointer, and a number alone.
+const BAD_OCTETS: &[(u16, &[&str])] = &[
+    (65280, &["\\#"]),
+    (65280, &["\\#", "3", "abcd"]),
+    (65280, &["\\#", "2", "abc"]),
+    (65280, &["\\#", "2"]),
+    (65280, &["abcd"]),
+    (1, &["\\#", "3", "c00002"]),
+    (1, &["\\#", "5", "c0000201", "00"]),
+    (2, &["\\#", "4", "0161c000"]),
+    (
+        6,
+        &[
+            "\\#",
+            "25",
+            "016100c00000000001000000020000000300000004000000",
+            "05",
+        ],
+    ),
+    (16, &["\\#", "0"]),
+];
+
+/// Why the words aren't record data of the type.
+fn error_of(alloc: Global, rtype: u16, words: &[&str]) -> Option<TextError> {
+    from_text(alloc, Rtype::from_int(rtype), words).err()
+}
+
+#[test]
+fn bad_words(rt: HostRuntime) {
+    for (rtype, words) in BAD {
+        let error = error_of(rt.alloc(), *rtype, words);
+        assert_eq!(rt; error, Some(TextError::BadWord), "{words:?}");
+    }
+}
+
+#[test]
+fn bad_octets(rt: HostRuntime) {
+    for (rtype, words) in BAD_OCTETS {
+        let error = error_of(rt.alloc(), *rtype, words);
+        assert_eq!(rt; error, Some(TextError::BadWord), "{words:?}");
+    }
+}
+
+/// A text of this many letters.
+fn letters(alloc: Global, count: usize) -> Result<String, Fail> {
+    let mut text = String::new(alloc);
+    for _ in 0..count {
+        text.push('a')?;
+    }
+    Ok(text)
+}
+
+/// A character string has at most 255 octets.
+#[test]
+fn long_strings(rt: HostRuntime) -> Result<(), Fail> {
+    let long = letters(rt.alloc(), 256)?;
+    let error = error_of(rt.alloc(), 16, &[long.as_str()]);
+    assert_eq!(rt; error, Some(TextError::BadWord));
+    let most = letters(rt.alloc(), 255)?;
+    assert_eq!(rt; error_of(rt.alloc(), 16, &[most.as_str()]), None);
+    Ok(())
+}
+
+/// Record data has at most 65,535 octets.
+#[test]
+fn long_data(rt: HostRuntime) -> Result<(), Fail> {
+    let long = letters(rt.alloc(), 65536)?;
+    let error = error_of(rt.alloc(), 256, &["1", "2", long.as_str()]);
+    assert_eq!(rt; error, Some(TextError::BadWord));
+    let most = letters(rt.alloc(), 65531)?;
+    assert_eq!(rt; error_of(rt.alloc(), 256, &["1", "2", most.as_str()]), None);
+    Ok(())
+}
