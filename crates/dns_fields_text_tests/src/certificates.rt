@@ -1,6 +1,6 @@
 //! Rows of certificates, fingerprints and keys. Each is an example of the RFC that it names, or has
 //! its form.
-use crate::row::{Row, prints};
+use crate::row::{Row, both_ways};
 use std::test::Fail;
 
 const CERT_TO_SMIMEA: &[Row] = &[
@@ -61,8 +61,8 @@ const CERT_TO_SMIMEA: &[Row] = &[
 ];
 
 #[test]
-fn prints_cert_to_smimea(rt: HostRuntime) -> Result<(), Fail> {
-    prints(&rt, rt.alloc(), CERT_TO_SMIMEA)
+fn cert_to_smimea(rt: HostRuntime) -> Result<(), Fail> {
+    both_ways(&rt, rt.alloc(), CERT_TO_SMIMEA)
 }
 
 const SSHFP_TO_OPENPGPKEY: &[Row] = &[
@@ -118,8 +118,8 @@ const SSHFP_TO_OPENPGPKEY: &[Row] = &[
 ];
 
 #[test]
-fn prints_sshfp_to_openpgpkey(rt: HostRuntime) -> Result<(), Fail> {
-    prints(&rt, rt.alloc(), SSHFP_TO_OPENPGPKEY)
+fn sshfp_to_openpgpkey(rt: HostRuntime) -> Result<(), Fail> {
+    both_ways(&rt, rt.alloc(), SSHFP_TO_OPENPGPKEY)
 }
 
 const IPSECKEY_TO_TKEY: &[Row] = &[
@@ -186,8 +186,8 @@ const IPSECKEY_TO_TKEY: &[Row] = &[
 ];
 
 #[test]
-fn prints_ipseckey_to_tkey(rt: HostRuntime) -> Result<(), Fail> {
-    prints(&rt, rt.alloc(), IPSECKEY_TO_TKEY)
+fn ipseckey_to_tkey(rt: HostRuntime) -> Result<(), Fail> {
+    both_ways(&rt, rt.alloc(), IPSECKEY_TO_TKEY)
 }
 
 const TSIG: &[Row] = &[
@@ -212,6 +212,6 @@ const TSIG: &[Row] = &[
 ];
 
 #[test]
-fn prints_tsig(rt: HostRuntime) -> Result<(), Fail> {
-    prints(&rt, rt.alloc(), TSIG)
+fn tsig(rt: HostRuntime) -> Result<(), Fail> {
+    both_ways(&rt, rt.alloc(), TSIG)
 }

@@ -1,4 +1,4 @@
--- Record types as a table, RDATA as named fields, and records as lines.
+-- Record types as a table, RDATA as named fields, and records as lines, printed and read.
 pub use Rattle.dns_fields.specs.Table.{Definition, definitions, kinds_in, kinds_of}
 unfoldable pub use Rattle.dns_fields.specs.Table.{definitions_of}
 pub use Rattle.dns_fields.specs.RecordTypes.{TypeDefinition}
@@ -24,3 +24,6 @@ pub use Rattle.dns_fields_text.specs.RecordLines.{record_text, record_line}
 pub use Rattle.dns_fields_text.specs.ZoneNames.{zone_name_text}
 unfoldable pub use Rattle.dns_fields_text.specs.TypeNames.{mnemonic}
 pub use Rattle.dns_fields_text.specs.TypeNames.{type_word}
+pub use Rattle.dns_line_words.specs.LineWords.{AreWordsOf, SplitsWords}
+pub use Rattle.dns_data_read.specs.DataWords.{IsDataText, IsNoData, ReadsData}
+pub use Rattle.dns_data_read.specs.RecordWords.{IsRecordText, IsNoRecord, ReadsRecord}

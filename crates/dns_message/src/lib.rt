@@ -218,12 +218,22 @@ pub mod data {
 ///     }
 /// }
 /// ```
+///
+/// RDATA from presentation format (RFC 1035 section 5.1), by the words of a line:
+///
+/// ```rust
+/// let words = split_words(alloc, text)?;
+/// let data = from_text(alloc, Rtype::from_int(*rtype), words.as_slice())?;
+/// ```
 pub mod fields {
+    pub use dns_data_read::{from_text, read_record};
     pub use dns_fields::{
         DataOf, Encoded, Field, FieldData, Fields, Kind, OPAQUE, OwnedFieldData, RecordFields,
         Shape, TABLE, Value, fields_of, laws,
     };
     pub use dns_fields_text::{DataText, RecordText, TypeName, ZoneName};
+    pub use dns_line_words::split_words;
+    pub use dns_value_text::TextError;
 }
 
 /// Serial numbers of zones, compared and added by RFC 1982.

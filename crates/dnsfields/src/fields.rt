@@ -57,7 +57,7 @@ fn print_value<W: Write>(alloc: Global, writer: &mut W, value: &Value<'_>) -> io
 }
 
 /// Prints octets as two lowercase hexadecimal digits each.
-fn print_digits<W: Write>(alloc: Global, writer: &mut W, octets: &[u8]) -> io::Result<()>
+pub(crate) fn print_digits<W: Write>(alloc: Global, writer: &mut W, octets: &[u8]) -> io::Result<()>
     ensures { OnOk result (Appends (W.contents writer.old) (W.contents writer.new)
         (encode_lower octets.now)) }
 {

@@ -6,13 +6,16 @@
 //! both as hexadecimal digits; what follows `#` is a comment. For RDATA the program prints the
 //! fields by name. For a message it prints the message written again from its fields, with
 //! compressed names, and for each answer the canonical form of its RDATA (RFC 4034 section 6.2) and
-//! its text.
+//! its text. Or a line has the word `text`, a record type and RDATA in presentation format, of which
+//! the program prints the octets.
 #![tactic(auto)]
 
 mod fields;
+mod reading;
 mod rewriting;
 
 use crate::fields::{print_canonical, print_fields};
+use crate::reading::print_read;
 use crate::rewriting::rewritten;
 use dns_read::Message;
 use std::alloc::Global;
@@ -23,14 +26,22 @@ fn main(rt: HostRuntime) -> io::Result<()> {
     let text = io::read_to_string(rt.alloc(), rt.stdin())?;
     let mut writer = BufWriter::new(rt.alloc(), rt.stdout())?;
     for line in text.lines() {
-        let (words, _) = line.split_once('#').unwrap_or((line, ""));
-        print_line(rt.alloc(), &mut writer, words.trim_ascii())?;
+        print_line(rt.alloc(), &mut writer, line)?;
     }
     writer.flush()
 }
 
 /// Prints what a line asks for.
 fn print_line<W: Write>(alloc: Global, writer: &mut W, line: &str) -> io::Result<()> {
+    if let Some(words) = line.strip_prefix("text ") {
+        return print_read(alloc, writer, words);
+    }
+    let (words, _) = line.split_once('#').unwrap_or((line, ""));
+    print_digits_of(alloc, writer, words.trim_ascii())
+}
+
+/// Prints what a line asks for, whose octets are hexadecimal digits.
+fn print_digits_of<W: Write>(alloc: Global, writer: &mut W, line: &str) -> io::Result<()> {
     if let Some(digits) = line.strip_prefix("message ") {
         return print_message(alloc, writer, digits);
     }
@@ -38,7 +49,7 @@ fn print_line<W: Write>(alloc: Global, writer: &mut W, line: &str) -> io::Result
         let (rtype, digits) = words.split_once(' ').unwrap_or((words, ""));
         return print_rdata(alloc, writer, rtype, digits);
     }
-    writeln!(writer, "neither rdata nor message")
+    writeln!(writer, "neither rdata, message nor text")
 }
 
 /// Prints the fields of RDATA of this type.
