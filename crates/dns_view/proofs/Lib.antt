@@ -1,4 +1,6 @@
 mod Appended
+mod JoinedOctets
+mod PageIds
 mod PageTexts
 mod TextLines
 mod Viewed

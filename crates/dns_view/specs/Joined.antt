@@ -1,5 +1,5 @@
 -- Which rows share a line of a page's list, and a link of its grid.
-use Rattle.std.specs.Prelude.{ℕ, ◌-◌, ◌/◌, ◌==◌, ◌&&◌, Bool, true, false, nat_le, if◌then◌else◌, List, [], ◌∷◌}
+use Rattle.std.specs.Prelude.{ℕ, ◌+◌, ◌/◌, ◌==◌, ◌&&◌, Bool, true, false, nat_le, if◌then◌else◌, List, [], ◌∷◌}
 use Rattle.dns_rows.specs.declared.row.Row.{Row}
 use Rattle.dns_rows.specs.declared.row.Kind.{Kind}
 use Rattle.dns_rows.specs.declared.row.Kind.TheVariants as kinds
@@ -13,11 +13,11 @@ are_alike _ _ = false
 
 -- whether a row has at most two octets: a length and at most one octet of a label or character string
 abbrev pub is_tiny : Row → Bool
-is_tiny row = nat_le (row.end - row.start) 2
+is_tiny row = nat_le row.start row.end && nat_le row.end (row.start + 2)
 
--- whether a row shares the line of the row before it: both are tiny labels or character strings, and begin on the same line of the grid
+-- whether a row shares the line of the row before it: both are tiny labels or character strings, it begins where the one before ends, and both begin on the same line of the grid
 abbrev pub shares_line : Row → Row → Bool
-shares_line before row = are_alike before.kind row.kind && is_tiny before && is_tiny row && before.start / 16 == row.start / 16
+shares_line before row = are_alike before.kind row.kind && is_tiny before && is_tiny row && before.end == row.start && before.start / 16 == row.start / 16
 
 -- a row and the rows after it, where those that share a line are one row; the first line begins at `start`
 abbrev pub joined_from : ℕ → Row → List Row → List Row

@@ -1,5 +1,6 @@
 pub mod Digits
 pub mod Joined
+pub mod Links
 pub mod Pages
 pub mod Printed
 pub mod Requests

@@ -61,6 +61,10 @@ letter_of _ = codes "f"
 abbrev pub cell_id : Row → List ℕ
 cell_id row = letter_of row.kind ++ hexadecimal row.start
 
+-- the `id` of a row in the list: its offset
+abbrev pub row_id : Row → List ℕ
+row_id row = decimal row.start
+
 -- the attribute of a pointer: its offset, and the offset where it leads
 abbrev pub arrow_text : ℕ → ℕ → List ℕ
 arrow_text from target = codes " style=--p:" ++ decimal from ++ codes "," ++ decimal target
@@ -78,7 +82,7 @@ line_start offset =
 
 -- the other attributes of a link to a row, and the end of its tag
 abbrev pub link_text : List ℕ → Row → List ℕ
-link_text message row = codes " href=#" ++ decimal row.start ++ mark_text message row ++ codes ">"
+link_text message row = codes " href=#" ++ row_id row ++ mark_text message row ++ codes ">"
 
 -- what precedes the first octet of a row: the start of the row's link
 abbrev pub first_link : List ℕ → Row → List ℕ
@@ -112,9 +116,9 @@ digits octets = flat_map octet_text octets
 abbrev pub heading_row_text : Row → List ℕ → List ℕ
 heading_row_text row words = (if is_item row.kind then codes "<b>" else codes "<b class=f>") ++ escaped words ++ codes "</b>"
 
--- the start of a row's link to its cells, with its offset
+-- the start of a row's link to its cells, with its own `id`
 abbrev pub field_link_text : Row → List ℕ
-field_link_text row = codes "<a id=" ++ decimal row.start ++ codes " href=#" ++ cell_id row ++ codes ">"
+field_link_text row = codes "<a id=" ++ row_id row ++ codes " href=#" ++ cell_id row ++ codes ">"
 
 -- any other row of the list: the link, with its octets and words
 abbrev pub field_row_text : List ℕ → Row → List ℕ → List ℕ

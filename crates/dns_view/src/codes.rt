@@ -33,13 +33,15 @@ impl fmt::Display for OpcodeName {
         match self.0 {
             Opcode::QUERY => f.write_str("QUERY"),
             Opcode::NOTIFY => f.write_str("NOTIFY"),
-            other => {
-                let number = other.to_int();
-                let words = opcode_words(number);
-                write!(f, "OPCODE{number}{words}")
-            }
+            other => write_opcode(f, other.to_int()),
         }
     }
+}
+
+/// Prints an opcode that has no name in the library.
+fn write_opcode<W: fmt::Write>(f: &mut fmt::Formatter<W>, number: u8) -> fmt::Result {
+    let words = opcode_words(number);
+    write!(f, "OPCODE{number}{words}")
 }
 
 /// Words for RCODEs of RFCs that have no name in the library (RFC 1035 section 4.1.1, RFC 2136

@@ -7,7 +7,7 @@ ghost use Rattle.dns_view.specs.Joined.{joined};
 ghost use Rattle.dns_view.specs.Pages.{arrow_text, cell_id, cell_start, cell_text, digits, escaped, escaped_octet, field_letter, field_link_text, field_row_text, first_link, heading_row_text, letter_of, line_start, link_text, mark_text, next_link, octet_cells, opening_text, part_start, pointer_count, row_cells, row_text, top_text, IsListRow, IsPage};
 ghost use Rattle.dns_view.specs.Printed.{Prints, PrintsEach};
 
-use crate::joined::joined;
+use crate::joined::{OCTETS, joined};
 use crate::meaning::Meaning;
 use crate::summary::Summary;
 use crate::text::print_octet;
@@ -15,9 +15,6 @@ use dns_rows::{Field, Kind, Row, octets_of, target_of};
 use std::alloc::Global;
 use std::io;
 use std::io::Write;
-
-/// The octets on a line of the grid.
-const OCTETS: usize = 16;
 
 /// The octets in a part of the grid. A browser lays out only the parts that it shows.
 const PART: usize = 256;

@@ -6,7 +6,7 @@ use dns_rows::{Field, Kind, Row};
 use std::alloc::{AllocError, Global};
 
 /// The octets on a line of the grid.
-const OCTETS: usize = 16;
+pub(crate) const OCTETS: usize = 16;
 
 /// The maximum size of a row that shares its line, in octets.
 const TINY: usize = 2;
@@ -40,6 +40,7 @@ fn shares_line(before: &Row, row: &Row) -> bool
     are_alike(before.kind, row.kind)
         && is_tiny(before)
         && is_tiny(row)
+        && before.end == row.start
         && before.start / OCTETS == row.start / OCTETS
 }
 
@@ -57,5 +58,5 @@ fn are_alike(before: Kind, kind: Kind) -> bool
 fn is_tiny(row: &Row) -> bool
     ensures { result ≡ is_tiny row.now }
 {
-    row.end.saturating_sub(row.start) <= TINY
+    row.start <= row.end && row.end - row.start <= TINY
 }

@@ -156,21 +156,32 @@ impl fmt::Display for FaultWords<'_> {
         };
         let target = target_of(octets);
         match self.fault {
-            Fault::Short(field) => {
-                let word = field_words(field);
-                write!(f, "the octets end before the {word} does")
-            }
+            Fault::Short(field) => write_short(f, field),
             Fault::Label => f.write_str("no label begins with the high bits 01 or 10"),
             Fault::LongName => f.write_str("with this label the name has more than 255 octets"),
-            Fault::Pointer => write!(f, "pointer to {target}, which doesn't lead back"),
-            Fault::After => write!(f, "pointer to {target}, where no name can be read"),
-            Fault::LongPointer => write!(
-                f,
-                "pointer to {target}, with which the name has more than 255 octets"
-            ),
+            Fault::Pointer => write_target(f, target, "which doesn't lead back"),
+            Fault::After => write_target(f, target, "where no name can be read"),
+            Fault::LongPointer => {
+                write_target(f, target, "with which the name has more than 255 octets")
+            }
             Fault::Trailing => f.write_str("octets are left behind the value of the data"),
         }
     }
+}
+
+/// Says that a field is incomplete.
+fn write_short<W: fmt::Write>(f: &mut fmt::Formatter<W>, field: Field) -> fmt::Result {
+    let word = field_words(field);
+    write!(f, "the octets end before the {word} does")
+}
+
+/// Prints where a pointer leads, and what is wrong with that.
+fn write_target<W: fmt::Write>(
+    f: &mut fmt::Formatter<W>,
+    target: usize,
+    words: &str,
+) -> fmt::Result {
+    write!(f, "pointer to {target}, {words}")
 }
 
 /// The words for a field that may be incomplete.
@@ -313,6 +324,17 @@ fn write_option<W: fmt::Write>(
     }
 }
 
+/// The words for a field of which only they and its number are printed.
+fn number_word(field: Field) -> Option<&'static str> {
+    match field {
+        Field::Id => Some("identifier"),
+        Field::RdLength => Some("data length"),
+        Field::PayloadSize => Some("UDP payload size"),
+        Field::Version => Some("EDNS version"),
+        _ => None,
+    }
+}
+
 /// Prints a field that is a number, or the length of RDATA that isn't shown in words.
 fn write_number<W: fmt::Write>(
     f: &mut fmt::Formatter<W>,
@@ -320,8 +342,10 @@ fn write_number<W: fmt::Write>(
     octets: &[u8],
 ) -> fmt::Result {
     let number = number_of(octets);
+    if let Some(word) = number_word(field) {
+        return write!(f, "{word} {number}");
+    }
     match field {
-        Field::Id => write!(f, "identifier {number}"),
         Field::Count(part) => {
             let word = word_of(part);
             write!(f, "{word} count {number}")
@@ -338,9 +362,6 @@ fn write_number<W: fmt::Write>(
             let seconds = second_count(number);
             write!(f, "TTL {seconds}")
         }
-        Field::RdLength => write!(f, "data length {number}"),
-        Field::PayloadSize => write!(f, "UDP payload size {number}"),
-        Field::Version => write!(f, "EDNS version {number}"),
         Field::OptFlags => write_opt_flags(f, number),
         _ => {
             let count = octet_count(octets.len());

@@ -19,37 +19,72 @@ impl fmt::Display for OptionData<'_> {
     fn fmt<W: fmt::Write>(&self, f: &mut fmt::Formatter<W>) -> fmt::Result {
         let name = OptionName(self.code);
         write!(f, "{name}: ")?;
-        match (self.code, self.octets) {
-            (3, octets) => {
-                let text = Quoted(octets);
-                write!(f, "{text}")
-            }
-            (5..=7, octets) => write_algorithms(f, octets),
-            (8, [0, family, source, scope, prefix @ ..]) => {
-                write_subnet(f, *family, *source, *scope, prefix)
-            }
-            (9, [a, b, c, d]) => {
-                let seconds = second_count(u32::from_be_bytes([*a, *b, *c, *d]));
-                write!(f, "{seconds}")
-            }
-            (10, octets) => write_cookie(f, octets),
-            (11, [high, low]) => {
-                let timeout = u16::from_be_bytes([*high, *low]);
-                write!(f, "{timeout} tenths of a second")
-            }
-            (13, octets) => write_trust_point(f, octets),
-            (14, octets) => write_key_tags(f, octets),
-            (15, [high, low, text @ ..]) => {
-                let code = u16::from_be_bytes([*high, *low]);
-                let text = Quoted(text);
-                write!(f, "code {code}, {text}")
-            }
-            (_, octets) => {
-                let count = octet_count(octets.len());
-                write!(f, "{count}")
-            }
-        }
+        write_data(f, self.code, self.octets)
     }
+}
+
+/// Prints the data of an option by its code.
+fn write_data<W: fmt::Write>(f: &mut fmt::Formatter<W>, code: u16, octets: &[u8]) -> fmt::Result {
+    match code {
+        3 => write_text(f, octets),
+        5..=7 => write_algorithms(f, octets),
+        8 => write_client(f, octets),
+        9 => write_expiry(f, octets),
+        10 => write_cookie(f, octets),
+        11 => write_timeout(f, octets),
+        13 => write_trust_point(f, octets),
+        14 => write_key_tags(f, octets),
+        15 => write_error(f, octets),
+        _ => write_count(f, octets),
+    }
+}
+
+/// Prints the number of octets of an option with no other words for them.
+fn write_count<W: fmt::Write>(f: &mut fmt::Formatter<W>, octets: &[u8]) -> fmt::Result {
+    let count = octet_count(octets.len());
+    write!(f, "{count}")
+}
+
+/// Prints octets in quotation marks.
+fn write_text<W: fmt::Write>(f: &mut fmt::Formatter<W>, octets: &[u8]) -> fmt::Result {
+    let text = Quoted(octets);
+    write!(f, "{text}")
+}
+
+/// Prints a client subnet, or the number of octets if they aren't one or its family exceeds 255.
+fn write_client<W: fmt::Write>(f: &mut fmt::Formatter<W>, octets: &[u8]) -> fmt::Result {
+    if let [0, family, source, scope, prefix @ ..] = octets {
+        return write_subnet(f, *family, *source, *scope, prefix);
+    }
+    write_count(f, octets)
+}
+
+/// Prints when a zone expires (RFC 7314).
+fn write_expiry<W: fmt::Write>(f: &mut fmt::Formatter<W>, octets: &[u8]) -> fmt::Result {
+    let [a, b, c, d] = octets else {
+        return write_count(f, octets);
+    };
+    let seconds = second_count(u32::from_be_bytes([*a, *b, *c, *d]));
+    write!(f, "{seconds}")
+}
+
+/// Prints how long a connection may be idle (RFC 7828 section 3.1).
+fn write_timeout<W: fmt::Write>(f: &mut fmt::Formatter<W>, octets: &[u8]) -> fmt::Result {
+    let [high, low] = octets else {
+        return write_count(f, octets);
+    };
+    let timeout = u16::from_be_bytes([*high, *low]);
+    write!(f, "{timeout} tenths of a second")
+}
+
+/// Prints an extended error: its code and its text (RFC 8914 section 2).
+fn write_error<W: fmt::Write>(f: &mut fmt::Formatter<W>, octets: &[u8]) -> fmt::Result {
+    let [high, low, text @ ..] = octets else {
+        return write_count(f, octets);
+    };
+    let code = u16::from_be_bytes([*high, *low]);
+    let text = Quoted(text);
+    write!(f, "code {code}, {text}")
 }
 
 /// Prints algorithm numbers, of one octet each (RFC 6975 section 3).

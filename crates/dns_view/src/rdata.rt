@@ -79,22 +79,15 @@ impl RdataField<'_> {
     fn write_number<W: fmt::Write>(&self, f: &mut fmt::Formatter<W>) -> fmt::Result {
         let number = number_of(self.octets);
         match (self.kind, self.octets) {
-            (Kind::Number8 | Kind::Number16 | Kind::Number32, _) => write!(f, " {number}"),
+            (Kind::Number8 | Kind::Number16 | Kind::Number32, _) => write_value(f, &number),
             (Kind::Number48, [a, b, c, d, e, g]) => {
-                let number = u64::from_be_bytes([0, 0, *a, *b, *c, *d, *e, *g]);
-                write!(f, " {number}")
+                write_value(f, &u64::from_be_bytes([0, 0, *a, *b, *c, *d, *e, *g]))
             }
-            (Kind::Seconds, _) => {
-                let seconds = second_count(number);
-                write!(f, " {seconds}")
-            }
-            (Kind::Time, _) => {
-                let time = Timestamp(number);
-                write!(f, " {time}")
-            }
+            (Kind::Seconds, _) => write_value(f, &second_count(number)),
+            (Kind::Time, _) => write_value(f, &Timestamp(number)),
             (Kind::RecordType, [high, low]) => {
-                let rtype = TypeName(Rtype::from_int(u16::from_be_bytes([*high, *low])));
-                write!(f, " {rtype}")
+                let rtype = Rtype::from_int(u16::from_be_bytes([*high, *low]));
+                write_value(f, &TypeName(rtype))
             }
             _ => self.write_address(f),
         }
@@ -107,19 +100,13 @@ impl RdataField<'_> {
                 f.write_str(" ")?;
                 write_address(f, self.octets)
             }
-            Kind::Eui48 | Kind::Eui64 => {
-                let address = Eui(self.octets);
-                write!(f, " {address}")
-            }
+            Kind::Eui48 | Kind::Eui64 => write_value(f, &Eui(self.octets)),
             Kind::Locator64 => match <[u8; 8]>::try_from(self.octets) {
-                Ok(octets) => {
-                    let locator = Locator64(octets);
-                    write!(f, " {locator}")
-                }
+                Ok(octets) => write_value(f, &Locator64(octets)),
                 Err(_) => self.write_count(f),
             },
             Kind::Location => match Location::from_octets(self.octets) {
-                Some(location) => write!(f, " {location}"),
+                Some(location) => write_value(f, &location),
                 None => self.write_count(f),
             },
             _ => self.write_count(f),
@@ -167,6 +154,14 @@ impl RdataField<'_> {
         }
         write!(f, ", {count}")
     }
+}
+
+/// Prints a value after a space.
+fn write_value<W: fmt::Write, D: fmt::Display>(
+    f: &mut fmt::Formatter<W>,
+    value: &D,
+) -> fmt::Result {
+    write!(f, " {value}")
 }
 
 /// Prints how many octets follow their length, and the octets. Digits are left out if there are no

@@ -1,0 +1,9 @@
+use Rattle.dns_view.proofs.JoinedOctets.{joined_octets}
+use Rattle.dns_view.proofs.PageIds.{joined_tiles}
+use Rattle.dns_view.proofs.laws.joined_rows_are_all.Goals as goal
+
+pub returns-clause-octets : goal.returns-clause-octets
+returns-clause-octets c = joined_octets
+
+pub returns-clause-tiles : goal.returns-clause-tiles
+returns-clause-tiles c = joined_tiles

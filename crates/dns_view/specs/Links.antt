@@ -1,0 +1,31 @@
+-- The `id`s of a page, where its links lead (`link_text` and `field_link_text` of Pages.antt), and the rows that share a line.
+use Rattle.std.specs.Prelude.{◌≡◌, ◌≢◌, ℕ, ◌^◌, ◌<◌, ◌≤◌, ◌==◌, not, Bool, List, ◌++◌, length, map, filter, flat_map, All, AllPairs}
+use Rattle.dns_rows.specs.Rows.{row_octets}
+use Rattle.dns_rows.specs.Tiles.{Tiles}
+use Rattle.dns_rows.specs.declared.row.Row.{Row}
+use Rattle.dns_view.specs.Joined.{joined}
+use Rattle.dns_view.specs.Pages.{cell_id, row_id}
+
+-- whether a row has octets in a message
+abbrev pub has_octets : List ℕ → Row → Bool
+has_octets message row = not (length (row_octets message row) == 0)
+
+-- the rows of a page that have octets: each has cells and a link of the list
+abbrev pub linked_rows : List ℕ → List Row → List Row
+linked_rows message rows = filter (has_octets message) (joined rows)
+
+-- the `id`s of a page: those of the rows' cells, and those of the rows in the list
+abbrev pub page_ids : List ℕ → List Row → List (List ℕ)
+page_ids message rows = map cell_id (linked_rows message rows) ++ map row_id (linked_rows message rows)
+
+-- if rows cover the octets of a message, no two `id`s of their page are equal, so each link leads to one element
+abbrev pub IdsAreUnique : Type 0
+IdsAreUnique = (message : List ℕ) (rows : List Row) → length message < 2 ^ 64 → Tiles rows 0 (length message) → AllPairs (λ one other. one ≢ other) (page_ids message rows)
+
+-- rows within a message have the same octets if those that share a line are one row
+abbrev pub JoinedRowsKeepOctets : Type 0
+JoinedRowsKeepOctets = (message : List ℕ) (rows : List Row) → All (λ row. row.end ≤ length message) rows → flat_map (row_octets message) (joined rows) ≡ flat_map (row_octets message) rows
+
+-- consecutive rows are consecutive also if those that share a line are one row
+abbrev pub JoinedRowsTile : Type 0
+JoinedRowsTile = (rows : List Row) (start end : ℕ) → Tiles rows start end → Tiles (joined rows) start end
