@@ -226,18 +226,30 @@ fn compressed<Q: ComposeQuestion, R: ComposeRecord>(
     }
 }
 
+type AddressCall = Call<(Name<[u8; 13]>, Rtype), (Name<[u8; 13]>, u32, A)>;
+
+/// The calls that push a question for the addresses of a name, and an answer.
+fn address_calls(alloc: Global, name: Name<[u8; 13]>) -> Result<Vec<AddressCall>, AllocError> {
+    let mut calls = Vec::new(alloc);
+    calls.push(Call::ToQuestion)?;
+    calls.push(Call::PushQuestion((name, Rtype::A)))?;
+    calls.push(Call::ToAnswer)?;
+    calls.push(Call::PushRecord((name, 3600, A::from_octets(203, 0, 113, 1))))?;
+    Ok(calls)
+}
+
+/// The number of octets after the calls that push a question and an answer.
+fn len_of_answer(alloc: Global, name: Name<[u8; 13]>) -> Result<usize, Fail> {
+    let calls = address_calls(alloc, name)?;
+    let stage = compressed(alloc, &calls).ok_or("memory")?;
+    Ok(stage.as_slice().len())
+}
+
 #[test]
 fn spells_a_name_once(rt: HostRuntime) -> Result<(), Fail> {
     let name = Name::from_octets(*b"\x07example\x03com\x00")?;
-    let calls = [
-        Call::ToQuestion,
-        Call::PushQuestion((name, Rtype::A)),
-        Call::ToAnswer,
-        Call::PushRecord((name, 3600, A::from_octets(203, 0, 113, 1))),
-    ];
-    let stage = compressed(rt.alloc(), &calls).ok_or("memory")?;
     let len = 12 + 13 + 4 + 2 + 10 + 4;
-    assert_holds(&rt, "one pointer", stage.as_slice().len() == len);
+    assert_holds(&rt, "one pointer", len_of_answer(rt.alloc(), name)? == len);
     Ok(())
 }
 

@@ -5,6 +5,7 @@ use crate::runs::{Run, prints, status_of};
 use std::alloc::Global;
 use std::io;
 use std::io::{ErrorKind, Read, Write};
+use std::process::Abort;
 use std::test::Fail;
 
 const BUILD: Run<'_> = Run {
@@ -90,23 +91,40 @@ impl Write for Gap {
     }
 }
 
+/// Whether the run prints what it has to if its input is read octet by octet.
+fn is_read(alloc: Global, case: Run<'_>) -> Result<bool, Fail> {
+    let (octets, fails) = (case.input, false);
+    let printed = case.printed.as_bytes();
+    prints(
+        alloc,
+        case.words,
+        Cut { octets, fails },
+        printed,
+        case.status,
+    )
+}
+
+/// Whether the run fails if reading fails after these octets.
+fn fails_after(alloc: Global, case: Run<'_>, octets: &[u8]) -> Result<bool, Fail> {
+    let fails = true;
+    prints(alloc, case.words, Cut { octets, fails }, b"failed\n", 3)
+}
+
+/// Fails unless the run fails wherever reading fails.
+fn assert_cut_input(rt: &impl Abort, alloc: Global, case: Run<'_>) -> Result<(), Fail> {
+    assert_holds(rt, case.name, is_read(alloc, case)?);
+    for len in 0..=case.input.len() {
+        let is_cut = fails_after(alloc, case, &case.input[..len])?;
+        assert!(rt; is_cut, "{}: cut after {len} octets", case.name);
+    }
+    Ok(())
+}
+
 /// The input is read octet by octet. Reading may fail after each of them.
 #[test]
 fn fails_where_input_is_cut(rt: HostRuntime) -> Result<(), Fail> {
-    for case in [BUILD, SHOW] {
-        let (octets, fails) = (case.input, false);
-        let whole = Cut { octets, fails };
-        let printed = case.printed.as_bytes();
-        let is_whole = prints(rt.alloc(), case.words, whole, printed, case.status)?;
-        assert_holds(&rt, case.name, is_whole);
-        for len in 0..=case.input.len() {
-            let (octets, fails) = (&case.input[..len], true);
-            let cut = Cut { octets, fails };
-            let is_cut = prints(rt.alloc(), case.words, cut, b"failed\n", 3)?;
-            assert!(rt; is_cut, "{}: cut after {len} octets", case.name);
-        }
-    }
-    Ok(())
+    assert_cut_input(&rt, rt.alloc(), BUILD)?;
+    assert_cut_input(&rt, rt.alloc(), SHOW)
 }
 
 /// Whether the writer gets what is printed before the steps that fail, followed by `after`, and
@@ -131,20 +149,30 @@ fn is_cut(
     Ok(writer.taken.strip_suffix(after) == Some(before) && ended == status)
 }
 
+/// Whether the run is cut at a step: if it alone fails, and if all steps from it on fail.
+fn is_cut_at(alloc: Global, case: Run<'_>, step: usize) -> Result<bool, Fail> {
+    let one = (step, step.saturating_add(1));
+    let is_cut_once = is_cut(alloc, case, one, b"failed\n", 3)?;
+    Ok(is_cut_once && is_cut(alloc, case, (step, usize::MAX), b"", 3)?)
+}
+
+/// Fails unless the run is cut at each step, and written whole if no step fails.
+fn assert_cut_output(rt: &impl Abort, alloc: Global, case: Run<'_>) -> Result<(), Fail> {
+    let whole = (usize::MAX, usize::MAX);
+    assert_holds(rt, case.name, is_cut(alloc, case, whole, b"", case.status)?);
+    for step in 0..=case.printed.len() {
+        let is_cut = is_cut_at(alloc, case, step)?;
+        assert!(rt; is_cut, "{}: from step {step}", case.name);
+    }
+    Ok(())
+}
+
 /// One step fails, the write of an octet or the last flush; and then all steps from it on. The
 /// program prints `failed` if it can.
 #[test]
 fn fails_where_output_is_not_written(rt: HostRuntime) -> Result<(), Fail> {
-    for case in [BUILD, BAD_LINE, SHOW, USAGE] {
-        let whole = (usize::MAX, usize::MAX);
-        let is_whole = is_cut(rt.alloc(), case, whole, b"", case.status)?;
-        assert_holds(&rt, case.name, is_whole);
-        for step in 0..=case.printed.len() {
-            let one = (step, step.saturating_add(1));
-            let is_cut = is_cut(rt.alloc(), case, one, b"failed\n", 3)?
-                && is_cut(rt.alloc(), case, (step, usize::MAX), b"", 3)?;
-            assert!(rt; is_cut, "{}: from step {step}", case.name);
-        }
-    }
-    Ok(())
+    assert_cut_output(&rt, rt.alloc(), BUILD)?;
+    assert_cut_output(&rt, rt.alloc(), BAD_LINE)?;
+    assert_cut_output(&rt, rt.alloc(), SHOW)?;
+    assert_cut_output(&rt, rt.alloc(), USAGE)
 }

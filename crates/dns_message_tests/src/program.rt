@@ -1,6 +1,8 @@
 //! Whole runs of the program `dnsmsg`: what it prints, and its exit status.
 use crate::asserts::assert_holds;
 use crate::runs::{Run, prints};
+use std::alloc::Global;
+use std::process::Abort;
 use std::test::Fail;
 
 const RUNS: &[Run<'_>] = &[
@@ -375,12 +377,17 @@ const COMPRESSED: &str =
 
 const ROOT_QUESTION: &str = "ok 12\nok 17\n0000000000010000000000000000010001\n";
 
-#[test]
-fn prints_runs(rt: HostRuntime) -> Result<(), Fail> {
-    for case in RUNS {
+/// Fails unless each of the runs prints what it has to, with its exit status.
+fn assert_runs(rt: &impl Abort, alloc: Global, runs: &[Run<'_>]) -> Result<(), Fail> {
+    for case in runs {
         let printed = case.printed.as_bytes();
-        let is_printed = prints(rt.alloc(), case.words, case.input, printed, case.status)?;
-        assert_holds(&rt, case.name, is_printed);
+        let is_printed = prints(alloc, case.words, case.input, printed, case.status)?;
+        assert_holds(rt, case.name, is_printed);
     }
     Ok(())
+}
+
+#[test]
+fn prints_runs(rt: HostRuntime) -> Result<(), Fail> {
+    assert_runs(&rt, rt.alloc(), RUNS)
 }

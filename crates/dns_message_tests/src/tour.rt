@@ -14,6 +14,7 @@ ghost use Rattle.dns_message.specs.Builders.{IsMessageOf};
 ghost use Rattle.dns_message_tests.specs.Callers.{AreAnswers};
 ghost use Rattle.dns_message_tests.specs.Tour.{HasQuestions, a_layout, address_parts, response_with};
 
+use crate::asserts::assert_octets;
 use arrayvec::ArrayVec;
 use dns_message::builder::{MessageBuilder, PushError};
 use dns_message::code::{Class, Rcode, Rtype};
@@ -150,7 +151,8 @@ fn address_line(alloc: Global, owner: Name<Vec<u8>>, address: A) -> Result<Strin
 fn prints_a_record(rt: HostRuntime) -> Result<(), Fail> {
     let owner = Name::vec_from_str(rt.alloc(), "example.com")?;
     let line = address_line(rt.alloc(), owner, A::from_octets(192, 0, 2, 1))?;
-    assert_eq!(rt; line.as_str(), "example.com. 3600 IN A 192.0.2.1");
+    let expected = b"example.com. 3600 IN A 192.0.2.1";
+    assert_octets(&rt, "the line", line.as_bytes(), expected);
     Ok(())
 }
 

@@ -23,6 +23,7 @@ use dns_message::record::{ComposeRecord, Record, Ttl};
 use dns_message::target::{Composer, TreeCompressor};
 use dns_message::wire::{FlattenInto, Octets};
 use std::alloc::Global;
+use std::process::Abort;
 use std::test::Fail;
 
 /// The only answer whose type `D` accepts.
@@ -107,20 +108,22 @@ fn address_reported(alloc: Global, owner: Name<Vec<u8>>, address: A) -> Result<A
     Ok(found.into_data())
 }
 
+/// Fails unless an NS record and the address of its server are read back.
+fn assert_reported(rt: &impl Abort, alloc: Global, address: A) -> Result<(), Fail> {
+    let zone = Name::vec_from_str(alloc, "example.com.")?;
+    let server = Name::vec_from_str(alloc, "ns.example.com.")?;
+    let (name, glue) = reported(alloc, zone, server, address)?;
+    let expected = b"\x02ns\x07example\x03com\x00";
+    assert_octets(rt, "the server", name.as_slice(), expected);
+    assert_octets(rt, "its address", &glue.octets(), &[192, 0, 2, 1]);
+    Ok(())
+}
+
 #[test]
 fn reads_back_by_types(rt: HostRuntime) -> Result<(), Fail> {
     let alloc = rt.alloc();
-    let zone = Name::vec_from_str(alloc, "example.com.")?;
-    let server = Name::vec_from_str(alloc, "ns.example.com.")?;
     let address = A::from_octets(192, 0, 2, 1);
-    let (name, glue) = reported(alloc, zone, server, address)?;
-    assert_octets(
-        &rt,
-        "the server",
-        name.as_slice(),
-        b"\x02ns\x07example\x03com\x00",
-    );
-    assert_octets(&rt, "its address", &glue.octets(), &[192, 0, 2, 1]);
+    assert_reported(&rt, alloc, address)?;
     let read = address_reported(alloc, Name::vec_from_str(alloc, "a.")?, address)?;
     assert_octets(&rt, "the first address", &read.octets(), &[192, 0, 2, 1]);
     Ok(())

@@ -92,26 +92,49 @@ fn flattens_a_question(rt: HostRuntime) -> Result<(), Fail> {
     Ok(())
 }
 
+/// A clone of opaque data with these octets.
+fn cloned_data(alloc: Global, octets: &[u8]) -> Result<UnknownRecordData<Vec<u8>>, Fail> {
+    let data = UnknownRecordData::from_octets(Rtype::TXT, octets.to_vec(alloc)?)?;
+    Ok(data.clone()?)
+}
+
+/// A clone of an empty stream.
+fn cloned_stream(alloc: Global) -> Result<StreamTarget<Vec<u8>>, Fail> {
+    let stream = StreamTarget::new_vec(alloc)?;
+    Ok(stream.clone()?)
+}
+
 #[test]
 fn clones(rt: HostRuntime) -> Result<(), Fail> {
-    let text = b"\x01a".to_vec(rt.alloc())?;
-    let opaque = UnknownRecordData::from_octets(Rtype::TXT, text)?.clone()?;
+    let opaque = cloned_data(rt.alloc(), b"\x01a")?;
     assert_octets(&rt, "opaque data", opaque.data().as_slice(), b"\x01a");
-    let stream = StreamTarget::new_vec(rt.alloc())?.clone()?;
+    let stream = cloned_stream(rt.alloc())?;
     assert_octets(&rt, "stream", stream.as_stream_slice(), b"\x00\x00");
     Ok(())
 }
 
+/// The octets of a question for CNAME of Example.com.
+fn question_octets(alloc: Global) -> Result<Vec<u8>, Fail> {
+    let question = Question::new_in(Name::from_octets(NAME)?, Rtype::CNAME);
+    let mut target = Vec::new(alloc);
+    question.compose(&mut target)?;
+    Ok(target)
+}
+
+/// The octets of a CNAME record of the root, whose alias is for the root.
+fn record_octets(alloc: Global) -> Result<Vec<u8>, Fail> {
+    let root = Cname::new(Name::root_slice());
+    let record = Record::new(Name::root_slice(), Class::IN, Ttl::MINUTE, root);
+    let mut target = Vec::new(alloc);
+    record.compose(&mut target)?;
+    Ok(target)
+}
+
 #[test]
 fn composes_items(rt: HostRuntime) -> Result<(), Fail> {
-    let mut target = Vec::new(rt.alloc());
-    Question::new_in(Name::from_octets(NAME)?, Rtype::CNAME).compose(&mut target)?;
-    assert_octets(&rt, "question", target.as_slice(), QUESTION);
-    let mut target = Vec::new(rt.alloc());
-    let root = Cname::new(Name::root_slice());
-    Record::new(Name::root_slice(), Class::IN, Ttl::MINUTE, root).compose(&mut target)?;
+    assert_octets(&rt, "question", &question_octets(rt.alloc())?, QUESTION);
     let record = b"\x00\x00\x05\x00\x01\x00\x00\x00\x3C\x00\x01\x00";
-    assert_octets(&rt, "record", target.as_slice(), record);
+    assert_octets(&rt, "record", &record_octets(rt.alloc())?, record);
     Ok(())
 }
 

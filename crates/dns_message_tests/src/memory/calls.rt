@@ -76,32 +76,70 @@ fn make<R: Abort + Print, T: Composer, Q: ComposeQuestion, D: ComposeRecord>(
     Ok(stage)
 }
 
+/// Makes calls. The message has this length after them.
+fn make_until<R: Abort + Print, T: Composer, Q: ComposeQuestion, D: ComposeRecord>(
+    rt: &R,
+    alloc: Global,
+    stage: Stage<T>,
+    calls: &[Call<Q, D>],
+    length: usize,
+) -> Result<Stage<T>, Fail> {
+    let stage = make(rt, alloc, stage, calls)?;
+    assert!(rt; stage.as_slice().len() == length, "not {length} octets");
+    Ok(stage)
+}
+
 /// Makes the calls one by one. The message has these lengths after them.
 fn make_each<R: Abort + Print, T: Composer, Q: ComposeQuestion, D: ComposeRecord>(
     rt: &R,
     alloc: Global,
-    mut stage: Stage<T>,
+    stage: Stage<T>,
     calls: &[Call<Q, D>],
-    lengths: [usize; 4],
+    lengths: &[usize],
 ) -> Result<Stage<T>, Fail> {
-    for (call, length) in calls.chunks(1).zip(lengths) {
-        stage = make(rt, alloc, stage, call)?;
-        assert!(rt; stage.as_slice().len() == length, "not {length} octets");
-    }
-    Ok(stage)
+    let [length, lengths @ ..] = lengths else {
+        return Ok(stage);
+    };
+    let (call, calls) = calls.split_at(calls.len().min(1));
+    let stage = make_until(rt, alloc, stage, call, *length)?;
+    make_each(rt, alloc, stage, calls, lengths)
 }
 
-/// The calls that build a positive response, from any stage.
-fn positive_calls() -> Result<[CallWith<A, 13>; 6], Fail> {
+/// An empty list with capacity for calls. It is allocated again if an allocation failed.
+fn list<R: Print, C>(rt: &R, alloc: Global, capacity: usize) -> Result<Vec<C>, Fail> {
+    match Vec::with_capacity(alloc, capacity) {
+        Ok(calls) => Ok(calls),
+        Err(_) => {
+            println!(rt; "refused list")?;
+            Ok(Vec::with_capacity(alloc, capacity)?)
+        }
+    }
+}
+
+/// The calls that build a positive response, from any stage, by their indexes.
+fn positive_call(index: usize) -> Result<CallWith<A, 13>, Fail> {
     let name = Name::from_octets(*EXAMPLE_COM)?;
-    Ok([
-        Call::ToBuilder,
-        Call::SetHeader(response_header(Rcode::NOERROR, true)),
-        Call::ToQuestion,
-        Call::PushQuestion((name, Rtype::A)),
-        Call::ToAnswer,
-        Call::PushRecord((name, 3600, A::from_octets(203, 0, 113, 1))),
-    ])
+    Ok(match index {
+        0 => Call::ToBuilder,
+        1 => Call::SetHeader(response_header(Rcode::NOERROR, true)),
+        2 => Call::ToQuestion,
+        3 => Call::PushQuestion((name, Rtype::A)),
+        4 => Call::ToAnswer,
+        _ => Call::PushRecord((name, 3600, A::from_octets(203, 0, 113, 1))),
+    })
+}
+
+/// The calls that build a positive response, from this index on.
+fn positive_calls<R: Print>(
+    rt: &R,
+    alloc: Global,
+    from: usize,
+) -> Result<Vec<CallWith<A, 13>>, Fail> {
+    let mut calls = list(rt, alloc, 6)?;
+    for index in from..6 {
+        calls.push(positive_call(index)?)?;
+    }
+    Ok(calls)
 }
 
 /// Adds a question, and an answer with one address.
@@ -111,9 +149,31 @@ fn add_address<R: Abort + Print, T: Composer>(
     stage: Stage<T>,
     lengths: [usize; 4],
 ) -> Result<Stage<T>, Fail> {
-    let calls = positive_calls()?;
-    let calls = calls.as_slice();
-    make_each(rt, alloc, stage, &calls[2..], lengths)
+    let calls = positive_calls(rt, alloc, 2)?;
+    make_each(rt, alloc, stage, &calls, &lengths)
+}
+
+/// A call with an NS record of the root.
+type ServerCall = CallWith<Ns<Name<[u8; 16]>>, 1>;
+
+/// The calls that add an NS record of the root, and remove it again, by their indexes.
+fn server_call(index: usize) -> Result<ServerCall, Fail> {
+    let server = Ns::new(Name::from_octets(*NS_EXAMPLE_COM)?);
+    let root = Name::from_octets([0])?;
+    Ok(match index {
+        0 => Call::ToAuthority,
+        1 => Call::PushRecord((root, 60, server)),
+        2 => Call::Rewind,
+        _ => Call::ToAdditional,
+    })
+}
+
+fn server_calls<R: Print>(rt: &R, alloc: Global) -> Result<Vec<ServerCall>, Fail> {
+    let mut calls = list(rt, alloc, 4)?;
+    for index in 0..4 {
+        calls.push(server_call(index)?)?;
+    }
+    Ok(calls)
 }
 
 /// Adds an NS record of the root, and removes it again.
@@ -123,14 +183,31 @@ fn add_server<R: Abort + Print, T: Composer>(
     stage: Stage<T>,
     lengths: [usize; 4],
 ) -> Result<Stage<T>, Fail> {
-    let server = Ns::new(Name::from_octets(*NS_EXAMPLE_COM)?);
-    let calls: [CallWith<Ns<Name<[u8; 16]>>, 1>; 4] = [
-        Call::ToAuthority,
-        Call::PushRecord((Name::from_octets([0])?, 60, server)),
-        Call::Rewind,
-        Call::ToAdditional,
-    ];
-    make_each(rt, alloc, stage, &calls, lengths)
+    let calls = server_calls(rt, alloc)?;
+    make_each(rt, alloc, stage, &calls, &lengths)
+}
+
+/// A call with a record of the root without RDATA.
+type TextCall = CallWith<UnknownRecordData<[u8; 0]>, 1>;
+
+/// The calls that add a record without RDATA, and remove everything again, by their indexes.
+fn text_call(index: usize) -> Result<TextCall, Fail> {
+    let text = UnknownRecordData::from_octets(Rtype::TXT, [])?;
+    let root = Name::from_octets([0])?;
+    Ok(match index {
+        0 => Call::PushRecord((root, 0, text)),
+        1 => Call::ToAnswer,
+        2 => Call::TcRewind,
+        _ => Call::ToBuilder,
+    })
+}
+
+fn text_calls<R: Print>(rt: &R, alloc: Global) -> Result<Vec<TextCall>, Fail> {
+    let mut calls = list(rt, alloc, 4)?;
+    for index in 0..4 {
+        calls.push(text_call(index)?)?;
+    }
+    Ok(calls)
 }
 
 /// Adds a record without RDATA, and removes everything again.
@@ -140,14 +217,8 @@ fn add_text<R: Abort + Print, T: Composer>(
     stage: Stage<T>,
     lengths: [usize; 4],
 ) -> Result<Stage<T>, Fail> {
-    let text = UnknownRecordData::from_octets(Rtype::TXT, [])?;
-    let calls: [CallWith<UnknownRecordData<[u8; 0]>, 1>; 4] = [
-        Call::PushRecord((Name::from_octets([0])?, 0, text)),
-        Call::ToAnswer,
-        Call::TcRewind,
-        Call::ToBuilder,
-    ];
-    make_each(rt, alloc, stage, &calls, lengths)
+    let calls = text_calls(rt, alloc)?;
+    make_each(rt, alloc, stage, &calls, &lengths)
 }
 
 /// Checks a positive response that is built by one list of calls.
@@ -157,7 +228,8 @@ pub(crate) fn assert_list<R: Abort + Print, T: Fresh>(
     expected: &[u8],
 ) -> Result<(), Fail> {
     let stage: Stage<T> = Stage::Builder(started(rt, alloc)?);
-    let stage = make(rt, alloc, stage, &positive_calls()?)?;
+    let calls = positive_calls(rt, alloc, 0)?;
+    let stage = make(rt, alloc, stage, &calls)?;
     assert_octets(rt, "Positive response", stage.as_slice(), expected);
     Ok(())
 }

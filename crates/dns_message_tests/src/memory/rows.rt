@@ -9,6 +9,7 @@ use crate::memory::written::{COMPRESSED, PLAIN, Written};
 use dns_message::target::{
     Composer, FingerprintCompressor, HashCompressor, StaticCompressor, StreamTarget, TreeCompressor,
 };
+use dns_message::wire::AppendError;
 use std::alloc::Global;
 use std::process::Abort;
 use std::test::Fail;
@@ -66,12 +67,18 @@ fn over_an_index_compressor(rt: HostRuntime) -> Result<(), Fail> {
     assert_messages::<HostRuntime, FingerprintCompressor<Vec<u8>>>(&rt, rt.alloc(), COMPRESSED)
 }
 
+/// A target with these octets alone.
+fn target_of(alloc: Global, octets: &[u8]) -> Result<Vec<u8>, AppendError> {
+    let mut target = Vec::new(alloc);
+    target.append_slice(octets)?;
+    Ok(target)
+}
+
 /// The first octets of a `Vec` without a capacity.
 #[test]
 fn takes_what_it_needs_where_more_is_refused(rt: HostRuntime) -> Result<(), Fail> {
-    let mut target = Vec::new(rt.alloc());
-    target.append_slice(b"\x01a\x00")?;
-    assert_octets(&rt, "first octets", target.as_slice(), b"\x01a\x00");
+    let octets = b"\x01a\x00";
+    assert_octets(&rt, "first octets", &target_of(rt.alloc(), octets)?, octets);
     let stream = StreamTarget::new_vec(rt.alloc())?;
     assert_octets(&rt, "stream", stream.as_stream_slice(), b"\x00\x00");
     Ok(())
