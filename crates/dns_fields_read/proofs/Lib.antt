@@ -18,6 +18,8 @@ mod LocationLemmas
 mod LocatorLemmas
 mod NameLaws
 mod NameLemmas
+pub mod OneFields
+pub mod OneWords
 mod ParameterLaws
 mod ParameterLemmas
 mod PrefixFieldLaws

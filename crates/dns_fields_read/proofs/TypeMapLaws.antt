@@ -41,7 +41,7 @@ not_both : (text : List ℕ) (k n : ℕ) → IsMnemonic type_mnemonics text k �
 unfolding type_mnemonics
 not_both text k n h x = apart (codes "TYPE") text type_mnemonics k n refl h x
 
-one_word : (word : List ℕ) (k n : ℕ) → IsTypeWord word k → IsTypeWord word n → k ≡ n
+pub one_word : (word : List ℕ) (k n : ℕ) → IsTypeWord word k → IsTypeWord word n → k ≡ n
 one_word word k n (inl h) (inl g) = mnemonic_same word table_mnemonics k n table_distinct h g
 one_word word k n (inl h) (inr s) = one_type word k n h s
 one_word word k n (inr s) (inl g) = sym (one_type word n k g s)
