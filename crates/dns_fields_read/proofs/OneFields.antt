@@ -1,5 +1,5 @@
 -- The words of a field represent one list of octets.
-use Rattle.std.proofs.Common.{◌≡◌, ◌∙◌, ℕ, ◌*◌, ◌+◌, List, [], ◌∷◌, ◌++◌, sym, ap, subst, arith, inl, inr}
+use Rattle.std.proofs.Common.{◌≡◌, ◌∙◌, ℕ, ◌*◌, ◌+◌, List, [], ◌∷◌, ◌++◌, sym, subst, arith, inl, inr}
 use Rattle.std.specs.Borrow.{Bor}
 use Rattle.dns_fields_read.specs.GatewayWords.{IsGateway, IsGatewayAndKey, IsGatewayOf, IsRelay, IsRelayOf}
 use Rattle.dns_fields_read.specs.IdentityWords.{AreNames, IsHostIdentity, IsIdentity, identity_octets}

@@ -1,16 +1,15 @@
 -- A word, or words, represent one value.
-use Rattle.std.proofs.Common.{◌≡◌, ◌∙◌, ◌⊎◌, ℕ, ◌+◌, ◌*◌, ◌/◌, ◌%◌, ◌<◌, ◌≤◌, false, List, [], ◌∷◌, ◌++◌, length, take, drop, codes, refl, sym, ap, subst, arith, inl, inr, append-nil, length-append, lit≤}
-use Rattle.std.specs.Prelude.{Result, Ok, Err, Some, fold}
+use Rattle.std.proofs.Common.{◌≡◌, ◌∙◌, ℕ, ◌/◌, ◌%◌, false, List, [], ◌∷◌, ◌++◌, length, take, drop, refl, sym, ap, subst, arith, inl, inr, append-nil, length-append, lit≤}
+use Rattle.std.specs.Prelude.{Result, Ok}
 use Rattle.std.specs.Borrow.{Bor}
 use Rattle.std.specs.List.{flat_map}
 use Rattle.std.specs.Net.Addr.{octets_of}
-use Rattle.std.specs.Net.Grammar.{IsColonHex, IsDotted, IsGroups, IsNumber}
+use Rattle.std.specs.Net.Grammar.{IsColonHex, IsDotted, IsGroups}
 use Rattle.std.specs.Str.Parse.{digits_value}
 use Rattle.std.proofs.NetLemmas.Ipv4.{read_ipv4_complete}
 use Rattle.std.proofs.NetLemmas.Ipv6.{read_ipv6_complete, EndsGroups-nil}
 use Rattle.std.proofs.NetLemmas.Options.{same_parts as read_parts}
 use Rattle.hex.proofs.HexLemmas.{decode_of-ok}
-use Rattle.hex.specs.Hex.{IsBytes}
 use Rattle.dns_name.specs.Names.{uncompressed}
 use Rattle.dns_name.proofs.theory.NameTextFaults.{one_text_name}
 use Rattle.dns_value_text.specs.Addresses.{hyphen_pair}
@@ -20,9 +19,10 @@ use Rattle.dns_fields_read.specs.JoinedWords.{AreBase64, AreHex}
 use Rattle.dns_fields_read.specs.Laws.{RepresentsOne}
 use Rattle.dns_fields_read.specs.LocatorWords.{IsLocatorWord}
 use Rattle.dns_fields_read.specs.NameWords.{IsNameWord}
-use Rattle.dns_fields_read.specs.Salts.{IsSaltWord}
-use Rattle.dns_fields_read.specs.SizedWords.{AreSized, IsCountedBase64, IsSizedWords, sized}
+use Rattle.dns_fields_read.specs.Salts.{IsHashWord, IsSaltWord}
+use Rattle.dns_fields_read.specs.SizedWords.{AreSized, IsSizedWords, sized}
 use Rattle.dns_fields_read.specs.TimeWords.{IsDateWord, IsTimeWord}
+use Rattle.dns_fields_read.proofs.Base32Lemmas.{one_base32}
 use Rattle.dns_fields_read.proofs.Calendar.{clock_part, date_size, day_part, one_clock_word, one_day_word}
 use Rattle.dns_fields_read.proofs.EuiLemmas.{hyphened, others_are}
 use Rattle.dns_fields_read.proofs.LocatorLemmas.{begins_of, digits_no_colon, one_group, same_parts}
@@ -102,6 +102,9 @@ one_salt word xs ys (inl a) (inl b) = a.1 ∙ sym b.1
 one_salt word xs ys (inl a) (inr b) = absurd (omega (arith, ap length a.0, (decode_of-ok word ys b.0).2))
 one_salt word xs ys (inr a) (inl b) = absurd (omega (arith, ap length b.0, (decode_of-ok word xs a.0).2))
 one_salt word xs ys (inr a) (inr b) = same_value _ xs ys a.0 b.0
+
+pub one_hash : RepresentsOne IsHashWord
+one_hash word xs ys a b = one_base32 word xs ys a.0 b.0
 
 -- octets after their length
 one_sized_octets : (words : List (Bor (List ℕ))) (xs ys : List ℕ) → AreSized words xs → AreSized words ys → xs ≡ ys

@@ -51,7 +51,7 @@ one_word word k n (inr (inr x)) (inr (inl h)) = absurd (not_both word n k h x)
 one_word word k n (inr (inr x)) (inr (inr y)) = numbered_same (codes "TYPE") word k n x y
 
 -- types of blocks have 16 bits
-map_bound : (fuel least n : ℕ) (octets : List ℕ) → length octets ≤ fuel → IsBytes octets → blocks_after least 0 octets ≡ true → has (map_types octets) n ≡ true → n < 65536
+pub map_bound : (fuel least n : ℕ) (octets : List ℕ) → length octets ≤ fuel → IsBytes octets → blocks_after least 0 octets ≡ true → has (map_types octets) n ≡ true → n < 65536
 map_bound fuel least n [] few bytes blocks h = absurd (false≢true h)
 map_bound fuel least n (window ∷ []) few bytes blocks h = absurd (false≢true blocks)
 map_bound zero least n (window ∷ size ∷ octets) few bytes blocks h = absurd (omega arith)

@@ -1,5 +1,9 @@
+use Rattle.dns_fields_read.proofs.LocationLemmas.{one_location}
 use Rattle.dns_fields_read.proofs.OneFields.{one_gateway, one_identity, one_relay}
-use Rattle.dns_fields_read.proofs.OneWords.{one_base64, one_eui, one_hex, one_ipv4, one_ipv6, one_locator, one_name, one_salt, one_sized, one_time}
+use Rattle.dns_fields_read.proofs.OneMaps.{one_map, one_small_map}
+use Rattle.dns_fields_read.proofs.OneWords.{one_base64, one_eui, one_hash, one_hex, one_ipv4, one_ipv6, one_locator, one_name, one_salt, one_sized, one_time}
+use Rattle.dns_fields_read.proofs.ParameterLemmas.{one_parameters}
+use Rattle.dns_fields_read.proofs.PrefixLemmas.{one_prefixes}
 use Rattle.dns_fields_read.proofs.TypeMapLaws.{one_word}
 use Rattle.dns_fields_read.proofs.laws.words_represent_one.Goals as goal
 
@@ -44,3 +48,21 @@ returns-clause-relays c = one_relay
 
 pub returns-clause-identities : goal.returns-clause-identities
 returns-clause-identities c = one_identity
+
+pub returns-clause-parameters : goal.returns-clause-parameters
+returns-clause-parameters c = one_parameters
+
+pub returns-clause-hashes : goal.returns-clause-hashes
+returns-clause-hashes c = one_hash
+
+pub returns-clause-prefixes : goal.returns-clause-prefixes
+returns-clause-prefixes c = one_prefixes
+
+pub returns-clause-locations : goal.returns-clause-locations
+returns-clause-locations c = one_location
+
+pub returns-clause-type_maps : goal.returns-clause-type_maps
+returns-clause-type_maps c = one_map
+
+pub returns-clause-small_type_maps : goal.returns-clause-small_type_maps
+returns-clause-small_type_maps c = one_small_map
