@@ -1,5 +1,6 @@
 mod AppendLemmas
 mod CountLemmas
+mod OneData
 mod RdataLemmas
 mod RecordLemmas
 mod StringLemmas

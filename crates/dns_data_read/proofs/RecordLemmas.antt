@@ -1,5 +1,5 @@
 -- Records from words.
-use Rattle.std.proofs.Common.{◌≡◌, ℕ, ◌-◌, ◌≤◌, ◌<◌, ◌^◌, List, [], ◌∷◌, length, get_or, take, drop, length-drop, subst, arith, inl, inr}
+use Rattle.std.proofs.Common.{◌≡◌, ℕ, ◌-◌, ◌≤◌, ◌<◌, ◌^◌, List, [], ◌∷◌, length, get_or, take, drop, length-drop, sym, subst, arith, inl, inr}
 use Rattle.std.proofs.lemmas.List.{take_all}
 use Rattle.std.specs.Prelude.{◌↔◌, ◌⊎◌}
 use Rattle.std.specs.Borrow.{Bor}
@@ -8,11 +8,26 @@ use Rattle.dns_name.specs.Names.{Labels}
 use Rattle.dns_name.specs.NameTexts.{SpellsName}
 use Rattle.dns_number.specs.Classes.{SpellsClass}
 use Rattle.dns_fields_read.specs.TypeWords.{IsTypeWord}
+use Rattle.dns_fields_read.proofs.TypeMapLaws.{one_word}
+use Rattle.dns_item.specs.Items.{RecordItem}
 use Rattle.dns_value_text.specs.declared.text_error.TextError.{TextError}
 use Rattle.dns_value_text.specs.declared.text_error.TextError.TheVariants.{BadWord, OutOfMemory}
-use Rattle.dns_data_read.specs.DataWords.{IsNoData}
+use Rattle.dns_wire.specs.Parts.{Part}
+use Rattle.dns_data_read.specs.DataWords.{IsDataText}
 use Rattle.dns_data_read.specs.FieldWords.{Words}
-use Rattle.dns_data_read.specs.RecordWords.{AreHeadWords, IsNoRecord}
+use Rattle.dns_data_read.specs.RecordWords.{AreHeadWords, IsRecordText}
+
+-- a head has one type
+one_rtype : (words : Words) (o p : Labels) (t c r u d s : ℕ) → AreHeadWords words o t c r → AreHeadWords words p u d s → r ≡ s
+one_rtype [] o p t c r u d s a b = absurd a
+one_rtype (x ∷ []) o p t c r u d s a b = absurd a
+one_rtype (x ∷ y ∷ []) o p t c r u d s a b = absurd a
+one_rtype (x ∷ y ∷ z ∷ []) o p t c r u d s a b = absurd a
+one_rtype (x ∷ y ∷ z ∷ w ∷ words) o p t c r u d s a b = one_word w.now r s a.3 b.3
+
+-- no head
+pub no_head : (words : Words) → ((owner : Labels) (ttl class rtype : ℕ) → ¬ (AreHeadWords words owner ttl class rtype)) → (item : RecordItem) → ¬ (IsRecordText words item)
+no_head words none item is = none item.owner item.ttl item.class item.rtype is.head
 
 module _ (owner : Labels) (ttl class rtype : ℕ) (words : Words) where
   -- the head by its four words
@@ -42,8 +57,14 @@ module _ (owner : Labels) (ttl class rtype : ℕ) (words : Words) where
 
   -- no RDATA after the head
   pub no_record : (error : TextError) → AreHeadWords words owner ttl class rtype
-      → (error ≡ OutOfMemory) ⊎ ((error ≡ BadWord) × IsNoData rtype (take (length words - 4) (drop 4 words))) → (error ≡ OutOfMemory) ⊎ ((error ≡ BadWord) × IsNoRecord words)
+      → (error ≡ OutOfMemory) ⊎ ((error ≡ BadWord) × ((parts : List Part) → ¬ (IsDataText rtype (take (length words - 4) (drop 4 words)) parts)))
+      → (error ≡ OutOfMemory) ⊎ ((error ≡ BadWord) × ((item : RecordItem) → ¬ (IsRecordText words item)))
   no_record error head (inl memory) = inl memory
   no_record error head (inr bad) =
       let all : take (length words - 4) (drop 4 words) ≡ drop 4 words = take_all _ (drop 4 words) (omega (arith, length-drop 4 words)) in
-      inr (bad.0, inr (owner, ttl, class, rtype, head, subst (IsNoData rtype) all bad.1))
+      inr (
+        bad.0,
+        λ item is.
+            let same = one_rtype words item.owner owner item.ttl item.class item.rtype ttl class rtype is.head head in
+            bad.1 item.parts (subst (λ (ws : Words). IsDataText rtype ws item.parts) (sym all) (subst (λ (n : ℕ). IsDataText n (drop 4 words) item.parts) same is.value)),
+      )

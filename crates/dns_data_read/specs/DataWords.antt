@@ -52,14 +52,8 @@ pub record IsDataText (rtype : ℕ) (words : Words) (parts : List Part) : Type 0
   pub are : AreDataWords rtype words octets
   pub rdata : IsRdata rtype octets parts
 
--- the words represent no octets, or octets that aren't RDATA of this type
-abbrev pub IsNoData : ℕ → Words → Type 0
-IsNoData rtype words =
-    ((octets : List ℕ) → ¬ (AreDataWords rtype words octets))
-    ⊎ ((octets : List ℕ) × AreDataWords rtype words octets × ((parts : List Part) → ¬ (IsRdata rtype octets parts)))
-
 -- RDATA of this type that the words represent. Else `BadWord` if they represent none, or `OutOfMemory` if an allocation fails.
 abbrev pub ReadsData : ℕ → Words → Result OwnedFieldData TextError → Type 0
 ReadsData rtype words result =
     MatchResult result (λ value. (owned_rtype_of value ≡ rtype) × IsDataText rtype words (owned_parts_of value))
-    (λ error. (error ≡ OutOfMemory) ⊎ ((error ≡ BadWord) × IsNoData rtype words))
+    (λ error. (error ≡ OutOfMemory) ⊎ ((error ≡ BadWord) × ((parts : List Part) → ¬ (IsDataText rtype words parts))))

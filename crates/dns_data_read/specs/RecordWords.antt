@@ -1,5 +1,5 @@
 -- Words that represent a record. RFC 1035 section 5.1.
-use Rattle.std.specs.Prelude.{◌≡◌, ◌⊎◌, ℕ, ◌<◌, ◌^◌, [], ◌∷◌, drop, Result, MatchResult}
+use Rattle.std.specs.Prelude.{◌≡◌, ◌⊎◌, ℕ, ◌<◌, ◌^◌, ◌∷◌, drop, Result, MatchResult}
 use Rattle.std.specs.Net.Grammar.{IsNumber}
 use Rattle.dns_octets.specs.declared.octets.Octets.{Ghosts}
 use Rattle.dns_name.specs.Names.{Labels}
@@ -15,7 +15,7 @@ use Rattle.dns_item.specs.Record.{record_item}
 use Rattle.dns_item.specs.declared.record.Record.{Record}
 use Rattle.dns_value_text.specs.declared.text_error.TextError.{TextError}
 use Rattle.dns_value_text.specs.declared.text_error.TextError.TheVariants.{BadWord, OutOfMemory}
-use Rattle.dns_data_read.specs.DataWords.{IsDataText, IsNoData}
+use Rattle.dns_data_read.specs.DataWords.{IsDataText}
 use Rattle.dns_data_read.specs.FieldWords.{Words}
 
 -- the first four words are the owner, the TTL in seconds, the class and the type of a record
@@ -29,14 +29,8 @@ pub record IsRecordText (words : Words) (item : RecordItem) : Type 0 where
   pub head : AreHeadWords words item.owner item.ttl item.class item.rtype
   pub value : IsDataText item.rtype (drop 4 words) item.parts
 
--- the first words aren't those of a record, or the words after them represent no RDATA of its type
-abbrev pub IsNoRecord : Words → Type 0
-IsNoRecord words =
-    ((owner : Labels) (ttl class rtype : ℕ) → ¬ (AreHeadWords words owner ttl class rtype))
-    ⊎ ((owner : Labels) × (ttl : ℕ) × (class : ℕ) × (rtype : ℕ) × AreHeadWords words owner ttl class rtype × IsNoData rtype (drop 4 words))
-
 -- The record that the words represent. Else `BadWord` if they represent none, or `OutOfMemory` if an allocation fails.
 abbrev pub ReadsRecord : {X : Type 0} {buffer : Ghosts X} → Words → Result (Record (Name X buffer) OwnedFieldData) TextError → Type 0
 ReadsRecord words result =
     MatchResult result (λ r. IsRecordText words (record_item name_labels owned_rtype_of owned_parts_of r))
-    (λ error. (error ≡ OutOfMemory) ⊎ ((error ≡ BadWord) × IsNoRecord words))
+    (λ error. (error ≡ OutOfMemory) ⊎ ((error ≡ BadWord) × ((item : RecordItem) → ¬ (IsRecordText words item))))

@@ -1,6 +1,6 @@
 -- Digits and octets of base32.
-use Rattle.std.proofs.Common.{◌≡◌, ◌∙◌, ◌≢◌, ℕ, zero, suc, ◌+◌, ◌-◌, ◌*◌, ◌/◌, ◌%◌, ◌^◌, ◌<◌, ◌≤◌, true, List, [], ◌∷◌, ◌++◌, length, take, drop, get_or, refl, sym, ap, subst, arith, inl, inr, add-one, append-nil, length-append, take-append-drop, append_assoc, length-take-le}
-use Rattle.std.specs.Prelude.{◌==◌, if◌then◌else◌, Result, Ok, Err, OnOk, IfErr}
+use Rattle.std.proofs.Common.{◌≡◌, ◌∙◌, ◌≢◌, ℕ, zero, suc, ◌+◌, ◌-◌, ◌*◌, ◌/◌, ◌%◌, ◌^◌, ◌<◌, ◌≤◌, true, List, [], ◌∷◌, ◌++◌, length, take, drop, get_or, refl, sym, ap, subst, arith, inl, inr, add-one, append-nil, length-append, take-append-drop, append_assoc, length-take-le, length-drop}
+use Rattle.std.specs.Prelude.{◌==◌, if◌then◌else◌, Result, Ok, Err, OnOk, IfErr, fold}
 use Rattle.std.specs.Char.{to_ascii_uppercase}
 use Rattle.std.specs.Fmt.{digit_glyph}
 use Rattle.std.specs.Str.{str_to_ascii_uppercase}
@@ -293,7 +293,7 @@ join digits first second long a b =
     join_five digits first second (s.sized ∙ five_octets (length (take 8 digits)) s.size s.spare eight s.group) a b
 
 -- octets of more than eight digits are five and others
-split : (digits all : List ℕ) → 8 < length digits → IsBase32 digits all → (first second : List ℕ) × IsBase32 (take 8 digits) first × IsBase32 (drop 8 digits) second
+split : (digits all : List ℕ) → 8 < length digits → IsBase32 digits all → (first second : List ℕ) × IsBase32 (take 8 digits) first × IsBase32 (drop 8 digits) second × (all ≡ first ++ second)
 split digits [] long is = absurd (omega (arith, length-map digits to_ascii_uppercase, ap length is.1))
 split digits (a ∷ []) long is = absurd (omega (arith, length-map digits to_ascii_uppercase, ap length is.1, digits_length 2 (number_of (a ∷ []) * 4)))
 split digits (a ∷ b ∷ []) long is = absurd (omega (arith, length-map digits to_ascii_uppercase, ap length is.1, digits_length 4 (number_of (a ∷ b ∷ []) * 16)))
@@ -310,6 +310,7 @@ split digits (a ∷ b ∷ c ∷ d ∷ e ∷ all) long is =
       all,
       (λ i. first_five a b c d e all is.0 i, front ∙ sym (append-nil first)),
       (λ i. is.0 (suc (suc (suc (suc (suc i))))), append_cancel_left first (str_to_ascii_uppercase (drop 8 digits)) (base32_text all) whole),
+      refl,
     ) where
       first_five : (a b c d e : ℕ) (all : List ℕ) → IsBytes (a ∷ b ∷ c ∷ d ∷ e ∷ all) → IsBytes (a ∷ b ∷ c ∷ d ∷ e ∷ [])
       first_five a b c d e all bytes zero = bytes 0
@@ -375,3 +376,76 @@ text_size (a ∷ b ∷ c ∷ d ∷ e ∷ octets) =
 
 pub word_length : (word octets : List ℕ) → IsBase32 word octets → length word ≡ length (base32_text octets)
 word_length word octets is = sym (length-map word to_ascii_uppercase) ∙ ap length is.1
+
+-- octets of one number are the same
+same_octets : (m n : ℕ) (xs ys : List ℕ) → length xs ≡ length ys → IsBytes xs → IsBytes ys → fold (λ (high octet : ℕ). high * 256 + octet) m xs ≡ fold (λ (high octet : ℕ). high * 256 + octet) n ys
+    → (m ≡ n) × (xs ≡ ys)
+same_octets m n [] [] e a b same = (same, refl)
+same_octets m n [] (y ∷ ys) e a b same = absurd (omega (arith, e))
+same_octets m n (x ∷ xs) [] e a b same = absurd (omega (arith, e))
+same_octets m n (x ∷ xs) (y ∷ ys) e a b same =
+    let rest = same_octets (m * 256 + x) (n * 256 + y) xs ys (omega (arith, e)) (λ i. a (suc i)) (λ i. b (suc i)) same in
+    let first : x < 256 = a 0 in
+    let second : y < 256 = b 0 in
+    let sum = rest.0 in
+    let octet : x ≡ y = omega (arith, sum) in
+    (omega (arith, sum), ap (λ (o : ℕ). o ∷ xs) octet ∙ ap (λ (os : List ℕ). y ∷ os) rest.1)
+
+-- the octets of a number of digits
+abbrev size_at : ℕ → ℕ
+size_at n = if n == 2 then 1 else if n == 4 then 2 else if n == 5 then 3 else if n == 7 then 4 else 5
+
+size_is : (n size spare : ℕ) → IsGroupSize n size spare → size ≡ size_at n
+size_is n size spare (inl group) = group.1 ∙ sym (ap size_at group.0)
+size_is n size spare (inr (inl group)) = group.1 ∙ sym (ap size_at group.0)
+size_is n size spare (inr (inr (inl group))) = group.1 ∙ sym (ap size_at group.0)
+size_is n size spare (inr (inr (inr (inl group)))) = group.1 ∙ sym (ap size_at group.0)
+size_is n size spare (inr (inr (inr (inr group)))) = group.1 ∙ sym (ap size_at group.0)
+
+times_same : (m n s t k : ℕ) → s ≡ t → s ≡ k → m * s ≡ n * t → m * k ≡ n * k
+times_same m n s t k e f same = ap (λ p. m * p) (sym f) ∙ same ∙ ap (λ p. n * p) (sym e ∙ f)
+
+number_same : (count size m n s t : ℕ) → IsGroupSize count size s → s ≡ t → m * s ≡ n * t → m ≡ n
+number_same count size m n s t (inl group) e same = let whole = times_same m n s t 4 e group.2 same in omega (arith, whole)
+number_same count size m n s t (inr (inl group)) e same = let whole = times_same m n s t 16 e group.2 same in omega (arith, whole)
+number_same count size m n s t (inr (inr (inl group))) e same = let whole = times_same m n s t 2 e group.2 same in omega (arith, whole)
+number_same count size m n s t (inr (inr (inr (inl group)))) e same = let whole = times_same m n s t 8 e group.2 same in omega (arith, whole)
+number_same count size m n s t (inr (inr (inr (inr group)))) e same = let whole = times_same m n s t 1 e group.2 same in omega (arith, whole)
+
+-- digits represent one list of octets
+one_group : (digits xs ys : List ℕ) → 0 < length digits → length digits ≤ 8 → IsBase32 digits xs → IsBase32 digits ys → xs ≡ ys
+one_group digits xs ys some few a b =
+    let s = shape digits xs some few a in
+    let t = shape digits ys some few b in
+    let whole = digits_same (length digits) (number_of xs * s.spare) (number_of ys * t.spare) s.is.0 t.is.0 (sym s.is.1 ∙ t.is.1) in
+    let spares : s.spare ≡ t.spare = spare_is (length digits) s.size s.spare s.group ∙ sym (spare_is (length digits) t.size t.spare t.group) in
+    let sizes : s.size ≡ t.size = size_is (length digits) s.size s.spare s.group ∙ sym (size_is (length digits) t.size t.spare t.group) in
+    let number = number_same (length digits) s.size (number_of xs) (number_of ys) s.spare t.spare s.group spares whole in
+    (same_octets 0 0 xs ys (s.sized ∙ sizes ∙ sym t.sized) a.0 b.0 number).1
+
+no_digits : (digits octets : List ℕ) → length digits < 1 → IsBase32 digits octets → octets ≡ []
+no_digits digits [] none is = refl
+no_digits digits (x ∷ octets) none is = absurd (omega (arith, none, text_some x octets, length-map digits to_ascii_uppercase, ap length is.1))
+
+one_by : (fuel : ℕ) (digits xs ys : List ℕ) → length digits ≤ fuel → IsBase32 digits xs → IsBase32 digits ys → xs ≡ ys
+one_by zero digits xs ys few a b = no_digits digits xs (omega arith) a ∙ sym (no_digits digits ys (omega arith) b)
+one_by (suc fuel) digits xs ys few a b =
+    elim (cases_lt 8 (length digits)) [
+      | inl long ↦
+          (let s = split digits xs long a in
+          let t = split digits ys long b in
+          let eight : length (take 8 digits) ≡ 8 = length-take-le 8 digits (omega arith) in
+          let first = one_group (take 8 digits) s.0 t.0 (omega (arith, eight)) (omega (arith, eight)) s.2 t.2 in
+          let others = one_by fuel (drop 8 digits) s.1 t.1 (omega (arith, length-drop 8 digits)) s.3 t.3 in
+          s.4 ∙ (λ i. first i ++ others i) ∙ sym t.4)
+      | inr short ↦ few_digits short
+    ] where
+      few_digits : length digits ≤ 8 → xs ≡ ys
+      few_digits short =
+          elim (cases_lt 0 (length digits)) [
+            | inl some ↦ one_group digits xs ys some short a b
+            | inr none ↦ no_digits digits xs (omega arith) a ∙ sym (no_digits digits ys (omega arith) b)
+          ]
+
+pub one_base32 : (digits xs ys : List ℕ) → IsBase32 digits xs → IsBase32 digits ys → xs ≡ ys
+one_base32 digits xs ys a b = one_by (length digits) digits xs ys (omega arith) a b

@@ -93,12 +93,3 @@ module _ (Is : List ℕ → List ℕ → Type 0) where
   joined_none text texts all old middle new e whole (inl memory) = inl memory
   joined_none text texts all old middle new e whole (inr bad) =
       inr (bad.0, λ octets are. let parts = subst (λ (ts : List (List ℕ)). AreJoined Is ts octets) whole are in bad.1 parts.0 parts.2)
-
-  -- the number of octets
-  pub joined_size : (n : ℕ) → ((text octets : List ℕ) → Is text octets → length octets ≡ n) → (texts : List (List ℕ)) (octets : List ℕ) → AreJoined Is texts octets
-      → length octets ≡ n * length texts
-  joined_size n each [] octets none = let empty = ap length none in omega arith
-  joined_size n each (text ∷ texts) octets (first, others, is, whole, are) =
-      let one = each text first is in
-      let rest = joined_size n each texts others are in
-      omega (arith, one, rest, ap length whole, length-append first others)

@@ -94,7 +94,7 @@ all_read size word octets [] read sized none = let fits = read.fits in read_whol
 all_read size word octets (x ∷ left) read sized none = absurd (omega arith)
 
 -- the text of octets after a hyphen
-hyphened : (all : List ℕ) → 0 < length all → 0x2d ∷ eui_text all ≡ flat_map hyphen_pair all
+pub hyphened : (all : List ℕ) → 0 < length all → 0x2d ∷ eui_text all ≡ flat_map hyphen_pair all
 hyphened [] some = absurd (omega arith)
 hyphened (o ∷ all) some = refl
 

@@ -12,7 +12,7 @@ use Rattle.dns_fields_read.specs.Reading.{AppendsOctets}
 use Rattle.dns_fields_read.proofs.AppendLemmas.{appends_as}
 
 -- a word is one number
-one_number : (most : ℕ) (word : List ℕ) (m n : ℕ) → IsNumberTo most word m → IsNumberTo most word n → m ≡ n
+pub one_number : (most : ℕ) (word : List ℕ) (m n : ℕ) → IsNumberTo most word m → IsNumberTo most word n → m ≡ n
 one_number most word m n a b = sym a.0.1 ∙ b.0.1
 
 -- a gateway of each type

@@ -14,15 +14,18 @@ mod IdentityLaws
 mod IdentityLemmas
 mod KeyLemmas
 mod LocationLaws
-mod LocationLemmas
+pub mod LocationLemmas
 mod LocatorLemmas
 mod NameLaws
 mod NameLemmas
+pub mod OneFields
+pub mod OneMaps
+pub mod OneWords
 mod ParameterLaws
-mod ParameterLemmas
+pub mod ParameterLemmas
 mod PrefixFieldLaws
 mod PrefixLaws
-mod PrefixLemmas
+pub mod PrefixLemmas
 mod ProtocolLemmas
 mod RowLemmas
 mod SaltLaws
@@ -32,9 +35,9 @@ mod SmallMapLemmas
 mod SpaceLemmas
 mod SpacedWords
 mod StringLaws
-mod StringLemmas
+pub mod StringLemmas
 mod TypeLaws
 mod TypeLemmas
-mod TypeMapLaws
+pub mod TypeMapLaws
 mod TypeMapLemmas
 mod ValueLemmas

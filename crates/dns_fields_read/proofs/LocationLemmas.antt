@@ -5,6 +5,7 @@ use Rattle.std.specs.Borrow.{Bor}
 use Rattle.std.specs.Char.{digit_value, is_ascii_alphabetic, to_ascii_lowercase}
 use Rattle.std.specs.List.{AllWithin}
 use Rattle.std.specs.Option.{SomeIff}
+use Rattle.std.specs.Str.{str_to_ascii_lowercase}
 use Rattle.std.specs.Str.Parse.{AllDigits, IsNumeral, digits_value}
 use Rattle.std.proofs.Math.Nat.{le-mul_of_pos_right, mul-le-mul_right, mul_assoc, pow-le-pow_right, pow-suc}
 use Rattle.std.proofs.Math.Seq.{drop-cons}
@@ -16,7 +17,7 @@ use Rattle.std.proofs.lemmas.Str.Ascii.{lowercase_is}
 use Rattle.std.proofs.lemmas.Str.Parse.{digit_from_value}
 use Rattle.dns_value_text.specs.LocationItems.{LocationItem}
 use Rattle.dns_value_text.specs.Locations.{is_size, size_of}
-use Rattle.dns_fields_read.specs.LocationWords.{AreDecimals, AreLocationWords, AreSizes, BeginsWithAngle, BeginsWithLetter, FindsDirection, HasDecimals, IsAltitude, IsAngle, IsDecimal, IsDirected, IsEither, IsLength, IsLetter, IsLocation, IsMinutes, IsRounded, IsSeconds, IsSize, IsSizeAt}
+use Rattle.dns_fields_read.specs.LocationWords.{AreDecimals, AreLocationWords, AreSizes, BeginsWithAngle, BeginsWithLetter, FindsDirection, HasDecimals, IsAltitude, IsAngle, IsDecimal, IsDirected, IsEither, IsLength, IsLetter, IsLocation, IsMinutes, IsRounded, IsSeconds, IsSize, IsSizeAt, location_octets}
 use Rattle.dns_fields_read.specs.Reading.{Reads}
 
 -- lists without an element of a kind
@@ -477,3 +478,146 @@ module _ (words after : List (Bor (List ℕ))) (latitude : ℕ) (first : BeginsW
       is_altitude = is;
       are_sizes = are;
     }
+
+-- words represent one location
+one_angle : (most : ℕ) (words : List (Bor (List ℕ))) (m n : ℕ) → IsAngle most words m → IsAngle most words n → m ≡ n
+one_angle most [] m n a b = absurd a
+one_angle most (word ∷ words) m n a b =
+    let minutes = one_minutes words a.1 b.1 a.3 b.3 in
+    let degrees : a.0 ≡ b.0 = sym a.2.1 ∙ b.2.1 in
+    a.4 ∙ (λ i. degrees i * 3600000 + minutes i) ∙ sym b.4
+
+one_directed : (positive negative word : List ℕ) (angle m n : ℕ) → str_to_ascii_lowercase positive ≢ str_to_ascii_lowercase negative → IsDirected positive negative word angle m
+    → IsDirected positive negative word angle n → m ≡ n
+one_directed positive negative word angle m n apart (inl a) (inl b) = a.1 ∙ sym b.1
+one_directed positive negative word angle m n apart (inl a) (inr b) = absurd (apart (sym a.0 ∙ b.0))
+one_directed positive negative word angle m n apart (inr a) (inl b) = absurd (apart (sym b.0 ∙ a.0))
+one_directed positive negative word angle m n apart (inr a) (inr b) = let first = a.1 in let second = b.1 in omega arith
+
+module _ (positive negative : List ℕ) (letters : BeginsWithLetter positive × BeginsWithLetter negative) (apart : str_to_ascii_lowercase positive ≢ str_to_ascii_lowercase negative) (most : ℕ)
+    (words : List (Bor (List ℕ))) where
+  one_begin : (m n : ℕ) (after after' : List (Bor (List ℕ))) → BeginsWithAngle most positive negative words m after → BeginsWithAngle most positive negative words n after' → m ≡ n
+  one_begin m n after after' x y =
+      let parts =
+      same_split (IsDirection positive negative letters) x.parts y.parts x.direction y.direction after after' (other_angle positive negative letters most x.parts x.angle x.is_angle)
+      (other_angle positive negative letters most y.parts y.angle y.is_angle) (direction_is positive negative letters x.angle m x.direction x.is_directed)
+      (direction_is positive negative letters y.angle n y.direction y.is_directed) (sym x.whole ∙ y.whole) in
+      let angle = one_angle most y.parts x.angle y.angle (subst (λ (ps : List (Bor (List ℕ))). IsAngle most ps x.angle) parts.0 x.is_angle) y.is_angle in
+      one_directed positive negative y.direction.now y.angle m n apart
+      (subst (λ (k : ℕ). IsDirected positive negative y.direction.now k m) angle (subst (λ (d : Bor (List ℕ)). IsDirected positive negative d.now x.angle m) parts.1 x.is_directed)) y.is_directed
+
+one_altitude : (word : List ℕ) (m n : ℕ) → IsAltitude word m → IsAltitude word n → m ≡ n
+one_altitude word m n (_, (c, inl x)) (_, (d, inl y)) = x.1 ∙ ap (λ (k : ℕ). 10000000 + k) (one_length word c d x.0 y.0) ∙ sym y.1
+one_altitude word m n (_, (c, inl x)) (_, (d, inr y)) = absurd (no_sign word y.0 c y.1 x.0)
+one_altitude word m n (_, (c, inr x)) (_, (d, inl y)) = absurd (no_sign word x.0 d x.1 y.0)
+one_altitude word m n (_, (c, inr x)) (_, (d, inr y)) =
+    let same : x.0 ≡ y.0 = ap (λ (t : List ℕ). drop 1 t) (sym x.1 ∙ y.1) in
+    let depth = one_length y.0 c d (subst (λ (t : List ℕ). IsLength t c) same x.2) y.2 in
+    let first = x.3 in
+    let second = y.3 in
+    omega (arith, depth)
+
+-- a length is rounded to one size
+unit_some : (k : ℕ) → 1 ≤ 10 ^ k
+unit_some k = let power = pow-le-pow_right {n = 10} (omega arith) {i = 0} {j = k} (omega arith) in omega (arith, power)
+
+size_some : (octet : ℕ) → 1 ≤ octet / 16 → 1 ≤ size_of octet
+size_some octet some =
+    let size = mul-le-mul_right (10 ^ (octet % 16)) some in
+    let unit = unit_some (octet % 16) in
+    omega (arith, size, unit)
+
+no_lower : (c d e d' e' : ℕ) → d < 10 → 1 ≤ d' → c < d * 10 ^ e + 10 ^ e → d' * 10 ^ e' ≤ c → e < e' → ⊥
+no_lower c d e d' e' small some high low order =
+    let power = pow-le-pow_right {n = 10} (omega arith) {i = suc e} {j = e'} (omega arith) in
+    let next = pow-suc 10 e in
+    let digit : d + 1 ≤ 10 = omega arith in
+    let ten = mul-le-mul_right (10 ^ e) digit in
+    let size = mul-le-mul_right (10 ^ e') some in
+    omega (arith, power, next, ten, size, high, low)
+
+no_less : (c d d' e : ℕ) → c < d * 10 ^ e + 10 ^ e → d' * 10 ^ e ≤ c → d < d' → ⊥
+no_less c d d' e high low order =
+    let next : d + 1 ≤ d' = omega arith in
+    let size = mul-le-mul_right (10 ^ e) next in
+    omega (arith, size, high, low)
+
+abbrev IsPart : ℕ → ℕ → ℕ → Type 0
+IsPart c d e = (d * 10 ^ e ≤ c) × (c < d * 10 ^ e + 10 ^ e)
+
+one_unit : (c d e d' e' : ℕ) → 1 ≤ d → d < 10 → 1 ≤ d' → d' < 10 → IsPart c d e → IsPart c d' e' → e ≡ e'
+one_unit c d e d' e' some small some' small' a b =
+    elim (cases_lt e e') [
+      | inl less ↦ absurd (no_lower c d e d' e' small some' a.1 b.0 less)
+      | inr more ↦ elim (cases_lt e' e) [
+        | inl less ↦ absurd (no_lower c d' e' d e small' some b.1 a.0 less)
+        | inr more' ↦ omega arith
+      ]
+    ]
+
+one_digit : (c d d' e : ℕ) → IsPart c d e → IsPart c d' e → d ≡ d'
+one_digit c d d' e a b =
+    elim (cases_lt d d') [
+      | inl less ↦ absurd (no_less c d d' e a.1 b.0 less)
+      | inr more ↦ elim (cases_lt d' d) [
+        | inl less ↦ absurd (no_less c d' d e b.1 a.0 less)
+        | inr more' ↦ omega arith
+      ]
+    ]
+
+no_zero_size : (c m n : ℕ) → m ≡ 0 → 1 ≤ n / 16 → IsRounded c m → IsRounded c n → ⊥
+no_zero_size c m n none some a b =
+    let high = a.2 in
+    let low = b.1 in
+    let size = ap (λ (k : ℕ). size_of k + 10 ^ (k % 16)) none in
+    omega (arith, high, low, size, size_some n some)
+
+one_rounded : (c m n : ℕ) → IsRounded c m → IsRounded c n → m ≡ n
+one_rounded c m n a b =
+    elim (size_cases m a.0) [
+      | inl none ↦ elim (size_cases n b.0) [
+        | inl none' ↦ none ∙ sym none'
+        | inr parts ↦ absurd (no_zero_size c m n none parts.0 a b)
+      ]
+      | inr parts ↦ elim (size_cases n b.0) [
+        | inl none ↦ absurd (no_zero_size c n m none parts.0 b a)
+        | inr parts' ↦
+            (let units = one_unit c (m / 16) (m % 16) (n / 16) (n % 16) parts.0 parts.1 parts'.0 parts'.1 (a.1, a.2) (b.1, b.2) in
+            let digits = one_digit c (m / 16) (n / 16) (n % 16) (subst (λ (e : ℕ). IsPart c (m / 16) e) units (a.1, a.2)) (b.1, b.2) in
+            omega (arith, units, digits))
+      ]
+    ]
+
+one_size : (word : List ℕ) (m n : ℕ) → IsSize word m → IsSize word n → m ≡ n
+one_size word m n a b = one_rounded b.0 m n (subst (λ (c : ℕ). IsRounded c m) (one_length word a.0 b.0 a.1 b.1) a.2) b.2
+
+one_size_at : (words : List (Bor (List ℕ))) (index default m n : ℕ) → IsSizeAt words index default m → IsSizeAt words index default n → m ≡ n
+one_size_at words index default m n a b = by_word (slice_get words index) a b where
+  by_word : (o : Option (Bor (List ℕ))) → MatchOption o (m ≡ default) (λ (w : Bor (List ℕ)). IsSize w.now m) → MatchOption o (n ≡ default) (λ (w : Bor (List ℕ)). IsSize w.now n) → m ≡ n
+  by_word None a b = a ∙ sym b
+  by_word (Some w) a b = one_size w.now m n a b
+
+one_item : (words : List (Bor (List ℕ))) (x y : LocationItem) → AreLocationWords words x → AreLocationWords words y → x ≡ y
+one_item words x y a b =
+    let after = same_after (codes "N") (codes "S") (refl, refl) 324000000 words x.latitude y.latitude a.after_latitude b.after_latitude a.latitude b.latitude in
+    let second =
+    subst (λ (ws : List (Bor (List ℕ))). BeginsWithAngle 648000000 (codes "E") (codes "W") ws y.longitude (b.altitude ∷ b.sizes)) (sym after) b.longitude in
+    let left =
+    same_after (codes "E") (codes "W") (refl, refl) 648000000 a.after_latitude x.longitude y.longitude (a.altitude ∷ a.sizes) (b.altitude ∷ b.sizes) a.longitude second in
+    let word : a.altitude ≡ b.altitude = cc left in
+    let sizes : a.sizes ≡ b.sizes = cc left in
+    let are = subst (λ (ws : List (Bor (List ℕ))). AreSizes ws x.size x.horizontal x.vertical) sizes a.are_sizes in
+    let latitude =
+    one_begin (codes "N") (codes "S") (refl, refl) (λ e. omega (arith, ap (λ (t : List ℕ). get_or t 0 0) e)) 324000000 words x.latitude y.latitude a.after_latitude b.after_latitude a.latitude
+    b.latitude in
+    let longitude =
+    one_begin (codes "E") (codes "W") (refl, refl) (λ e. omega (arith, ap (λ (t : List ℕ). get_or t 0 0) e)) 648000000 a.after_latitude x.longitude y.longitude (a.altitude ∷ a.sizes)
+    (b.altitude ∷ b.sizes) a.longitude second in
+    let altitude = one_altitude b.altitude.now x.altitude y.altitude (subst (λ (w : Bor (List ℕ)). IsAltitude w.now x.altitude) word a.is_altitude) b.is_altitude in
+    let size = one_size_at b.sizes 0 0x12 x.size y.size are.is_size b.are_sizes.is_size in
+    let horizontal = one_size_at b.sizes 1 0x16 x.horizontal y.horizontal are.is_horizontal b.are_sizes.is_horizontal in
+    let vertical = one_size_at b.sizes 2 0x13 x.vertical y.vertical are.is_vertical b.are_sizes.is_vertical in
+    λ i. record { size = size i; horizontal = horizontal i; vertical = vertical i; latitude = latitude i; longitude = longitude i; altitude = altitude i }
+
+pub one_location : (words : List (Bor (List ℕ))) (xs ys : List ℕ) → IsLocation words xs → IsLocation words ys → xs ≡ ys
+one_location words xs ys a b = a.2 ∙ ap location_octets (one_item words a.0 b.0 a.1 b.1) ∙ sym b.2

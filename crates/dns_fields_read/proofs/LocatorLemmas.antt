@@ -40,7 +40,7 @@ group_read word r few other parsed =
 abbrev pub NoColon : List ℕ → Type 0
 NoColon text = (i : ℕ) → i < length text → get_or text i 0 ≢ 58
 
-digits_no_colon : (digits : List ℕ) → AllDigits 16 digits → NoColon digits
+pub digits_no_colon : (digits : List ℕ) → AllDigits 16 digits → NoColon digits
 digits_no_colon [] all i h = omega arith
 digits_no_colon (d ∷ digits) all zero h = λ colon.
     let first = all.0 in
@@ -76,7 +76,7 @@ no_group text front back whole clear none number after begins =
     none number (subst (λ (digits : List ℕ). IsGroup digits number) parts.0 begins.2)
 
 -- a group and others
-begins_of : (text : List ℕ) (s t : ℕ) (segments : List ℕ) → IsGroups false text (s ∷ t ∷ segments)
+pub begins_of : (text : List ℕ) (s t : ℕ) (segments : List ℕ) → IsGroups false text (s ∷ t ∷ segments)
     → (after : List ℕ) × BeginsWithGroup text s after × IsGroups false after (t ∷ segments)
 begins_of text s t segments (inr dotted) = absurd (false≢true dotted.2)
 begins_of text s t segments (inl (group, rest, whole, is, inr dotted)) = absurd (false≢true dotted.2)
@@ -91,7 +91,7 @@ join text s t after segments begins (inr dotted) = absurd (false≢true dotted.2
 join text s t after segments begins (inl (next, others, whole, is_next, more)) =
     inl (begins.0, 58 ∷ after, begins.1, begins.2, inl (next, others, ap (λ (xs : List ℕ). 58 ∷ xs) whole, is_next, more))
 
-one_group : (text : List ℕ) (s : ℕ) → IsGroups false text (s ∷ []) → IsGroup text s
+pub one_group : (text : List ℕ) (s : ℕ) → IsGroups false text (s ∷ []) → IsGroup text s
 one_group text s (inr dotted) = absurd (false≢true dotted.2)
 one_group text s (inl (group, rest, whole, is, none)) =
     subst (λ (digits : List ℕ). IsGroup digits s) (sym (whole ∙ ap (λ (xs : List ℕ). group ++ xs) none ∙ append-nil group)) is

@@ -1,6 +1,6 @@
 -- Address prefixes and their words.
-use Rattle.std.proofs.Common.{◌≡◌, ◌∙◌, ◌≢◌, ℕ, zero, suc, ◌+◌, ◌-◌, ◌<◌, ◌≤◌, ◌==◌, Bool, true, false, List, [], ◌∷◌, ◌++◌, length, get_or, take, drop, replicate, decimal, refl, sym, ap, subst, arith, inl, inr, append_assoc, length-append, take-append-drop, le-leb}
-use Rattle.std.specs.Prelude.{Result, Ok, Err, OnOk, IfErr, not, if◌then◌else◌, codes}
+use Rattle.std.proofs.Common.{◌≡◌, ◌∙◌, ◌≢◌, ℕ, zero, suc, ◌+◌, ◌-◌, ◌<◌, ◌≤◌, ◌==◌, Bool, true, false, List, [], ◌∷◌, ◌++◌, length, get_or, take, drop, replicate, decimal, refl, sym, ap, subst, arith, inl, inr, append_assoc, length-append, take-append-drop, le-leb, eq-eqb, ne_eqb, ◌*◌, ◌⊎◌}
+use Rattle.std.specs.Prelude.{Result, Ok, Err, OnOk, IfErr, not, nat_le, ◌&&◌, if◌then◌else◌, codes}
 use Rattle.std.specs.Borrow.{Bor}
 use Rattle.std.specs.Char.{digit_value}
 use Rattle.std.specs.Net.Grammar.{IsDotted, IsNumber}
@@ -8,16 +8,18 @@ use Rattle.std.specs.Str.{NoCharPasses}
 use Rattle.std.specs.Str.Parse.{AllDigits}
 use Rattle.std.specs.Str.Pattern.{RFindsChar, SplitsAroundMatch}
 use Rattle.std.proofs.Math.Seq.{get_or-append_seam}
-use Rattle.std.proofs.lemmas.Bool.{and_from, eqb-true}
+use Rattle.std.proofs.lemmas.Bool.{and_from, and_parts, cond-false, cond-true, eqb-true, leb-true}
 use Rattle.std.proofs.lemmas.Fmt.{decimal_digit}
 use Rattle.std.proofs.lemmas.List.{take_all, take-replicate}
 use Rattle.std.proofs.lemmas.Str.Pattern.{NoCharPasses-char, drop_at_char}
 use Rattle.dns_fields_text.specs.PrefixItems.{PrefixItem}
-use Rattle.dns_fields_text.specs.Prefixes.{fits, is_trimmed, padded, sign}
+use Rattle.dns_fields_text.specs.Prefixes.{fits, has_word, is_trimmed, padded, sign}
 use Rattle.dns_value_text.specs.declared.text_error.TextError.{TextError}
 use Rattle.dns_value_text.specs.declared.text_error.TextError.TheVariants.{OutOfMemory}
 use Rattle.dns_fields_read.specs.Addresses.{IsIpv6Word}
-use Rattle.dns_fields_read.specs.PrefixWords.{AppendsPrefix, AppendsPrefixes, IsAddressWord, IsPrefixOf, IsPrefixWord, SplitsSign, prefix_octets}
+use Rattle.dns_fields_read.specs.PrefixWords.{AppendsPrefix, AppendsPrefixes, ArePrefixWords, IsAddressWord, IsPrefixOf, IsPrefixWord, SplitsSign, prefix_octets}
+use Rattle.dns_fields_read.proofs.ByteLemmas.{nonzero}
+use Rattle.dns_fields_read.proofs.OneWords.{one_ipv4, one_ipv6}
 use Rattle.dns_fields_read.proofs.LocatorLemmas.{NoColon, same_parts}
 
 -- octets without their last zeros
@@ -141,6 +143,10 @@ family_small : (address : List ℕ) (item : PrefixItem) → IsAddressWord addres
 family_small address item (inl dotted) = let one = dotted.0 in (omega arith, omega arith)
 family_small address item (inr colon) = let two = colon.0 in (omega arith, omega arith)
 
+one_digit : (d : ℕ) → d < 58 → NoColon (d ∷ [])
+one_digit d small zero h = λ e. let same : d ≡ 58 = e in omega arith
+one_digit d small (suc i) h = omega arith
+
 -- the sign
 sign_is : (word after rest : List ℕ) (d : ℕ) (n m : Bool) → d ≢ 33 → word ≡ (if n then codes "!" else []) ++ (d ∷ rest) → word ≡ (if m then codes "!" else []) ++ after
     → (m ≡ false → get_or word 0 0 ≢ 33) → (n ≡ m) × (after ≡ d ∷ rest)
@@ -172,10 +178,7 @@ module _ (word after : List ℕ) (negated : Bool) (split : SplitsSign word negat
     rest_is item is =
         let small = family_small is.address item is.is.is_address in
         same_parts family ((48 + item.family) ∷ []) rest (is.address ++ 47 ∷ is.size) clear
-        (digit_clear (48 + item.family) (omega (arith, small.1))) (sym first ∙ (unsigned item is).1) where
-          digit_clear : (d : ℕ) → d < 58 → NoColon (d ∷ [])
-          digit_clear d small zero h = λ e. let same : d ≡ 58 = e in omega arith
-          digit_clear d small (suc i) h = omega arith
+        (one_digit (48 + item.family) (omega (arith, small.1))) (sym first ∙ (unsigned item is).1)
 
     -- the text after the colon has no slash
     pub no_size : NoSlash rest → (item : PrefixItem) → ¬ (IsPrefixWord word item)
@@ -268,3 +271,81 @@ appends_none (word ∷ words) d old new e some (inr bad) = inr (bad.0, λ octets
 pub no_sign : (word : List ℕ) → ((rest : List ℕ) → word ≢ 33 ∷ rest) → get_or word 0 0 ≢ 33
 no_sign [] none = λ e. omega arith
 no_sign (x ∷ word) none = λ e. none word (ap (λ (h : ℕ). h ∷ word) e)
+
+-- octets without their last zeros are the same if they are with zeros after them
+no_zeros : (k j y : ℕ) (ys : List ℕ) → is_trimmed (y ∷ ys) ≡ true → replicate k 0 ≡ y ∷ (ys ++ replicate j 0) → ⊥
+no_zeros zero j y ys trim e = cc e
+no_zeros (suc k) j y [] trim e =
+    let same : 0 ≡ y = ap (λ (xs : List ℕ). get_or xs 0 0) e in
+    let some = nonzero y trim in
+    omega (arith, same, some)
+no_zeros (suc k) j y (z ∷ ys) trim e = no_zeros k j z ys trim (ap (drop 1) e)
+
+rest_trimmed : (x : ℕ) (xs : List ℕ) → is_trimmed (x ∷ xs) ≡ true → is_trimmed xs ≡ true
+rest_trimmed x [] trim = refl
+rest_trimmed x (y ∷ xs) trim = trim
+
+same_trimmed : (xs ys : List ℕ) (k j : ℕ) → is_trimmed xs ≡ true → is_trimmed ys ≡ true → xs ++ replicate k 0 ≡ ys ++ replicate j 0 → xs ≡ ys
+same_trimmed [] [] k j a b e = refl
+same_trimmed [] (y ∷ ys) k j a b e = absurd (no_zeros k j y ys b e)
+same_trimmed (x ∷ xs) [] k j a b e = absurd (no_zeros j k x xs a (sym e))
+same_trimmed (x ∷ xs) (y ∷ ys) k j a b e =
+    let first : x ≡ y = ap (λ (zs : List ℕ). get_or zs 0 0) e in
+    let others = same_trimmed xs ys k j (rest_trimmed x xs a) (rest_trimmed y ys b) (ap (drop 1) e) in
+    ap (λ (z : ℕ). z ∷ xs) first ∙ ap (λ (zs : List ℕ). y ∷ zs) others
+
+same_padded : (width : ℕ) (x y : PrefixItem) → fits width x ≡ true → fits width y ≡ true → padded width x.address ≡ padded width y.address → x.address ≡ y.address
+same_padded width x y a b e =
+    let one = and_parts (nat_le (length x.address) width) (nat_le x.size (width * 8) && is_trimmed x.address) a in
+    let two = and_parts (nat_le (length y.address) width) (nat_le y.size (width * 8) && is_trimmed y.address) b in
+    same_trimmed x.address y.address (width - length x.address) (width - length y.address) (and_parts (nat_le x.size (width * 8)) (is_trimmed x.address) one.1).1
+    (and_parts (nat_le y.size (width * 8)) (is_trimmed y.address) two.1).1
+    (sym (front width width x.address (leb-true (length x.address) width one.0) (omega arith)) ∙ e ∙ front width width y.address (leb-true (length y.address) width two.0) (omega arith))
+
+-- whether a prefix of a family has a presentation format
+fits_of : (width : ℕ) (item : PrefixItem) → has_word item ≡ true → (item.family ≡ 1) × (width ≡ 4) ⊎ (item.family ≡ 2) × (width ≡ 16) → fits width item ≡ true
+fits_of width item known (inl (one, four)) = subst (λ (w : ℕ). fits w item ≡ true) (sym four) (sym (cond-true _ _ _ (eq-eqb item.family 1 one)) ∙ known)
+fits_of width item known (inr (two, sixteen)) =
+    subst (λ (w : ℕ). fits w item ≡ true) (sym sixteen)
+    (sym (cond-false _ _ _ (ne_eqb item.family 1 (λ e. omega (arith, two, e))) ∙ cond-true _ _ _ (eq-eqb item.family 2 two)) ∙ known)
+
+-- a word represents one prefix
+one_address : (address : List ℕ) (x y : PrefixItem) → has_word x ≡ true → has_word y ≡ true → IsAddressWord address x → IsAddressWord address y → x.family ≡ y.family → x.address ≡ y.address
+one_address address x y a b (inl p) (inl q) same =
+    same_padded 4 x y (fits_of 4 x a (inl (p.0, refl))) (fits_of 4 y b (inl (q.0, refl))) (one_ipv4 address (padded 4 x.address) (padded 4 y.address) p.1 q.1)
+one_address address x y a b (inl p) (inr q) same = absurd (omega (arith, p.0, q.0, same))
+one_address address x y a b (inr p) (inl q) same = absurd (omega (arith, p.0, q.0, same))
+one_address address x y a b (inr p) (inr q) same =
+    same_padded 16 x y (fits_of 16 x a (inr (p.0, refl))) (fits_of 16 y b (inr (q.0, refl))) (one_ipv6 address (padded 16 x.address) (padded 16 y.address) p.1 q.1)
+
+own_sign : (word : List ℕ) (item : PrefixItem) (is : IsPrefixWord word item) → SplitsSign word item.negated (after_sign item is.address is.size)
+own_sign word item is =
+    let small = family_small is.address item is.is.is_address in
+    let digit = family_digit is.address item is.is.is_address in
+    let text : word ≡ sign item ++ after_sign item is.address is.size = is.whole ∙ ap (λ (xs : List ℕ). sign item ++ (xs ++ (58 ∷ (is.address ++ 47 ∷ is.size)))) digit in
+    record {
+      whole = text;
+      first = λ plain same.
+          let whole : word ≡ after_sign item is.address is.size = text ∙ ap (λ (n : Bool). (if n then codes "!" else []) ++ after_sign item is.address is.size) plain in
+          omega (arith, same, ap (λ (xs : List ℕ). get_or xs 0 0) whole, small.0);
+    }
+
+pub one_prefix : (word : List ℕ) (x y : PrefixItem) → IsPrefixWord word x → IsPrefixWord word y → x ≡ y
+one_prefix word x y a b =
+    let small = family_small a.address x a.is.is_address in
+    let parts =
+    parts_of word (after_sign x a.address a.size) x.negated (own_sign word x a) ((48 + x.family) ∷ []) (a.address ++ 47 ∷ a.size) refl (one_digit (48 + x.family) (omega (arith, small.1))) a.address a.size refl
+    (digits_no_slash a.size a.is.is_size.0.1) y b in
+    let digit : 48 + x.family ≡ 48 + y.family = ap (λ (xs : List ℕ). get_or xs 0 0) parts.1 in
+    let family : x.family ≡ y.family = omega (arith, digit) in
+    let address = one_address a.address x y a.is.known b.is.known a.is.is_address parts.2.is_address family in
+    let negated = sym parts.0 in
+    let size : x.size ≡ y.size = sym a.is.is_size.1 ∙ parts.2.is_size.1 in
+    λ i. record { family = family i; size = size i; negated = negated i; address = address i }
+
+pub one_prefixes : (words : List (Bor (List ℕ))) (xs ys : List ℕ) → ArePrefixWords words xs → ArePrefixWords words ys → xs ≡ ys
+one_prefixes [] xs ys a b = a ∙ sym b
+one_prefixes (word ∷ words) xs ys a b =
+    let first = one_prefix word.now a.0 b.0 a.2 b.2 in
+    let others = one_prefixes words a.1 b.1 a.4 b.4 in
+    a.3 ∙ (λ i. prefix_octets (first i) ++ others i) ∙ sym b.3

@@ -18,11 +18,11 @@ use Rattle.dns_fields_read.proofs.ByteLemmas.{nonzero}
 use Rattle.dns_fields_read.proofs.TypeMapLemmas.{bit_range, ends_of, octet_cases, octet_range}
 
 -- the highest bit of an octet
-bit_clear : (count first octet n : ℕ) → octet < 128 → has (bit_types (suc count) first octet) n ≡ has (bit_types count (first + 1) (octet % 128 * 2)) n
+pub bit_clear : (count first octet n : ℕ) → octet < 128 → has (bit_types (suc count) first octet) n ≡ has (bit_types count (first + 1) (octet % 128 * 2)) n
 bit_clear count first octet n low =
     ap (λ (b : Bool). has ((if b then first ∷ [] else []) ++ bit_types count (first + 1) (octet % 128 * 2)) n) (lt-leb 128 octet low)
 
-bit_set : (count first octet : ℕ) → 128 ≤ octet → has (bit_types (suc count) first octet) first ≡ true
+pub bit_set : (count first octet : ℕ) → 128 ≤ octet → has (bit_types (suc count) first octet) first ≡ true
 bit_set count first octet high =
     ap (λ (b : Bool). has ((if b then first ∷ [] else []) ++ bit_types count (first + 1) (octet % 128 * 2)) first) (le-leb 128 octet high)
     ∙ or_left (first == first) (has (bit_types count (first + 1) (octet % 128 * 2)) first) (eq-eqb first first refl)
@@ -55,7 +55,7 @@ type_is_small (octet ∷ octets) n small h =
     let range = octet_range (octet ∷ octets) 0 n h in
     (some_type octet n octets first h, omega arith)
 
-ends : (octets : List ℕ) → is_small_map octets ≡ true → ends_nonzero octets ≡ true
+pub ends : (octets : List ℕ) → is_small_map octets ≡ true → ends_nonzero octets ≡ true
 ends [] small = absurd (false≢true small)
 ends (octet ∷ octets) small = (and_parts (nat_lt octet 128 && nat_lt (length octets) 16) (ends_nonzero (octet ∷ octets)) small).1
 
@@ -78,7 +78,7 @@ some_bit (suc count) first m k octet e multiple some small =
     ]
 
 -- octets that don't end with zero have a type
-has_some : (octets : List ℕ) (first : ℕ) → IsBytes octets → ends_nonzero octets ≡ true → (n : ℕ) × (has (octet_types first octets) n ≡ true)
+pub has_some : (octets : List ℕ) (first : ℕ) → IsBytes octets → ends_nonzero octets ≡ true → (n : ℕ) × (has (octet_types first octets) n ≡ true)
 has_some [] first bytes end = absurd (false≢true end)
 has_some (octet ∷ []) first bytes end =
     let bit = some_bit 8 first 1 octet octet refl (omega arith) (nonzero octet end) (bytes 0) in

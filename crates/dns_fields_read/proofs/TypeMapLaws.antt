@@ -41,7 +41,7 @@ not_both : (text : List ℕ) (k n : ℕ) → IsMnemonic type_mnemonics text k �
 unfolding type_mnemonics
 not_both text k n h x = apart (codes "TYPE") text type_mnemonics k n refl h x
 
-one_word : (word : List ℕ) (k n : ℕ) → IsTypeWord word k → IsTypeWord word n → k ≡ n
+pub one_word : (word : List ℕ) (k n : ℕ) → IsTypeWord word k → IsTypeWord word n → k ≡ n
 one_word word k n (inl h) (inl g) = mnemonic_same word table_mnemonics k n table_distinct h g
 one_word word k n (inl h) (inr s) = one_type word k n h s
 one_word word k n (inr s) (inl g) = sym (one_type word n k g s)
@@ -51,7 +51,7 @@ one_word word k n (inr (inr x)) (inr (inl h)) = absurd (not_both word n k h x)
 one_word word k n (inr (inr x)) (inr (inr y)) = numbered_same (codes "TYPE") word k n x y
 
 -- types of blocks have 16 bits
-map_bound : (fuel least n : ℕ) (octets : List ℕ) → length octets ≤ fuel → IsBytes octets → blocks_after least 0 octets ≡ true → has (map_types octets) n ≡ true → n < 65536
+pub map_bound : (fuel least n : ℕ) (octets : List ℕ) → length octets ≤ fuel → IsBytes octets → blocks_after least 0 octets ≡ true → has (map_types octets) n ≡ true → n < 65536
 map_bound fuel least n [] few bytes blocks h = absurd (false≢true h)
 map_bound fuel least n (window ∷ []) few bytes blocks h = absurd (false≢true blocks)
 map_bound zero least n (window ∷ size ∷ octets) few bytes blocks h = absurd (omega arith)

@@ -1,11 +1,10 @@
 -- Values of service parameters with a named key.
-use Rattle.std.proofs.Common.{◌≡◌, ◌∙◌, ◌≢◌, ℕ, zero, suc, ◌-◌, ◌*◌, ◌/◌, ◌%◌, ◌≤◌, ◌==◌, Bool, true, false, List, [], ◌∷◌, ◌++◌, length, get_or, replicate, refl, sym, ap, subst, arith, inl, inr, length-append, ne_eqb}
+use Rattle.std.proofs.Common.{◌≡◌, ◌∙◌, ◌≢◌, ℕ, zero, suc, ◌-◌, ◌/◌, ◌%◌, ◌≤◌, ◌==◌, Bool, true, false, List, [], ◌∷◌, ◌++◌, length, get_or, refl, sym, ap, subst, arith, inl, inr, ne_eqb}
 use Rattle.std.specs.Prelude.{Result, Ok, Err, ◌&&◌, nat_le, slice_index}
 use Rattle.std.specs.Bool.{MatchBool}
 use Rattle.std.specs.Global.{Vec}
 use Rattle.std.specs.List.{flat_map}
-use Rattle.std.specs.Net.Addr.{octets_of}
-use Rattle.std.specs.Net.Grammar.{IsColonHex, IsDotted}
+use Rattle.std.specs.Net.Grammar.{IsDotted}
 use Rattle.std.specs.Str.Parse.{IsNumeral, digits_value}
 use Rattle.std.proofs.lemmas.Bool.{and_parts, cond-false, eqb-true, false≢true}
 use Rattle.dns_value_text.specs.declared.text_error.TextError.{TextError}
@@ -13,9 +12,11 @@ use Rattle.dns_value_text.specs.Octets.{IsBase64}
 use Rattle.dns_value_text.specs.Reading.{ReadsOctets}
 use Rattle.dns_value_text.specs.Strings.{SpellsString, is_quoted, unquoted}
 use Rattle.dns_fields_read.specs.Addresses.{IsIpv6Word}
-use Rattle.dns_fields_read.specs.ParameterValues.{AppendsOctets, AreHints, AreMandatory, AreProtocols, IsAlpn, IsEch, IsHint, IsListedKey, IsNamedValue, IsNothing, IsPort, comma_texts, two_octets}
-use Rattle.dns_fields_read.proofs.AnyOrderLemmas.{same_count}
-use Rattle.dns_fields_read.proofs.CommaLemmas.{joined_size}
+use Rattle.dns_fields_read.specs.ParameterValues.{AppendsOctets, AreHints, AreJoined, AreMandatory, AreProtocols, IsAlpn, IsEch, IsHint, IsListedKey, IsNamedValue, IsNothing, IsPort, comma_texts, two_octets}
+use Rattle.dns_fields_read.specs.Laws.{RepresentsOne}
+use Rattle.dns_fields_read.proofs.AnyOrderLemmas.{one_order}
+use Rattle.dns_fields_read.proofs.KeyLemmas.{one_key}
+use Rattle.dns_fields_read.proofs.OneWords.{one_ipv4, one_ipv6, same_value}
 use Rattle.dns_fields_read.proofs.ProtocolLemmas.{one_list}
 use Rattle.dns_fields_read.proofs.StringLaws.{within_is}
 use Rattle.dns_fields_read.proofs.StringLemmas.{one_string}
@@ -139,73 +140,40 @@ appended Is more old new (Err e) is (inr bad) = absurd (bad.1 more refl)
 pub all_appended : (Is : List ℕ → Type 0) (old new : List ℕ) (u : Unit {0}) → old ≡ [] → AppendsOctets Is old new (Ok u) → Is new
 all_appended Is old new u empty (octets, is, e) = subst Is (sym (e ∙ ap (λ (xs : List ℕ). xs ++ octets) empty)) is
 
--- sizes
-zeros : (n : ℕ) → length {A = ℕ} (replicate n 0) ≡ n
-zeros zero = refl
-zeros (suc n) = let rest = zeros n in omega arith
+-- a text is one value
+one_joined : (Is : List ℕ → List ℕ → Type 0) → RepresentsOne Is → RepresentsOne (AreJoined Is)
+one_joined Is one [] xs ys a b = a ∙ sym b
+one_joined Is one (text ∷ texts) xs ys a b =
+    let first = one text a.0 b.0 a.2 b.2 in
+    let others = one_joined Is one texts a.1 b.1 a.4 b.4 in
+    a.3 ∙ (λ i. first i ++ others i) ∙ sym b.3
 
-eight : (text segments : List ℕ) → IsColonHex text segments → length segments ≡ 8
-eight text segments (inl whole) = whole.1
-eight text segments (inr elided) =
-    let room = elided.room in
-    let middle = zeros (8 - length elided.head - length elided.tail) in
-    omega (
-      arith,
-      room,
-      middle,
-      ap length elided.value,
-      length-append (elided.head ++ replicate (8 - length elided.head - length elided.tail) 0) elided.tail,
-      length-append elided.head (replicate (8 - length elided.head - length elided.tail) 0),
-    )
+one_mandatory : (text v w : List ℕ) → AreMandatory text v → AreMandatory text w → v ≡ w
+one_mandatory text v w a b =
+    let same =
+    one_order IsListedKey (λ (key : ℕ). key) (λ t m n x y. one_key t m n x.0 y.0) (comma_texts text) a.keys b.keys a.listed b.listed a.increasing b.increasing in
+    a.octets ∙ ap (λ (keys : List ℕ). flat_map two_octets keys) same ∙ sym b.octets
 
-two_each : (segments : List ℕ) → length (octets_of segments) ≡ 2 * length segments
-two_each [] = refl
-two_each (s ∷ segments) = let rest = two_each segments in omega arith
-
-hint_size : (text octets : List ℕ) → IsHint 4 text octets → length octets ≡ 4
-hint_size text octets is = ap length is.value
-
-long_hint_size : (text octets : List ℕ) → IsHint 6 text octets → length octets ≡ 16
-long_hint_size text octets (segments, is, whole) =
-    let count = eight text segments is in
-    let double = two_each segments in
-    omega (arith, count, double, ap length whole)
-
-pub keys_size : (keys : List ℕ) → length (flat_map two_octets keys) ≡ 2 * length keys
-keys_size [] = refl
-keys_size (key ∷ keys) = let rest = keys_size keys in omega arith
-
-mandatory_size : (text v w : List ℕ) → AreMandatory text v → AreMandatory text w → length v ≡ length w
-mandatory_size text v w a b =
-    let first = same_count IsListedKey (λ (key : ℕ). key) (comma_texts text) a.keys a.listed in
-    let second = same_count IsListedKey (λ (key : ℕ). key) (comma_texts text) b.keys b.listed in
-    omega (arith, first, second, ap length a.octets, ap length b.octets, keys_size a.keys, keys_size b.keys)
-
-alpn_size : (text v w : List ℕ) → IsAlpn text v → IsAlpn text w → length v ≡ length w
-alpn_size text v w (octets, a, first) (others, b, second) =
+one_alpn : (text v w : List ℕ) → IsAlpn text v → IsAlpn text w → v ≡ w
+one_alpn text v w (octets, a, first) (others, b, second) =
     let same = one_string text others octets b a in
-    ap length (one_list octets v w first (subst (λ (os : List ℕ). AreProtocols os w) same second))
+    one_list octets v w first (subst (λ (os : List ℕ). AreProtocols os w) same second)
 
-port_size : (text v w : List ℕ) → IsPort text v → IsPort text w → length v ≡ length w
-port_size text v w (m, is, small, first) (n, is_too, small_too, second) = ap length first ∙ sym (ap length second)
+one_port : (text v w : List ℕ) → IsPort text v → IsPort text w → v ≡ w
+one_port text v w (m, is, small, first) (n, is_too, small_too, second) = first ∙ ap two_octets (sym is.1 ∙ is_too.1) ∙ sym second
 
-ech_size : (text v w : List ℕ) → IsEch text v → IsEch text w → length v ≡ length w
-ech_size text v w a b =
-    let same : v ≡ w = cc (sym a.0 ∙ b.0) in
-    ap length same
+one_nothing : (text v w : List ℕ) → IsNothing text v → IsNothing text w → v ≡ w
+one_nothing text v w a b = one_string text v w a.0 b.0
 
-size_by : (b0 b1 b3 b4 b5 b6 b7 : Bool) (text v w : List ℕ) → By b0 b1 b3 b4 b5 b6 b7 text v → By b0 b1 b3 b4 b5 b6 b7 text w → length v ≡ length w
-size_by true b1 b3 b4 b5 b6 b7 text v w a b = mandatory_size (unquoted text) v w a b
-size_by false true b3 b4 b5 b6 b7 text v w a b = alpn_size text v w a b
-size_by false false true b4 b5 b6 b7 text v w a b = port_size (unquoted text) v w a b
-size_by false false false true b5 b6 b7 text v w a b =
-    joined_size (IsHint 4) 4 hint_size (comma_texts (unquoted text)) v a ∙ sym (joined_size (IsHint 4) 4 hint_size (comma_texts (unquoted text)) w b)
-size_by false false false false true b6 b7 text v w a b = ech_size (unquoted text) v w a b
-size_by false false false false false true b7 text v w a b =
-    joined_size (IsHint 6) 16 long_hint_size (comma_texts (unquoted text)) v a ∙ sym (joined_size (IsHint 6) 16 long_hint_size (comma_texts (unquoted text)) w b)
-size_by false false false false false false true text v w a b = ap length (one_string text v w a b)
-size_by false false false false false false false text v w a b = a.1 ∙ sym b.1
+one_by : (b0 b1 b3 b4 b5 b6 b7 : Bool) (text v w : List ℕ) → By b0 b1 b3 b4 b5 b6 b7 text v → By b0 b1 b3 b4 b5 b6 b7 text w → v ≡ w
+one_by true b1 b3 b4 b5 b6 b7 text v w a b = one_mandatory (unquoted text) v w a b
+one_by false true b3 b4 b5 b6 b7 text v w a b = one_alpn text v w a b
+one_by false false true b4 b5 b6 b7 text v w a b = one_port (unquoted text) v w a b
+one_by false false false true b5 b6 b7 text v w a b = one_joined (IsHint 4) one_ipv4 (comma_texts (unquoted text)) v w a b
+one_by false false false false true b6 b7 text v w a b = same_value _ v w a.0 b.0
+one_by false false false false false true b7 text v w a b = one_joined (IsHint 6) one_ipv6 (comma_texts (unquoted text)) v w a b
+one_by false false false false false false true text v w a b = one_string text v w a b
+one_by false false false false false false false text v w a b = one_nothing text v w a b
 
--- all values of a text have one size
-pub one_size : (key : ℕ) (text v w : List ℕ) → IsNamedValue key text v → IsNamedValue key text w → length v ≡ length w
-one_size key text v w a b = size_by (key == 0) (key == 1) (key == 3) (key == 4) (key == 5) (key == 6) (key == 7) text v w a b
+pub one_value : (key : ℕ) (text v w : List ℕ) → IsNamedValue key text v → IsNamedValue key text w → v ≡ w
+one_value key text v w a b = one_by (key == 0) (key == 1) (key == 3) (key == 4) (key == 5) (key == 6) (key == 7) text v w a b

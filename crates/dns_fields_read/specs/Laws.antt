@@ -1,4 +1,4 @@
--- What is printed of a value reads back as that value.
+-- What is printed of a value reads back as that value. Words represent at most one value.
 use Rattle.std.specs.Prelude.{◌≡◌, ℕ, ◌<◌, ◌≤◌, ◌^◌, true, List, length, map, All, Some, ◌++◌, codes, ◌≢◌}
 use Rattle.std.specs.Borrow.{Bor}
 use Rattle.std.specs.Net.Addr.{segments_of}
@@ -128,3 +128,7 @@ SizedReadBack = (octets : List ℕ) (words : List (Bor (List ℕ))) → IsBytes 
 -- service parameters, by name if the value is well-formed for the key, else by number
 abbrev pub ParametersReadBack : Type 0
 ParametersReadBack = (item : ParameterItem) → IsBytes item.value → item.key < 2 ^ 16 → length item.value < 2 ^ 16 → IsParameterWord (parameter_word item) item
+
+-- words represent at most one value
+abbrev pub RepresentsOne : {W X : Type 0} → (W → X → Type 0) → Type 0
+RepresentsOne {W} {X} Represents = (words : W) (x y : X) → Represents words x → Represents words y → x ≡ y

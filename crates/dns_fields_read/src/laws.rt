@@ -1,5 +1,22 @@
 //! Theorems on values and their words. Each contract is a theorem.
-ghost use Rattle.dns_fields_read.specs.Laws.{EuiReadsBack, HashesReadBack, Ipv4ReadsBack, Ipv6ReadsBack, LocatorsReadBack, NamesReadBack, PrefixFieldsReadBack, PrefixesReadBack, SaltsReadBack, SmallTypeMapsReadBack, StringsReadBack, TagsReadBack, TimesReadBack, TypeMapsReadBack, TypesReadBack, GatewaysReadBack, IdentitiesReadBack, RelaysReadBack, SizedReadBack, ParametersReadBack, LocationsReadBack};
+ghost use Rattle.std.specs.Prelude.{ℕ};
+ghost use Rattle.std.specs.Net.Grammar.{IsDotted};
+ghost use Rattle.dns_fields_read.specs.Addresses.{IsIpv6Word};
+ghost use Rattle.dns_fields_read.specs.EuiWords.{IsEuiWord};
+ghost use Rattle.dns_fields_read.specs.GatewayWords.{IsGateway, IsRelay};
+ghost use Rattle.dns_fields_read.specs.IdentityWords.{IsHostIdentity};
+ghost use Rattle.dns_fields_read.specs.JoinedWords.{AreBase64, AreHex};
+ghost use Rattle.dns_fields_read.specs.Laws.{EuiReadsBack, HashesReadBack, Ipv4ReadsBack, Ipv6ReadsBack, LocatorsReadBack, NamesReadBack, PrefixFieldsReadBack, PrefixesReadBack, SaltsReadBack, SmallTypeMapsReadBack, StringsReadBack, TagsReadBack, TimesReadBack, TypeMapsReadBack, TypesReadBack, GatewaysReadBack, IdentitiesReadBack, RelaysReadBack, SizedReadBack, ParametersReadBack, LocationsReadBack, RepresentsOne};
+ghost use Rattle.dns_fields_read.specs.LocationWords.{IsLocation};
+ghost use Rattle.dns_fields_read.specs.LocatorWords.{IsLocatorWord};
+ghost use Rattle.dns_fields_read.specs.NameWords.{IsNameWord};
+ghost use Rattle.dns_fields_read.specs.ParameterWords.{AreParameterWords};
+ghost use Rattle.dns_fields_read.specs.PrefixWords.{ArePrefixWords};
+ghost use Rattle.dns_fields_read.specs.Salts.{IsHashWord, IsSaltWord};
+ghost use Rattle.dns_fields_read.specs.SizedWords.{IsSizedWords};
+ghost use Rattle.dns_fields_read.specs.TimeWords.{IsTimeWord};
+ghost use Rattle.dns_fields_read.specs.TypeMapWords.{IsSmallTypeMap, IsTypeMap};
+ghost use Rattle.dns_fields_read.specs.TypeWords.{IsTypeWord};
 
 use dns_value_text::laws::printed_values_read_back;
 
@@ -29,3 +46,27 @@ pub fn printed_fields_read_back()
 {
     printed_values_read_back();
 }
+
+/// Words represent at most one value of a field.
+pub fn words_represent_one()
+    ensures types { RepresentsOne IsTypeWord }
+    ensures times { RepresentsOne IsTimeWord }
+    ensures ipv4 { RepresentsOne IsDotted }
+    ensures ipv6 { RepresentsOne IsIpv6Word }
+    ensures eui { (size : ℕ) → RepresentsOne (IsEuiWord size) }
+    ensures locators { RepresentsOne IsLocatorWord }
+    ensures names { RepresentsOne IsNameWord }
+    ensures hexadecimal { RepresentsOne AreHex }
+    ensures base64 { RepresentsOne AreBase64 }
+    ensures salts { RepresentsOne IsSaltWord }
+    ensures hashes { RepresentsOne IsHashWord }
+    ensures sized { RepresentsOne IsSizedWords }
+    ensures gateways { RepresentsOne IsGateway }
+    ensures relays { RepresentsOne IsRelay }
+    ensures identities { RepresentsOne IsHostIdentity }
+    ensures type_maps { RepresentsOne IsTypeMap }
+    ensures small_type_maps { RepresentsOne IsSmallTypeMap }
+    ensures locations { RepresentsOne IsLocation }
+    ensures prefixes { RepresentsOne ArePrefixWords }
+    ensures parameters { RepresentsOne AreParameterWords }
+{}

@@ -25,5 +25,5 @@ pub use Rattle.dns_fields_text.specs.ZoneNames.{zone_name_text}
 unfoldable pub use Rattle.dns_fields_text.specs.TypeNames.{mnemonic}
 pub use Rattle.dns_fields_text.specs.TypeNames.{type_word}
 pub use Rattle.dns_line_words.specs.LineWords.{AreWordsOf, SplitsWords}
-pub use Rattle.dns_data_read.specs.DataWords.{IsDataText, IsNoData, ReadsData}
-pub use Rattle.dns_data_read.specs.RecordWords.{IsRecordText, IsNoRecord, ReadsRecord}
+pub use Rattle.dns_data_read.specs.DataWords.{IsDataText, ReadsData}
+pub use Rattle.dns_data_read.specs.RecordWords.{IsRecordText, ReadsRecord}
