@@ -17,14 +17,14 @@ use Rattle.dns_fields_text.specs.GatewayTexts.{gateway_at, gateway_text, gateway
 use Rattle.dns_fields_text.specs.HostIdentities.{identity_parts, identity_text, identity_words, servers_in, servers_text}
 use Rattle.dns_fields_text.specs.ZoneNames.{zone_name_text}
 use Rattle.dns_line_words.specs.LineWords.{EndsWord, IsWord}
-use Rattle.dns_line_words.specs.LineWords.IsRest.{nothing, plain}
 use Rattle.dns_line_words.specs.ListLaws.{word_of_any}
-use Rattle.dns_line_words.proofs.Ipv6Texts.{ipv6_word}
 use Rattle.dns_line_words.proofs.ListTexts.{gateway_split, relay_split, some_same, then_word}
 use Rattle.dns_line_words.proofs.PrefixTexts.{bytes_take}
 use Rattle.dns_line_words.proofs.SpacedTexts.{AreSpaced, one_word, spaced_append}
 use Rattle.dns_line_words.proofs.SpacedTexts.AreSpaced.{nothing as no_words, space, word as first_word}
-use Rattle.dns_line_words.proofs.WordTexts.{BeginsLabel, base64_word, decimal_word, hex_word, ipv4_word, labels_word}
+use Rattle.dns_line_words.proofs.WordTexts.{BeginsLabel, is_word}
+use Rattle.dns_line_words.proofs.WordTexts.IsBare.{nothing, plain}
+use Rattle.dns_line_words.proofs.Words.{base64_word, decimal_word, hex_word, ipv4_word, ipv6_word, labels_word}
 
 -- a value and the octets after it
 abbrev some_pair : {A : Type 0} → A → List ℕ → Option (A × List ℕ)
@@ -79,7 +79,7 @@ name_taken (Some (name, left)) octets word after e f = subst IsWord (first_same 
 gateway_by : (octets word after : List ℕ) → IsBytes octets → (a b c d : Bool)
     → (if a then some_pair (codes ".") octets else if b then word_at 4 ipv4_text octets else if c then word_at 16 (λ address. ipv6_text (segments_of address)) octets else if d then name_word_at octets else None) ≡ Some (word, after)
     → IsWord word
-gateway_by octets word after bytes true b c d e = subst IsWord (first_same (codes ".") word octets after e) (omega arith, plain refl nothing)
+gateway_by octets word after bytes true b c d e = subst IsWord (first_same (codes ".") word octets after e) (is_word (omega arith, plain refl nothing))
 gateway_by octets word after bytes false true c d e =
     let parts = taken 4 ipv4_text octets word after e in subst IsWord parts.1 (ipv4_word (take 4 octets) (bytes_take 4 octets bytes))
 gateway_by octets word after bytes false false true d e =
