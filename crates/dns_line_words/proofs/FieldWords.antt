@@ -39,14 +39,13 @@ use Rattle.dns_line_words.specs.FieldLaws.{AreFields, IsPartOf}
 use Rattle.dns_line_words.specs.LineWords.{AreWordsOf, EndsWord, IsWord}
 use Rattle.dns_line_words.specs.LocationLaws.{FitsLocation}
 use Rattle.dns_line_words.proofs.GatewayTexts.{gateways_split, identities_split, relays_split}
-use Rattle.dns_line_words.proofs.Ipv6Texts.{ipv6_word}
 use Rattle.dns_line_words.proofs.ListTexts.{Steps, bytes_drop, items_all, prefixes_split, sized_split, some_same, strings_split, types_split}
 use Rattle.dns_line_words.proofs.LocationTexts.{location_spaced}
 use Rattle.dns_line_words.proofs.ParameterTexts.{parameters_split}
-use Rattle.dns_line_words.proofs.PrefixTexts.{hash_word}
 use Rattle.dns_line_words.proofs.SpacedTexts.{AreSpaced, ends_append, items_end, one_word, spaced_append, words_are}
 use Rattle.dns_line_words.proofs.SpacedTexts.AreSpaced.{nothing as no_words, space}
-use Rattle.dns_line_words.proofs.WordTexts.{base64_word, decimal_word, eui_word, hex_word, ipv4_word, locator_word, name_word, quoted_word, salt_word, tag_word, time_word, type_is_word}
+use Rattle.dns_line_words.proofs.WordTexts.{quoted_word}
+use Rattle.dns_line_words.proofs.Words.{base64_word, decimal_word, eui_word, hash_word, hex_word, ipv4_word, ipv6_word, locator_word, name_word, salt_word, tag_word, time_word, type_is_word}
 
 -- a text that begins with a space, if it has to
 abbrev Opens : Bool → List ℕ → Type 0

@@ -17,14 +17,14 @@ use Rattle.dns_fields_text.specs.GatewayTexts.{gateway_at, gateway_text, gateway
 use Rattle.dns_fields_text.specs.HostIdentities.{identity_parts, identity_text, identity_words, servers_in, servers_text}
 use Rattle.dns_fields_text.specs.ZoneNames.{zone_name_text}
 use Rattle.dns_line_words.specs.LineWords.{EndsWord, IsWord}
-use Rattle.dns_line_words.specs.LineWords.IsRest.{nothing, plain}
-use Rattle.dns_line_words.specs.ListLaws.{word_of_any}
-use Rattle.dns_line_words.proofs.Ipv6Texts.{ipv6_word}
+use Rattle.dns_line_words.specs.ListLaws.{AreNames, word_of_any}
 use Rattle.dns_line_words.proofs.ListTexts.{gateway_split, relay_split, some_same, then_word}
 use Rattle.dns_line_words.proofs.PrefixTexts.{bytes_take}
 use Rattle.dns_line_words.proofs.SpacedTexts.{AreSpaced, one_word, spaced_append}
 use Rattle.dns_line_words.proofs.SpacedTexts.AreSpaced.{nothing as no_words, space, word as first_word}
-use Rattle.dns_line_words.proofs.WordTexts.{BeginsLabel, base64_word, decimal_word, hex_word, ipv4_word, labels_word}
+use Rattle.dns_line_words.proofs.WordTexts.{BeginsLabel, is_word}
+use Rattle.dns_line_words.proofs.WordTexts.IsBare.{nothing, plain}
+use Rattle.dns_line_words.proofs.Words.{base64_word, decimal_word, hex_word, ipv4_word, ipv6_word, labels_word}
 
 -- a value and the octets after it
 abbrev some_pair : {A : Type 0} → A → List ℕ → Option (A × List ℕ)
@@ -79,7 +79,7 @@ name_taken (Some (name, left)) octets word after e f = subst IsWord (first_same 
 gateway_by : (octets word after : List ℕ) → IsBytes octets → (a b c d : Bool)
     → (if a then some_pair (codes ".") octets else if b then word_at 4 ipv4_text octets else if c then word_at 16 (λ address. ipv6_text (segments_of address)) octets else if d then name_word_at octets else None) ≡ Some (word, after)
     → IsWord word
-gateway_by octets word after bytes true b c d e = subst IsWord (first_same (codes ".") word octets after e) (omega arith, plain refl nothing)
+gateway_by octets word after bytes true b c d e = subst IsWord (first_same (codes ".") word octets after e) (is_word (omega arith, plain refl nothing))
 gateway_by octets word after bytes false true c d e =
     let parts = taken 4 ipv4_text octets word after e in subst IsWord parts.1 (ipv4_word (take 4 octets) (bytes_take 4 octets bytes))
 gateway_by octets word after bytes false false true d e =
@@ -134,21 +134,21 @@ pub relays_split : (first : ℕ) (octets text : List ℕ) → IsBytes (first ∷
 relays_split first octets text bytes e = relay_then first octets text (λ i. bytes (suc i)) (bytes 0) (gateway_at (first % 128) octets) refl e
 
 -- the names of servers, each after a space
-abbrev AreServers : List ℕ → Type 0
-AreServers text = (servers : List Labels) × AreSpaced text (map zone_name_text servers) × EndsWord text
+abbrev AreServers : List ℕ → List ℕ → Type 0
+AreServers octets text = (servers : List Labels) × AreSpaced text (map zone_name_text servers) × EndsWord text × AreNames octets servers
 
-no_servers : (text : List ℕ) → Some [] ≡ Some text → AreServers text
+no_servers : (text : List ℕ) → Some [] ≡ Some text → AreServers [] text
 no_servers text e =
     let none : List ℕ = [] in
     let same : none ≡ text = some_same none text e in
-    ([], subst (λ (xs : List ℕ). AreSpaced xs []) same no_words, subst EndsWord same tt)
+    ([], subst (λ (xs : List ℕ). AreSpaced xs []) same no_words, subst EndsWord same tt, refl)
 
 joined : (first : List ℕ) (o : Option (List ℕ)) (text : List ℕ) → Some first ++? o ≡ Some text → (left : List ℕ) × (o ≡ Some left) × (first ++ left ≡ text)
 joined first None text e = absurd (cc e)
 joined first (Some left) text e = (left, refl, some_same (first ++ left) text e)
 
-server_then : (count : ℕ) (octets text : List ℕ) → ((octets text : List ℕ) → servers_in count octets ≡ Some text → AreServers text) → (o : Option (Labels × List ℕ)) → name_at octets ≡ o
-    → option_and_then (λ server. Some (codes " " ++ zone_name_text server.0) ++? servers_in count server.1) o ≡ Some text → AreServers text
+server_then : (count : ℕ) (octets text : List ℕ) → ((octets text : List ℕ) → servers_in count octets ≡ Some text → AreServers octets text) → (o : Option (Labels × List ℕ)) → name_at octets ≡ o
+    → option_and_then (λ server. Some (codes " " ++ zone_name_text server.0) ++? servers_in count server.1) o ≡ Some text → AreServers octets text
 server_then count octets text later None e f = absurd (cc f)
 server_then count octets text later (Some (name, after)) e f =
     let parts = joined (codes " " ++ zone_name_text name) (servers_in count after) text f in
@@ -156,9 +156,10 @@ server_then count octets text later (Some (name, after)) e f =
       name ∷ rest.0,
       subst (λ (xs : List ℕ). AreSpaced xs (zone_name_text name ∷ map zone_name_text rest.0)) parts.2 (space (first_word (zone_name_text name) (server_word octets name after e) rest.2 rest.1)),
       subst EndsWord parts.2 refl,
+      (after, e, rest.3),
     )
 
-servers_split : (count : ℕ) (octets text : List ℕ) → servers_in count octets ≡ Some text → AreServers text
+servers_split : (count : ℕ) (octets text : List ℕ) → servers_in count octets ≡ Some text → AreServers octets text
 servers_split zero [] text e = no_servers text e
 servers_split zero (x ∷ xs) text e = absurd (cc e)
 servers_split (suc count) [] text e = no_servers text e
@@ -173,7 +174,7 @@ identity_spaced algorithm tag key small bytes some_tag some_key =
     then_word (decimal algorithm ++ codes " " ++ hex_text tag) (encode_of standard key) (decimal algorithm ∷ hex_text tag ∷ []) two (base64_word key some_key)
 
 parts_split : (algorithm : ℕ) (tag key servers text : List ℕ) → algorithm < 256 → IsBytes tag → identity_parts algorithm tag key servers ≡ Some text
-    → (names : List Labels) × AreSpaced text (decimal algorithm ∷ hex_text tag ∷ encode_of standard key ∷ map zone_name_text names)
+    → (names : List Labels) × AreSpaced text (decimal algorithm ∷ hex_text tag ∷ encode_of standard key ∷ map zone_name_text names) × AreNames servers names
 parts_split algorithm [] key servers text small bytes e = absurd (cc e)
 parts_split algorithm (t ∷ tag) [] servers text small bytes e = absurd (cc e)
 parts_split algorithm (t ∷ tag) (k ∷ key) servers text small bytes e =
@@ -184,6 +185,7 @@ parts_split algorithm (t ∷ tag) (k ∷ key) servers text small bytes e =
       rest.0,
       subst (λ (xs : List ℕ). AreSpaced xs (first ++ map zone_name_text rest.0)) parts.2
           (spaced_append own parts.0 first (map zone_name_text rest.0) (identity_spaced algorithm (t ∷ tag) (k ∷ key) small bytes (omega arith) (omega arith)) rest.2 rest.1),
+      rest.3,
     )
 
 pub identities_split : (tag_size algorithm high low : ℕ) (octets text : List ℕ) → IsBytes (tag_size ∷ algorithm ∷ high ∷ low ∷ octets)
@@ -191,11 +193,13 @@ pub identities_split : (tag_size algorithm high low : ℕ) (octets text : List �
     → (servers : List Labels)
     × AreSpaced text
     (decimal algorithm ∷ hex_text (take tag_size octets) ∷ encode_of standard (take (high * 256 + low) (drop tag_size octets)) ∷ map zone_name_text servers)
+    × AreNames (drop (high * 256 + low) (drop tag_size octets)) servers
 identities_split tag_size algorithm high low octets text bytes e = by_size (nat_le (tag_size + (high * 256 + low)) (length octets)) e where
   by_size : (b : Bool) → (if b then identity_parts algorithm (take tag_size octets) (take (high * 256 + low) (drop tag_size octets)) (drop (high * 256 + low) (drop tag_size octets)) else None) ≡ Some text
       → (servers : List Labels)
       × AreSpaced text
       (decimal algorithm ∷ hex_text (take tag_size octets) ∷ encode_of standard (take (high * 256 + low) (drop tag_size octets)) ∷ map zone_name_text servers)
+      × AreNames (drop (high * 256 + low) (drop tag_size octets)) servers
   by_size true f =
       parts_split algorithm (take tag_size octets) (take (high * 256 + low) (drop tag_size octets)) (drop (high * 256 + low) (drop tag_size octets)) text (bytes 1)
       (bytes_take tag_size octets (λ i. bytes (suc (suc (suc (suc i)))))) f

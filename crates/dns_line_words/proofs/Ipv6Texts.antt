@@ -7,9 +7,9 @@ use Rattle.std.specs.Net.Addr.{octets_of, segments_of}
 use Rattle.std.specs.Net.Text.{compressed_text, groups_text, hex, hex_groups_text, ipv4_text, ipv6_text, longest_zero_run}
 use Rattle.std.proofs.lemmas.Bool.Decides.{nat_tests}
 use Rattle.hex.specs.Hex.{IsBytes}
-use Rattle.dns_line_words.specs.LineWords.{IsRest, IsWord, is_plain}
-use Rattle.dns_line_words.specs.LineWords.IsRest.{nothing, plain}
-use Rattle.dns_line_words.proofs.WordTexts.{ipv4_word, rest_append, word_append}
+use Rattle.dns_line_words.specs.LineWords.{is_plain}
+use Rattle.dns_line_words.proofs.WordTexts.IsBare.{nothing, plain}
+use Rattle.dns_line_words.proofs.WordTexts.{IsBare, IsBareWord, bare_append, ipv4_word, word_append}
 
 -- numbers of 16 bits
 abbrev Fit : List ℕ → Type 0
@@ -43,46 +43,46 @@ char_plain : (d : ℕ) → d < 16 → is_plain false (digit_char d) ≡ true
 char_plain d h = grind (arith, nat_tests)
 
 digits_word : (a b c d : ℕ) → is_plain false a ≡ true → is_plain false b ≡ true → is_plain false c ≡ true → is_plain false d ≡ true → (r s t : Bool)
-    → IsWord (drop (if r then 0 else (if s then 1 else (if t then 2 else 3))) (a ∷ b ∷ c ∷ d ∷ []))
+    → IsBareWord (drop (if r then 0 else (if s then 1 else (if t then 2 else 3))) (a ∷ b ∷ c ∷ d ∷ []))
 digits_word a b c d p q u v true s t = (omega arith, plain p (plain q (plain u (plain v nothing))))
 digits_word a b c d p q u v false true t = (omega arith, plain q (plain u (plain v nothing)))
 digits_word a b c d p q u v false false true = (omega arith, plain u (plain v nothing))
 digits_word a b c d p q u v false false false = (omega arith, plain v nothing)
 
-hex_word : (n : ℕ) → n < 2 ^ 16 → IsWord (hex n)
+hex_word : (n : ℕ) → n < 2 ^ 16 → IsBareWord (hex n)
 unfolding hex
 hex_word n small =
     digits_word _ _ _ _ (char_plain (n / 0x1000) (omega arith)) (char_plain (n / 0x100 % 16) (omega arith)) (char_plain (n / 0x10 % 16) (omega arith)) (char_plain (n % 16) (omega arith))
     (nat_le 0x1000 n) (nat_le 0x100 n) (nat_le 0x10 n)
 
 -- numbers, separated by colons
-colons_rest : (segments : List ℕ) → Fit segments → IsRest false (flat_map (λ t. codes ":" ++ hex t) segments)
+colons_rest : (segments : List ℕ) → Fit segments → IsBare (flat_map (λ t. codes ":" ++ hex t) segments)
 colons_rest [] fit = nothing
-colons_rest (s ∷ segments) fit = plain refl (rest_append false (hex s) _ (hex_word s (fit 0)).1 (colons_rest segments (λ k. fit (suc k))))
+colons_rest (s ∷ segments) fit = plain refl (bare_append (hex s) _ (hex_word s (fit 0)).1 (colons_rest segments (λ k. fit (suc k))))
 
-groups_rest : (segments : List ℕ) → Fit segments → IsRest false (groups_text segments)
+groups_rest : (segments : List ℕ) → Fit segments → IsBare (groups_text segments)
 groups_rest [] fit = nothing
-groups_rest (s ∷ segments) fit = rest_append false (hex s) _ (hex_word s (fit 0)).1 (colons_rest segments (λ k. fit (suc k)))
+groups_rest (s ∷ segments) fit = bare_append (hex s) _ (hex_word s (fit 0)).1 (colons_rest segments (λ k. fit (suc k)))
 
-groups_word : (segments : List ℕ) → Fit segments → 0 < length segments → IsWord (groups_text segments)
+groups_word : (segments : List ℕ) → Fit segments → 0 < length segments → IsBareWord (groups_text segments)
 groups_word [] fit some = absurd (omega arith)
 groups_word (s ∷ segments) fit some = word_append (hex s) _ (hex_word s (fit 0)) (colons_rest segments (λ k. fit (suc k)))
 
-elided_word : (first second : List ℕ) → IsRest false first → IsRest false second → IsWord (first ++ codes "::" ++ second)
+elided_word : (first second : List ℕ) → IsBare first → IsBare second → IsBareWord (first ++ codes "::" ++ second)
 elided_word first second f s =
     word_append (first ++ codes "::") second
-    (omega (arith, length-append first (codes "::")), rest_append false first (codes "::") f (plain refl (plain refl nothing))) s
+    (omega (arith, length-append first (codes "::")), bare_append first (codes "::") f (plain refl (plain refl nothing))) s
 
-compressed_word : (segments : List ℕ) (run : ℕ × ℕ) → Fit segments → 0 < length segments → IsWord (compressed_text segments run)
+compressed_word : (segments : List ℕ) (run : ℕ × ℕ) → Fit segments → 0 < length segments → IsBareWord (compressed_text segments run)
 compressed_word segments run fit some = by_test (nat_lt 1 run.1) where
   by_test : (b : Bool)
-      → IsWord (if b then groups_text (take run.0 segments) ++ codes "::" ++ groups_text (drop (run.0 + run.1) segments) else groups_text segments)
+      → IsBareWord (if b then groups_text (take run.0 segments) ++ codes "::" ++ groups_text (drop (run.0 + run.1) segments) else groups_text segments)
   by_test true =
       elided_word _ _ (groups_rest (take run.0 segments) (take_fit run.0 segments fit)) (groups_rest (drop (run.0 + run.1) segments) (drop_fit (run.0 + run.1) segments fit))
   by_test false = groups_word segments fit some
 
 address_word : (segments : List ℕ) → Fit segments → 0 < length segments → (mapped : Bool)
-    → IsWord (if mapped then codes "::ffff:" ++ ipv4_text (octets_of (drop 6 segments)) else hex_groups_text segments)
+    → IsBareWord (if mapped then codes "::ffff:" ++ ipv4_text (octets_of (drop 6 segments)) else hex_groups_text segments)
 unfolding hex_groups_text
 address_word segments fit some true =
     let digits = ipv4_word (octets_of (drop 6 segments)) (octets_bytes (drop 6 segments) (drop_fit 6 segments fit)) in (
@@ -96,7 +96,7 @@ some_segments [] h = absurd (omega arith)
 some_segments (a ∷ []) h = absurd (omega arith)
 some_segments (a ∷ b ∷ xs) h = omega arith
 
-pub ipv6_word : (octets : List ℕ) → IsBytes octets → length octets ≡ 16 → IsWord (ipv6_text (segments_of octets))
+pub ipv6_word : (octets : List ℕ) → IsBytes octets → length octets ≡ 16 → IsBareWord (ipv6_text (segments_of octets))
 unfolding ipv6_text
 ipv6_word octets bytes size =
     address_word (segments_of octets) (segments_fit octets bytes) (some_segments octets (omega arith))

@@ -10,3 +10,4 @@ mod PrefixTexts
 mod SpacedTexts
 mod WordLemmas
 mod WordTexts
+mod Words

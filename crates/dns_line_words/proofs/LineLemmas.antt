@@ -3,10 +3,11 @@ use Rattle.std.proofs.Common.{◌≡◌, ◌∙◌, ◌≢◌, ℕ, suc, ◌+◌
 use Rattle.std.specs.Prelude.{◌↔◌, ◌||◌, if◌then◌else◌}
 use Rattle.std.specs.Borrow.{Bor}
 use Rattle.std.proofs.lemmas.Bool.{and_parts, cond-false, false≢true, ne_eqb, not-true, or_from}
-use Rattle.dns_line_words.specs.LineWords.{AreWordsOf, BeginsWord, EndsWord, IsRest, SplitsWord, SkipsBlank, SkipsBlanks, after_line, ends_word, is_blank, newline, semicolon, texts}
+use Rattle.dns_line_words.specs.LineWords.{AreWordsOf, BeginsWord, IsRest, IsWord, SplitsWord, SkipsBlank, SkipsBlanks, after_line, ends_word, is_blank, newline, semicolon, texts}
 use Rattle.dns_line_words.specs.LineWords.AreWordsOf.{none, blank, comment, more}
 use Rattle.dns_line_words.specs.LineWords.IsRest.{nothing, plain, escaped, turned}
-use Rattle.dns_line_words.proofs.WordLemmas.{one_after, one_word}
+use Rattle.dns_line_words.specs.LineWords.IsWord.{string, bare}
+use Rattle.dns_line_words.proofs.WordLemmas.{one_after, one_word, word_some}
 
 -- a word doesn't begin with a character that ends a word
 pub rest_begins : (word : List ℕ) → IsRest false word → BeginsWord word
@@ -16,9 +17,15 @@ rest_begins word (escaped h) = refl
 rest_begins word (turned h) = refl
 
 -- the first character of a word
-begins_with : (text word after : List ℕ) → 0 < length word → SplitsWord text word after → BeginsWord text
-begins_with text [] after some h = absurd (omega arith)
-begins_with text (c ∷ word) after some h = subst BeginsWord (sym h.whole) (rest_begins (c ∷ word) h.rest)
+word_begins : (word after : List ℕ) → IsWord word → BeginsWord (word ++ after)
+word_begins word after (string h) = refl
+word_begins word after (bare some other h) = first_of word some (rest_begins word h) where
+  first_of : (word : List ℕ) → 0 < length word → BeginsWord word → BeginsWord (word ++ after)
+  first_of [] some begins = absurd (omega arith)
+  first_of (c ∷ word) some begins = begins
+
+begins_with : (text word after : List ℕ) → SplitsWord text word after → BeginsWord text
+begins_with text word after h = subst BeginsWord (sym h.whole) (word_begins word after h.is)
 
 -- a text that begins with a word isn't one that may follow a word
 not_both : (c : ℕ) → ends_word c ≡ true → ends_word c ≡ false → ⊥
@@ -36,8 +43,8 @@ blank_skipped text words (comment h) c after e is =
     let same : c ≡ semicolon = cc in
     let wrong : is_blank semicolon ≡ true = subst (λ (x : ℕ). is_blank x ≡ true) same is in
     absurd (false≢true wrong)
-blank_skipped text words (more {word = word} {after = left} some split h) c after e is =
-    absurd (not_both c (blank_ends c is) (subst BeginsWord e (begins_with text word left some split)))
+blank_skipped text words (more {word = word} {after = left} split h) c after e is =
+    absurd (not_both c (blank_ends c is) (subst BeginsWord e (begins_with text word left split)))
 
 -- a comment is no word
 pub comment_skipped : (text : List ℕ) (words : List (List ℕ)) → AreWordsOf text words → (after : List ℕ) → text ≡ semicolon ∷ after → AreWordsOf (after_line after) words
@@ -48,8 +55,8 @@ comment_skipped text words (blank {c = c} b h) after e =
     absurd (false≢true wrong)
 comment_skipped text words (comment {text = left} h) after e =
     let same : left ≡ after = cc in subst (λ (xs : List ℕ). AreWordsOf (after_line xs) words) same h
-comment_skipped text words (more {word = word} {after = left} some split h) after e =
-    let begins : BeginsWord (semicolon ∷ after) = subst BeginsWord e (begins_with text word left some split) in
+comment_skipped text words (more {word = word} {after = left} split h) after e =
+    let begins : BeginsWord (semicolon ∷ after) = subst BeginsWord e (begins_with text word left split) in
     absurd (false≢true (sym begins))
 
 -- the words of a text that begins with a word
@@ -58,22 +65,16 @@ pub word_first : (text : List ℕ) (all : List (List ℕ)) → AreWordsOf text a
 word_first text all none word after some begins split = absurd (omega arith)
 word_first text all (blank {c = c} b h) word after some begins split = absurd (not_both c (blank_ends c b) begins)
 word_first text all (comment h) word after some begins split = absurd (false≢true (sym begins))
-word_first text all (more {word = first} {after = left} {words = others} size own h) word after some begins split = (
+word_first text all (more {word = first} {after = left} {words = others} own h) word after some begins split = (
   others,
   ap (λ (w : List ℕ). let ws : List (List ℕ) = w ∷ others in ws) (one_word text first left word after own split),
   subst (λ (xs : List ℕ). AreWordsOf xs others) (one_after text first left word after own split) h,
 )
 
--- the word at the start of such a text has a character
-pub word_size : (text word after : List ℕ) → 0 < length text → BeginsWord text → SplitsWord text word after → 0 < length word
-word_size [] word after some begins split = absurd (omega arith)
-word_size (c ∷ text) [] after some begins split = absurd (not_both c (subst EndsWord (sym split.whole) split.ends) begins)
-word_size (c ∷ text) (d ∷ word) after some begins split = omega arith
-
 -- the text after the word is shorter
 pub word_shorter : (text word after next : List ℕ) → 0 < length text → BeginsWord text → SplitsWord text word after → length next ≤ length after → length next < length text
 word_shorter text word after next some begins split fits =
-    let size = word_size text word after some begins split in
+    let size = word_some word split.is in
     let whole = ap length split.whole in
     omega (arith, size, whole, length-append word after)
 
@@ -96,7 +97,7 @@ pub word_read : (whole : List ℕ) (words : List (List ℕ)) (left word after ne
     → AreRead whole (words ++ word ∷ []) next
 word_read whole words left word after next r some split skips = record {
   completes = λ others h.
-      rw (append_assoc words (word ∷ []) others) (r.completes (word ∷ others) (more (word_size left word after some r.begins split) split ((skips.same others).1 h)));
+      rw (append_assoc words (word ∷ []) others) (r.completes (word ∷ others) (more split ((skips.same others).1 h)));
   others = λ all h.
       let before = r.others all h in
       let first = word_first left before.0 before.2 word after some r.begins split in (
@@ -120,7 +121,7 @@ no_words whole words left r some unsplit all h = let before = r.others all h in 
   none_of text all none some begins unsplit = omega arith
   none_of text all (blank {c = c} b h) some begins unsplit = not_both c (blank_ends c b) begins
   none_of text all (comment h) some begins unsplit = false≢true (sym begins)
-  none_of text all (more {word = word} {after = after} size split h) some begins unsplit = unsplit word after split
+  none_of text all (more {word = word} {after = after} split h) some begins unsplit = unsplit word after split
 
 -- the texts of one word more
 pub texts_more : (words : List (Bor (List ℕ))) (word : Bor (List ℕ)) → texts (words ++ word ∷ []) ≡ texts words ++ word.now ∷ []
@@ -178,15 +179,17 @@ no_word : (text : List ℕ) (words : List (List ℕ)) → AreWordsOf text words 
 no_word text words none e = refl
 no_word text words (blank is h) e = absurd (omega arith)
 no_word text words (comment h) e = absurd (omega arith)
-no_word text words (more {word = word} {after = after} some split h) e =
-    let whole = ap length split.whole in absurd (omega (arith, whole, length-append word after))
+no_word text words (more {word = word} {after = after} split h) e =
+    let some = word_some word split.is in
+    let whole = ap length split.whole in absurd (omega (arith, some, whole, length-append word after))
 
 -- a line has at most one list of words
 pub one_list : (line : List ℕ) (first second : List (List ℕ)) → AreWordsOf line first → AreWordsOf line second → first ≡ second
 one_list line first second none h = sym (no_word [] second h refl)
 one_list line first second (blank {c = c} {text = text} is g) h = one_list text first second g (blank_skipped (c ∷ text) second h c text refl is)
 one_list line first second (comment {text = text} g) h = one_list (after_line text) first second g (comment_skipped (semicolon ∷ text) second h text refl)
-one_list line first second (more {word = word} {after = after} {words = words} some split g) h =
+one_list line first second (more {word = word} {after = after} {words = words} split g) h =
+    let some = word_some word split.is in
     let whole = ap length split.whole in
-    let next = word_first line second h word after (omega (arith, whole, length-append word after)) (begins_with line word after some split) split in
+    let next = word_first line second h word after (omega (arith, some, whole, length-append word after)) (begins_with line word after split) split in
     ap (λ (ws : List (List ℕ)). let all : List (List ℕ) = word ∷ ws in all) (one_list after words next.0 g next.2) ∙ sym next.1

@@ -23,14 +23,15 @@ use Rattle.dns_fields_text.specs.Strings.{strings_of}
 use Rattle.dns_fields_text.specs.TypeMaps.{types_text}
 use Rattle.dns_fields_text.specs.TypeNames.{type_word}
 use Rattle.dns_fields_text.specs.ZoneNames.{zone_name_text}
-use Rattle.dns_line_words.specs.LineWords.{AreWordsOf, EndsWord, IsRest, IsWord}
+use Rattle.dns_line_words.specs.LineWords.{AreWordsOf, EndsWord, IsWord}
 use Rattle.dns_line_words.specs.LineWords.AreWordsOf.{blank}
-use Rattle.dns_line_words.specs.LineWords.IsRest.{nothing, plain, escaped}
 use Rattle.dns_line_words.specs.ListLaws.{word_of_any}
-use Rattle.dns_line_words.proofs.PrefixTexts.{bytes_take, prefix_is_word}
+use Rattle.dns_line_words.proofs.PrefixTexts.{bytes_take}
 use Rattle.dns_line_words.proofs.SpacedTexts.{AreSpaced, items_are, one_word, spaced_append, spaced_are, words_append}
 use Rattle.dns_line_words.proofs.SpacedTexts.AreSpaced.{nothing as no_words, space, word}
-use Rattle.dns_line_words.proofs.WordTexts.{base64_word, class_word, decimal_word, glyph_plain, name_word, quoted_word, type_is_word}
+use Rattle.dns_line_words.proofs.WordTexts.{IsBare, glyph_plain, is_word, quoted_word}
+use Rattle.dns_line_words.proofs.WordTexts.IsBare.{nothing, plain, escaped}
+use Rattle.dns_line_words.proofs.Words.{base64_word, class_word, decimal_word, name_word, prefix_is_word, type_is_word}
 
 -- a word after others and a space
 pub then_word : (first text : List ℕ) (words : List (List ℕ)) → AreSpaced first words → IsWord text → AreSpaced (first ++ codes " " ++ text) (words ++ text ∷ [])
@@ -181,7 +182,7 @@ relay_split discovery relay_type text d t is =
     (then_word (codes " " ++ decimal discovery ++ codes " " ++ decimal relay_type) text (decimal discovery ∷ decimal relay_type ∷ []) two is)
 
 -- octets in lowercase hexadecimal
-octets_rest : (octets : List ℕ) → IsBytes octets → IsRest false (flat_map hex_octet octets)
+octets_rest : (octets : List ℕ) → IsBytes octets → IsBare (flat_map hex_octet octets)
 octets_rest [] bytes = nothing
 octets_rest (o ∷ octets) bytes =
     let small : o < 256 = bytes 0 in
@@ -189,7 +190,7 @@ octets_rest (o ∷ octets) bytes =
 
 -- data of an unknown type
 sharp_word : IsWord (codes "\\#")
-sharp_word = (omega arith, escaped nothing)
+sharp_word = is_word (omega arith, escaped nothing)
 
 number_spaced : (n : ℕ) → n < 2 ^ 64 → AreSpaced (codes "\\# " ++ decimal n) (codes "\\#" ∷ decimal n ∷ [])
 number_spaced n small = word (codes "\\#") sharp_word refl (space (one_word (decimal n) (decimal_word n small)))
@@ -201,7 +202,7 @@ opaque_split [] bytes small =
 opaque_split (o ∷ octets) bytes small =
     let size = length (o ∷ octets) in
     let text = flat_map hex_octet (o ∷ octets) in
-    let last : IsWord text = (omega arith, octets_rest (o ∷ octets) bytes) in
+    let last : IsWord text = is_word (omega arith, octets_rest (o ∷ octets) bytes) in
     (spaced_append (codes "\\# " ++ decimal size) (codes " " ++ text) (codes "\\#" ∷ decimal size ∷ []) (text ∷ []) (number_spaced size small) refl (space (one_word text last)))
 
 -- records

@@ -25,7 +25,7 @@ use Rattle.dns_line_words.proofs.Ipv6Texts.{ipv6_word}
 use Rattle.dns_line_words.proofs.ListTexts.{Steps, bytes_drop, items_all, some_same}
 use Rattle.dns_line_words.proofs.PrefixTexts.{bytes_take}
 use Rattle.dns_line_words.proofs.SpacedTexts.{AreSpaced, items_are}
-use Rattle.dns_line_words.proofs.WordTexts.{is_plain_word, plain_word, base64_rest, decimal_rest, ipv4_word, quoted_rest, rest_append, word_append}
+use Rattle.dns_line_words.proofs.WordTexts.{IsBareWord, bare_rest, is_plain_word, plain_word, base64_rest, decimal_rest, ipv4_word, quoted_rest, rest_append, word_append, word_then}
 
 -- texts with commas between them, within quotes or not
 module _ (inside : Bool) where
@@ -90,14 +90,14 @@ number_small : (octets : List ℕ) → IsBytes octets → from_be_bytes w16 octe
 number_small octets bytes = let high = bytes 0 in let low = bytes 1 in omega arith
 
 -- the name of a key
-named : (b : Bool) (name : List ℕ) (o : Option (List ℕ)) (other : List ℕ) → is_plain_word name ≡ true → IsWord (unwrap_or o other) → IsWord (unwrap_or (if b then Some name else o) other)
+named : (b : Bool) (name : List ℕ) (o : Option (List ℕ)) (other : List ℕ) → is_plain_word name ≡ true → IsBareWord (unwrap_or o other) → IsBareWord (unwrap_or (if b then Some name else o) other)
 named true name o other is h = plain_word name is
 named false name o other is h = h
 
-numbered_key : (key : ℕ) → key < 2 ^ 64 → IsWord (codes "key" ++ decimal key)
+numbered_key : (key : ℕ) → key < 2 ^ 64 → IsBareWord (codes "key" ++ decimal key)
 numbered_key key small = word_append (codes "key") (decimal key) (plain_word (codes "key") refl) (decimal_rest key small)
 
-key_is_word : (key : ℕ) → key < 2 ^ 64 → IsWord (key_word key)
+key_is_word : (key : ℕ) → key < 2 ^ 64 → IsBareWord (key_word key)
 key_is_word key small =
     named (key == 0) _ _ _ refl (named (key == 1) _ _ _ refl (named (key == 2) _ _ _ refl (named (key == 3) _ _ _ refl (named (key == 4) _ _ _ refl
     (named (key == 5) _ _ _ refl (named (key == 6) _ _ _ refl (named (key == 7) _ _ _ refl (named (key == 8) _ _ _ refl (numbered_key key small)))))))))
@@ -106,7 +106,7 @@ key_is_word key small =
 keys_rests : (keys : List (List ℕ)) → All (IsGroup 2) keys → All (λ key. IsRest false (key_word (from_be_bytes w16 key))) keys
 keys_rests [] all = All-nil (λ key. IsRest false (key_word (from_be_bytes w16 key)))
 keys_rests (key ∷ keys) all =
-    All-cons (λ key. IsRest false (key_word (from_be_bytes w16 key))) key keys (key_is_word (from_be_bytes w16 key) (number_small key (All-head (IsGroup 2) key keys all).0)).1
+    All-cons (λ key. IsRest false (key_word (from_be_bytes w16 key))) key keys (bare_rest _ (key_is_word (from_be_bytes w16 key) (number_small key (All-head (IsGroup 2) key keys all).0)).1)
     (keys_rests keys (All-tail (IsGroup 2) key keys all))
 
 keys_rest : (value : List ℕ) → IsBytes value → IsRest false (keys_text value)
@@ -116,14 +116,14 @@ keys_rest value bytes = commas_rest (λ key. key_word (from_be_bytes w16 key)) (
 ipv4_rests : (addresses : List (List ℕ)) → All (IsGroup 4) addresses → All (λ address. IsRest false (ipv4_text address)) addresses
 ipv4_rests [] all = All-nil (λ address. IsRest false (ipv4_text address))
 ipv4_rests (address ∷ addresses) all =
-    All-cons (λ address. IsRest false (ipv4_text address)) address addresses (ipv4_word address (All-head (IsGroup 4) address addresses all).0).1
+    All-cons (λ address. IsRest false (ipv4_text address)) address addresses (bare_rest _ (ipv4_word address (All-head (IsGroup 4) address addresses all).0).1)
     (ipv4_rests addresses (All-tail (IsGroup 4) address addresses all))
 
 ipv6_rests : (addresses : List (List ℕ)) → All (IsGroup 16) addresses → All (λ address. IsRest false (ipv6_text (segments_of address))) addresses
 ipv6_rests [] all = All-nil (λ address. IsRest false (ipv6_text (segments_of address)))
 ipv6_rests (address ∷ addresses) all =
     let first = All-head (IsGroup 16) address addresses all in
-    All-cons (λ address. IsRest false (ipv6_text (segments_of address))) address addresses (ipv6_word address first.0 first.1).1
+    All-cons (λ address. IsRest false (ipv6_text (segments_of address))) address addresses (bare_rest _ (ipv6_word address first.0 first.1).1)
     (ipv6_rests addresses (All-tail (IsGroup 16) address addresses all))
 
 -- protocol names within quotes
@@ -183,9 +183,9 @@ value_rest : (value : List ℕ) → IsBytes value → (a b c d e f g : Bool) →
 value_rest value bytes true b c d e f g are = nothing
 value_rest value bytes false true c d e f g are = plain refl (keys_rest value bytes)
 value_rest value bytes false false true d e f g are = plain refl (protocols_rest value (are refl refl))
-value_rest value bytes false false false true e f g are = plain refl (decimal_rest (from_be_bytes w16 value) (number_small value bytes))
+value_rest value bytes false false false true e f g are = plain refl (bare_rest _ (decimal_rest (from_be_bytes w16 value) (number_small value bytes)))
 value_rest value bytes false false false false true f g are = plain refl (commas_rest ipv4_text (groups 4 value) (ipv4_rests (groups 4 value) (groups_all 4 value bytes)))
-value_rest value bytes false false false false false true g are = plain refl (base64_rest value)
+value_rest value bytes false false false false false true g are = plain refl (bare_rest _ (base64_rest value))
 value_rest value bytes false false false false false false true are =
     plain refl (commas_rest (λ address. ipv6_text (segments_of address)) (groups 16 value) (ipv6_rests (groups 16 value) (groups_all 16 value bytes)))
 value_rest value bytes false false false false false false false are = plain refl (quoted_rest value)
@@ -203,8 +203,8 @@ pub parameter_is_word : (item : ParameterItem) → IsBytes item.value → item.k
 parameter_is_word item bytes small = by_value (has_named_value item.key item.value) refl where
   by_value : (b : Bool) → has_named_value item.key item.value ≡ b
       → IsWord (if b then key_word item.key ++ named_value item.key item.value else codes "key" ++ decimal item.key ++ other_value item.value)
-  by_value true has = word_append (key_word item.key) (named_value item.key item.value) (key_is_word item.key (omega arith)) (named_value_rest item.key item.value bytes has)
-  by_value false has = word_append (codes "key" ++ decimal item.key) (other_value item.value) (numbered_key item.key (omega arith)) (other_value_rest item.value)
+  by_value true has = word_then (key_word item.key) (named_value item.key item.value) (key_is_word item.key (omega arith)) (named_value_rest item.key item.value bytes has)
+  by_value false has = word_then (codes "key" ++ decimal item.key) (other_value item.value) (numbered_key item.key (omega arith)) (other_value_rest item.value)
 
 -- parameters
 abbrev IsParameter : ParameterItem → Type 0

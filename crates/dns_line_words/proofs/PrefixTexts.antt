@@ -9,25 +9,24 @@ use Rattle.hex.specs.Hex.{IsBytes}
 use Rattle.dns_value_text.specs.Base32.{base32_digits, base32_text}
 use Rattle.dns_fields_text.specs.PrefixItems.{PrefixItem}
 use Rattle.dns_fields_text.specs.Prefixes.{address_text, padded, prefix_text, sign}
-use Rattle.dns_line_words.specs.LineWords.{IsRest, IsWord}
-use Rattle.dns_line_words.specs.LineWords.IsRest.{nothing, plain}
+use Rattle.dns_line_words.proofs.WordTexts.IsBare.{nothing, plain}
 use Rattle.dns_line_words.proofs.Ipv6Texts.{ipv6_word}
-use Rattle.dns_line_words.proofs.WordTexts.{base32_plain, decimal_rest, decimal_word, ipv4_word, rest_append, word_append}
+use Rattle.dns_line_words.proofs.WordTexts.{IsBare, IsBareWord, bare_append, base32_plain, decimal_rest, decimal_word, ipv4_word, word_append}
 
 -- digits of base32
-digits_rest : (count number : ℕ) → IsRest false (base32_digits count number)
+digits_rest : (count number : ℕ) → IsBare (base32_digits count number)
 unfolding base32_digits
 digits_rest zero number = nothing
 digits_rest (suc count) number =
-    rest_append false (base32_digits count (number / 32)) (digit_glyph true (number % 32) ∷ []) (digits_rest count (number / 32)) (plain (base32_plain (number % 32) (omega arith)) nothing)
+    bare_append (base32_digits count (number / 32)) (digit_glyph true (number % 32) ∷ []) (digits_rest count (number / 32)) (plain (base32_plain (number % 32) (omega arith)) nothing)
 
-hash_rest : (octets : List ℕ) → IsRest false (base32_text octets)
+hash_rest : (octets : List ℕ) → IsBare (base32_text octets)
 hash_rest [] = nothing
 hash_rest (a ∷ []) = digits_rest 2 _
 hash_rest (a ∷ b ∷ []) = digits_rest 4 _
 hash_rest (a ∷ b ∷ c ∷ []) = digits_rest 5 _
 hash_rest (a ∷ b ∷ c ∷ d ∷ []) = digits_rest 7 _
-hash_rest (a ∷ b ∷ c ∷ d ∷ e ∷ octets) = rest_append false _ _ (digits_rest 8 _) (hash_rest octets)
+hash_rest (a ∷ b ∷ c ∷ d ∷ e ∷ octets) = bare_append _ _ (digits_rest 8 _) (hash_rest octets)
 
 digits_size : (count number : ℕ) → 0 < count → 0 < length (base32_digits count number)
 unfolding base32_digits
@@ -35,7 +34,7 @@ digits_size zero number some = absurd (omega arith)
 digits_size (suc count) number some = omega (arith, length-append (base32_digits count (number / 32)) (digit_glyph true (number % 32) ∷ []))
 
 -- a hash
-pub hash_word : (octets : List ℕ) → 0 < length octets → IsWord (base32_text octets)
+pub hash_word : (octets : List ℕ) → 0 < length octets → IsBareWord (base32_text octets)
 hash_word [] some = absurd (omega arith)
 hash_word (a ∷ []) some = (digits_size 2 _ (omega arith), digits_rest 2 _)
 hash_word (a ∷ b ∷ []) some = (digits_size 4 _ (omega arith), digits_rest 4 _)
@@ -66,18 +65,18 @@ padded_bytes width octets bytes = bytes_take width (octets ++ replicate width 0)
 padded_size : (width : ℕ) (octets : List ℕ) → length (padded width octets) ≡ width
 padded_size width octets = length-take-le width (octets ++ replicate width 0) (omega (arith, length-append octets (replicate width 0), length-replicate {A = ℕ} width 0))
 
-sign_word : (negated : Bool) (text : List ℕ) → IsWord text → IsWord ((if negated then codes "!" else []) ++ text)
+sign_word : (negated : Bool) (text : List ℕ) → IsBareWord text → IsBareWord ((if negated then codes "!" else []) ++ text)
 sign_word true text h = (omega arith, plain refl h.1)
 sign_word false text h = h
 
 -- the address of a prefix, which has 4 or 16 octets
 prefix_address : (address : List ℕ) (b : Bool) → IsBytes address
-    → IsWord (if b then ipv4_text (padded 4 address) else ipv6_text (segments_of (padded 16 address)))
+    → IsBareWord (if b then ipv4_text (padded 4 address) else ipv6_text (segments_of (padded 16 address)))
 prefix_address address true bytes = ipv4_word (padded 4 address) (padded_bytes 4 address bytes)
 prefix_address address false bytes = ipv6_word (padded 16 address) (padded_bytes 16 address bytes) (padded_size 16 address)
 
 -- a prefix
-pub prefix_is_word : (item : PrefixItem) → IsBytes item.address → item.family < 2 ^ 16 → item.size < 256 → IsWord (prefix_text item)
+pub prefix_is_word : (item : PrefixItem) → IsBytes item.address → item.family < 2 ^ 16 → item.size < 256 → IsBareWord (prefix_text item)
 prefix_is_word item bytes family size =
     let start = sign_word item.negated (decimal item.family) (decimal_word item.family (omega arith)) in
     let address = prefix_address item.address (item.family == 1) bytes in

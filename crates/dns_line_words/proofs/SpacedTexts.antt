@@ -18,8 +18,8 @@ pub words_are : (text : List ℕ) (words : List (List ℕ)) → AreSpaced text w
 words_are text words nothing = none
 words_are text words (space {text = after} h) = blank refl (words_are after words h)
 words_are text words (word {text = after} {words = others} first is ends h) =
-    let split : SplitsWord text first after = record { whole = refl; rest = is.1; ends = ends } in
-    more is.0 split (words_are after others h)
+    let split : SplitsWord text first after = record { whole = refl; is = is; ends = λ e. ends } in
+    more split (words_are after others h)
 
 -- one word
 pub one_word : (text : List ℕ) → IsWord text → AreSpaced text (text ∷ [])
@@ -44,8 +44,8 @@ words_append first second words others nothing ends h = h
 words_append first second words others (space {text = after} g) ends h = blank refl (words_append after second words others g ends h)
 words_append first second words others (word {text = after} {words = left} front is at g) ends h =
     let split : SplitsWord (front ++ after ++ second) front (after ++ second) =
-    record { whole = append_assoc front after second; rest = is.1; ends = ends_append after second at ends } in
-    more is.0 split (words_append after second left others g ends h)
+    record { whole = append_assoc front after second; is = is; ends = λ e. ends_append after second at ends } in
+    more split (words_append after second left others g ends h)
 
 -- words, each after a space
 spaces_end : (words : List (List ℕ)) → EndsWord (separated (codes " ") (codes " ") words)

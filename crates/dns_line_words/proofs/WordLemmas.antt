@@ -1,12 +1,17 @@
 -- The word that a text begins with.
-use Rattle.std.proofs.Common.{◌≡◌, ◌∙◌, ℕ, ◌<◌, ◌==◌, ◌&&◌, Bool, true, false, List, [], ◌∷◌, ◌++◌, length, get_or, Some, None, refl, sym, ap, subst, arith}
-use Rattle.std.specs.Prelude.{Option, not, ◌||◌, if◌then◌else◌}
+use Rattle.std.proofs.Common.{◌≡◌, ◌∙◌, ℕ, ◌+◌, ◌-◌, ◌<◌, ◌≤◌, ◌==◌, ◌&&◌, Bool, true, false, List, [], ◌∷◌, ◌++◌, length, length-append, get_or, drop, take, Some, None, refl, sym, ap, subst, arith}
+use Rattle.std.specs.Prelude.{MatchOption, Option, not, ◌||◌, if◌then◌else◌}
+use Rattle.std.specs.Borrow.{Bor}
 use Rattle.std.proofs.lemmas.Bool.{and_parts, and_from, not-true, not_from_false, or_parts, or_from, cond-true, cond-false, eqb-true}
 use Rattle.std.proofs.lemmas.Bool.Decides.{nat_tests}
-use Rattle.std.proofs.lemmas.List.{append_cancel_right}
+use Rattle.std.proofs.lemmas.List.{append_cancel_right, take_all}
+use Rattle.std.proofs.lemmas.Str.{lead_after_ascii}
+use Rattle.std.specs.Str.{IsUtf8}
 use Rattle.dns_value_text.specs.String.{quote, backslash}
-use Rattle.dns_line_words.specs.LineWords.{EndsWord, IsRest, SplitsWord, ends_word, is_plain}
+use Rattle.dns_line_words.specs.LineWords.{BeginsWord, EndsWord, IsRest, IsString, IsWord, SplitsRest, SplitsString, SplitsWord, begins_string, ends_word, is_plain}
 use Rattle.dns_line_words.specs.LineWords.IsRest.{nothing, plain, escaped, turned}
+use Rattle.dns_line_words.specs.LineWords.IsString.{closed, plain as string_plain, escaped as string_escaped}
+use Rattle.dns_line_words.specs.LineWords.IsWord.{string, bare}
 
 -- the text after the rest of a word, from within quotes or not, and from after a backslash or not
 abbrev pub rest_after : Bool → Bool → List ℕ → Option (List ℕ)
@@ -131,40 +136,221 @@ after_is inside word after (plain {c = c} {rest = rest} is h) ends =
 after_is inside word after (escaped {rest = rest} h) ends = after_is inside rest after h ends
 after_is inside word after (turned {rest = rest} h) ends = after_is (not inside) rest after h ends
 
--- a word at the start of a text, and the text after it
-pub split_is : (text after : List ℕ) → rest_after false false text ≡ Some after → (word : List ℕ) × SplitsWord text word after
+pub split_is : (text after : List ℕ) → rest_after false false text ≡ Some after → (word : List ℕ) × SplitsRest text word after
 split_is text after e =
     let h = rest_is false false text after e in
     (h.0, record { whole = h.2; rest = h.1; ends = h.3 })
 
-pub split_after : (text word after : List ℕ) → SplitsWord text word after → rest_after false false text ≡ Some after
+pub split_after : (text word after : List ℕ) → SplitsRest text word after → rest_after false false text ≡ Some after
 split_after text word after h = ap (rest_after false false) h.whole ∙ after_is false word after h.rest h.ends
 
-pub no_split : (text : List ℕ) → rest_after false false text ≡ None → (word : List ℕ) (after : List ℕ) → ¬ (SplitsWord text word after)
+pub no_split : (text : List ℕ) → rest_after false false text ≡ None → (word : List ℕ) (after : List ℕ) → ¬ (SplitsRest text word after)
 no_split text e word after h = let f = split_after text word after h in absurd (cc (e, f))
-
--- a text begins with one word
-pub one_after : (text first left word after : List ℕ) → SplitsWord text first left → SplitsWord text word after → left ≡ after
-one_after text first left word after h k = some_same left after (sym (split_after text first left h) ∙ split_after text word after k)
-
-pub one_word : (text first left word after : List ℕ) → SplitsWord text first left → SplitsWord text word after → first ≡ word
-one_word text first left word after h k =
-    append_cancel_right first word after (ap (λ (xs : List ℕ). first ++ xs) (sym (one_after text first left word after h k)) ∙ (sym h.whole ∙ k.whole))
 
 -- the end of a word is read
 pub word_ends : (inside skips : Bool) (text left : List ℕ) → rest_after inside skips left ≡ rest_after false false text → inside ≡ false → skips ≡ false → 0 < length left
-    → ends_word (get_or left 0 0) ≡ true → (word : List ℕ) × SplitsWord text word left
+    → ends_word (get_or left 0 0) ≡ true → (word : List ℕ) × SplitsRest text word left
 word_ends inside skips text [] same outside here some ends = absurd (omega arith)
 word_ends inside skips text (c ∷ left) same outside here some ends =
     split_is text (c ∷ left) (sym same ∙ (ap (λ (b : Bool). rest_after b skips (c ∷ left)) outside ∙ (ap (λ (b : Bool). rest_after false b (c ∷ left)) here ∙ end_is (c ∷ left) ends)))
 
 -- the end of the text is read
 pub all_ends : (inside skips : Bool) (text left : List ℕ) → rest_after inside skips left ≡ rest_after false false text → length left < 1 → inside || skips ≡ false
-    → (word : List ℕ) × SplitsWord text word left
-all_ends inside skips text [] same none closed = split_is text [] (sym same ∙ cond-false _ _ _ closed)
-all_ends inside skips text (c ∷ left) same none closed = absurd (omega arith)
+    → (word : List ℕ) × SplitsRest text word left
+all_ends inside skips text [] same none shut = split_is text [] (sym same ∙ cond-false _ _ _ shut)
+all_ends inside skips text (c ∷ left) same none shut = absurd (omega arith)
 
 pub all_open : (inside skips : Bool) (text left : List ℕ) → rest_after inside skips left ≡ rest_after false false text → length left < 1 → inside || skips ≡ true
-    → (word : List ℕ) (after : List ℕ) → ¬ (SplitsWord text word after)
+    → (word : List ℕ) (after : List ℕ) → ¬ (SplitsRest text word after)
 all_open inside skips text [] same none unclosed = no_split text (sym same ∙ cond-true _ _ _ unclosed)
 all_open inside skips text (c ∷ left) same none unclosed = absurd (omega arith)
+
+-- the text after the rest of a string in quotes, from after a backslash or not
+abbrev pub string_after : Bool → List ℕ → Option (List ℕ)
+string_after skips [] = None
+string_after true (c ∷ text) = string_after false text
+string_after false (c ∷ text) =
+    if c == backslash then string_after true text
+    else if c == quote then Some text
+    else string_after false text
+
+string_plain_tests : (c : ℕ) → is_plain true c ≡ true → ((c == backslash) ≡ false) × ((c == quote) ≡ false)
+string_plain_tests c h = let tests = plain_tests true c h in (tests.0, tests.1)
+
+string_after_is : (word after : List ℕ) → IsString word → string_after false (word ++ after) ≡ Some after
+string_after_is word after closed = refl
+string_after_is word after (string_plain {c = c} {rest = rest} is h) =
+    let tests = string_plain_tests c is in
+    cond-false _ _ _ tests.0 ∙ (cond-false _ _ _ tests.1 ∙ string_after_is rest after h)
+string_after_is word after (string_escaped {rest = rest} h) = string_after_is rest after h
+
+-- what string_after reads
+abbrev pub HasString : Bool → List ℕ → List ℕ → Type 0
+HasString false text after = (word : List ℕ) × IsString word × (text ≡ word ++ after)
+HasString true text after = (c : ℕ) × (word : List ℕ) × IsString word × (text ≡ c ∷ word ++ after)
+
+module _ (c : ℕ) (text after : List ℕ) where
+  string_by_quote : (string_after false text ≡ Some after → HasString false text after) → (b : Bool) → (c == quote) ≡ b → (c == backslash) ≡ false
+      → (if b then Some text else string_after false text) ≡ Some after → HasString false (c ∷ text) after
+  string_by_quote later true q b e =
+      (quote ∷ [], closed, ap (λ (x : ℕ). x ∷ text) (eqb-true c quote q) ∙ ap (λ (xs : List ℕ). quote ∷ xs) (some_same text after e))
+  string_by_quote later false q b e =
+      let h = later e in (c ∷ h.0, string_plain (is_plain_by true c b q refl) h.1, ap (λ (xs : List ℕ). c ∷ xs) h.2)
+
+  string_by_backslash : (string_after false text ≡ Some after → HasString false text after) → (string_after true text ≡ Some after → HasString true text after)
+      → (b : Bool) → (c == backslash) ≡ b → string_after false (c ∷ text) ≡ Some after → HasString false (c ∷ text) after
+  string_by_backslash later skipped true b e =
+      let h = skipped (sym (cond-true _ _ _ b) ∙ e) in
+      (backslash ∷ h.0 ∷ h.1, string_escaped h.2, ap (λ (x : ℕ). x ∷ text) (eqb-true c backslash b) ∙ ap (λ (xs : List ℕ). backslash ∷ xs) h.3)
+  string_by_backslash later skipped false b e = string_by_quote later (c == quote) refl b (sym (cond-false _ _ _ b) ∙ e)
+
+string_is : (skips : Bool) (text after : List ℕ) → string_after skips text ≡ Some after → HasString skips text after
+string_is true [] after e = absurd (cc e)
+string_is false [] after e = absurd (cc e)
+string_is true (c ∷ text) after e = let h = string_is false text after e in (c, h.0, h.1, ap (λ (xs : List ℕ). c ∷ xs) h.2)
+string_is false (c ∷ text) after e = string_by_backslash c text after (string_is false text after) (string_is true text after) (c == backslash) refl e
+
+string_split_after : (text word after : List ℕ) → SplitsString text word after → string_after false text ≡ Some after
+string_split_after text word after h = ap (string_after false) h.whole ∙ string_after_is word after h.string
+
+-- the closing quote is read
+pub string_ends : (skips : Bool) (text left : List ℕ) → string_after skips left ≡ string_after false text → skips ≡ false → 0 < length left → get_or left 0 0 ≡ quote
+    → (word : List ℕ) × SplitsString text word (drop 1 left)
+string_ends skips text [] same here some q = absurd (omega arith)
+string_ends skips text (c ∷ left) same here some q =
+    let ends : string_after false (c ∷ left) ≡ Some left = ap (λ (x : ℕ). string_after false (x ∷ left)) q in
+    let e = sym same ∙ (ap (λ (s : Bool). string_after s (c ∷ left)) here ∙ ends) in
+    let h = string_is false text left e in
+    (h.0, record { whole = h.2; string = h.1 })
+
+-- a text without a closing quote
+pub string_open : (skips : Bool) (text left : List ℕ) → string_after skips left ≡ string_after false text → length left < 1 → (word : List ℕ) (after : List ℕ) → ¬ (SplitsString text word after)
+string_open skips text [] same none word after h = let f = string_split_after text word after h in absurd (cc (same, f))
+string_open skips text (c ∷ left) same none word after h = absurd (omega arith)
+
+-- a word is the rest of a word from its first character, or a string
+unquoted : (c : ℕ) → c ≡ quote → (c == quote) ≡ false → ⊥
+unquoted c e f = absurd (cc (e, f, ap (λ (x : ℕ). x == quote) e))
+
+append_begins : (word after : List ℕ) → 0 < length word → begins_string (word ++ after) ≡ begins_string word
+append_begins [] after some = absurd (omega arith)
+append_begins (c ∷ word) after some = refl
+
+pub word_some : (word : List ℕ) → IsWord word → 0 < length word
+word_some word (string h) = omega arith
+word_some word (bare some b h) = some
+
+pub split_bare : (text word after : List ℕ) → SplitsWord text word after → begins_string text ≡ false → SplitsRest text word after
+split_bare text word after split b = by_word word split.is split.whole split.ends where
+  by_word : (word : List ℕ) → IsWord word → text ≡ word ++ after → (begins_string word ≡ false → EndsWord after) → SplitsRest text word after
+  by_word word (string {rest = rest} h) whole ends = let e = ap begins_string whole in absurd (cc (b, e))
+  by_word word (bare some other h) whole ends = record { whole = whole; rest = h; ends = ends other }
+
+pub split_string : (text word after : List ℕ) → SplitsWord text word after → begins_string text ≡ true → (rest : List ℕ) × (word ≡ quote ∷ rest) × SplitsString (drop 1 text) rest after
+split_string text word after split b = by_word word split.is split.whole where
+  by_word : (word : List ℕ) → IsWord word → text ≡ word ++ after → (rest : List ℕ) × (word ≡ quote ∷ rest) × SplitsString (drop 1 text) rest after
+  by_word word (string {rest = rest} h) whole = (rest, refl, record { whole = ap (drop 1) whole; string = h })
+  by_word word (bare some other h) whole = absurd (cc (b, other, ap begins_string whole ∙ append_begins word after some))
+
+rest_some : (text word after : List ℕ) → 0 < length text → BeginsWord text → SplitsRest text word after → 0 < length word
+rest_some text [] after some begins h = no_end text after some begins h.whole h.ends where
+  no_end : (text after : List ℕ) → 0 < length text → BeginsWord text → text ≡ after → EndsWord after → 0 < 0
+  no_end [] after some begins same ends = absurd (omega arith)
+  no_end (c ∷ text) after some begins same ends = let e : ends_word c ≡ true = subst EndsWord (sym same) ends in absurd (cc (e, begins))
+rest_some text (c ∷ word) after some begins h = omega arith
+
+pub bare_split : (text word after : List ℕ) → 0 < length text → BeginsWord text → begins_string text ≡ false → SplitsRest text word after → SplitsWord text word after
+bare_split text word after some begins b h =
+    let size = rest_some text word after some begins h in
+    let other = sym (append_begins word after size) ∙ (sym (ap begins_string h.whole) ∙ b) in
+    record { whole = h.whole; is = bare size other h.rest; ends = λ e. h.ends }
+
+pub string_split : (text word after : List ℕ) → 0 < length text → get_or text 0 0 ≡ quote → SplitsString (drop 1 text) word after → SplitsWord text (quote ∷ word) after
+string_split [] word after some q h = absurd (omega arith)
+string_split (c ∷ text) word after some q h =
+    record { whole = ap (λ (x : ℕ). x ∷ text) q ∙ ap (λ (xs : List ℕ). quote ∷ xs) h.whole; is = string h.string; ends = λ e. absurd (cc e) }
+
+-- the word that a text begins with, by its first character
+pub no_word_in : (text word after : List ℕ) → length text < 1 → ¬ (SplitsWord text word after)
+no_word_in [] word after none split = let some = word_some word split.is in let whole = ap length split.whole in absurd (omega (arith, some, whole, length-append word after))
+no_word_in (c ∷ text) word after none split = absurd (omega arith)
+
+pub begins_quote : (text : List ℕ) → 0 < length text → get_or text 0 0 ≡ quote → begins_string text ≡ true
+begins_quote [] some q = absurd (omega arith)
+begins_quote (c ∷ text) some q = ap (λ (x : ℕ). x == quote) q
+
+pub begins_no_quote : (text : List ℕ) → (get_or text 0 0 == quote) ≡ false → begins_string text ≡ false
+begins_no_quote [] q = refl
+begins_no_quote (c ∷ text) q = q
+
+pub word_of_string : (text : List ℕ) → 0 < length text → get_or text 0 0 ≡ quote → (result : Option (Bor (List ℕ)))
+    → MatchOption result ((word : List ℕ) (after : List ℕ) → ¬ (SplitsString (drop 1 text) word after)) (λ after. (word : List ℕ) × SplitsString (drop 1 text) word after.now)
+    → MatchOption result ((word : List ℕ) (after : List ℕ) → ¬ (SplitsWord text word after)) (λ after. (word : List ℕ) × SplitsWord text word after.now)
+word_of_string text some q None none = λ word after split. let h = split_string text word after split (begins_quote text some q) in none h.0 after h.2
+word_of_string text some q (Some after) h = (quote ∷ h.0, string_split text h.0 after.now some q h.1)
+
+pub word_of_rest : (text : List ℕ) → 0 < length text → BeginsWord text → (get_or text 0 0 == quote) ≡ false → (result : Option (Bor (List ℕ)))
+    → MatchOption result ((word : List ℕ) (after : List ℕ) → ¬ (SplitsRest text word after)) (λ after. (word : List ℕ) × SplitsRest text word after.now)
+    → MatchOption result ((word : List ℕ) (after : List ℕ) → ¬ (SplitsWord text word after)) (λ after. (word : List ℕ) × SplitsWord text word after.now)
+word_of_rest text some begins q None none = λ word after split. none word after (split_bare text word after split (begins_no_quote text q))
+word_of_rest text some begins q (Some after) h = (h.0, bare_split text h.0 after.now some begins (begins_no_quote text q) h.1)
+
+-- a text begins with one word
+same_after : (text first left word after : List ℕ) → SplitsWord text first left → SplitsWord text word after → (b : Bool) → begins_string text ≡ b → left ≡ after
+same_after text first left word after h k false b =
+    let one = split_after text first left (split_bare text first left h b) in
+    let other = split_after text word after (split_bare text word after k b) in
+    some_same left after (sym one ∙ other)
+same_after text first left word after h k true b =
+    let one = split_string text first left h b in
+    let other = split_string text word after k b in
+    some_same left after (sym (string_split_after (drop 1 text) one.0 left one.2) ∙ string_split_after (drop 1 text) other.0 after other.2)
+
+pub one_after : (text first left word after : List ℕ) → SplitsWord text first left → SplitsWord text word after → left ≡ after
+one_after text first left word after h k = same_after text first left word after h k (begins_string text) refl
+
+pub one_word : (text first left word after : List ℕ) → SplitsWord text first left → SplitsWord text word after → first ≡ word
+one_word text first left word after h k =
+    append_cancel_right first word after (ap (λ (xs : List ℕ). first ++ xs) (sym (one_after text first left word after h k)) ∙ (sym h.whole ∙ k.whole))
+
+-- the text after the first character, as a slice
+pub after_first_is : (text : List ℕ) → drop 1 text ≡ take (length text - 1) (drop 1 text)
+after_first_is [] = refl
+after_first_is (c ∷ text) = sym (take_all (length (c ∷ text) - 1) text (omega arith))
+
+-- the end of a word is the boundary of a character
+at_append : (word after : List ℕ) → get_or (word ++ after) (length word) 0 ≡ get_or after 0 0
+at_append [] after = refl
+at_append (c ∷ word) after = at_append word after
+
+last_quote : (c : ℕ) (rest after : List ℕ) → IsString rest → get_or (c ∷ rest ++ after) (length rest) 0 ≡ quote
+last_quote c rest after closed = refl
+last_quote c rest after (string_plain {c = d} {rest = left} is h) = last_quote d left after h
+last_quote c rest after (string_escaped {c = d} {rest = left} h) = last_quote d left after h
+
+end_ascii : (c : ℕ) → ends_word c ≡ true → c < 128
+end_ascii c h = grind (arith, nat_tests)
+
+ends_ascii : (after : List ℕ) → EndsWord after → get_or after 0 0 < 128
+ends_ascii [] ends = omega arith
+ends_ascii (c ∷ after) ends = end_ascii c ends
+
+abbrev IsBoundary : List ℕ → ℕ → Type 0
+IsBoundary text k = k < length text → 128 ≤ get_or text k 0 → 192 ≤ get_or text k 0
+
+boundary_at : (word after : List ℕ) → IsUtf8 (word ++ after) → IsWord word → (begins_string word ≡ false → EndsWord after) → IsBoundary (word ++ after) (length word)
+boundary_at word after utf8 (string {rest = rest} h) ends =
+    let e = last_quote quote rest after h in
+    let next : length rest + 1 ≡ length (quote ∷ rest) = omega arith in
+    subst (λ (k : ℕ). IsBoundary (quote ∷ rest ++ after) k) next (lead_after_ascii (quote ∷ rest ++ after) (length rest) utf8 (omega (arith, e)))
+boundary_at word after utf8 (bare some other h) ends =
+    let e = at_append word after in let small = ends_ascii after (ends other) in λ below high. omega (arith, e, small, high)
+
+pub word_boundary : (text word after : List ℕ) → IsUtf8 text → SplitsWord text word after
+    → (length text - length after ≤ length text) × IsBoundary text (length text - length after)
+word_boundary text word after utf8 split =
+    let whole = split.whole in
+    let own = boundary_at word after (subst IsUtf8 whole utf8) split.is split.ends in
+    let size = ap length whole in
+    let same : length word ≡ length text - length after = omega (arith, size, length-append word after) in
+    (omega arith, subst (λ (k : ℕ). IsBoundary text k) same (subst (λ (xs : List ℕ). IsBoundary xs (length word)) (sym whole) own))

@@ -27,38 +27,76 @@ use Rattle.dns_value_text.specs.Time.{DayOf, clock_text, date_text, day_text, mo
 use Rattle.dns_fields_text.specs.FieldTexts.{salt_text}
 use Rattle.dns_fields_text.specs.TypeNames.{mnemonic as table_mnemonic, type_word}
 use Rattle.dns_fields_text.specs.ZoneNames.{dotted_label, means_something, zone_label_text, zone_name_text, zone_octet_text}
-use Rattle.dns_line_words.specs.LineWords.{IsRest, IsWord, is_plain}
-use Rattle.dns_line_words.specs.LineWords.IsRest.{nothing, plain, escaped, turned}
+use Rattle.dns_line_words.specs.LineWords.{IsRest, IsString, IsWord, begins_string, is_plain}
+use Rattle.dns_line_words.specs.LineWords.IsRest.{nothing as rest_nothing, plain as rest_plain, escaped as rest_escaped, turned as rest_turned}
+use Rattle.dns_line_words.specs.LineWords.IsString.{closed, plain as string_plain, escaped as string_escaped}
+use Rattle.dns_line_words.specs.LineWords.IsWord.{string, bare}
 
 -- a rest, and more of the word after it
 pub rest_append : (inside : Bool) (first second : List ℕ) → IsRest inside first → IsRest false second → IsRest inside (first ++ second)
-rest_append inside first second nothing h = h
-rest_append inside first second (plain {rest = rest} is g) h = plain is (rest_append inside rest second g h)
-rest_append inside first second (escaped {rest = rest} g) h = escaped (rest_append inside rest second g h)
-rest_append inside first second (turned {rest = rest} g) h = turned (rest_append (not inside) rest second g h)
+rest_append inside first second rest_nothing h = h
+rest_append inside first second (rest_plain {rest = rest} is g) h = rest_plain is (rest_append inside rest second g h)
+rest_append inside first second (rest_escaped {rest = rest} g) h = rest_escaped (rest_append inside rest second g h)
+rest_append inside first second (rest_turned {rest = rest} g) h = rest_turned (rest_append (not inside) rest second g h)
+
+-- a text without quotes, unless a backslash stands before them
+pub data IsBare : List ℕ → Type 0 where
+  nothing : IsBare []
+  plain : {c : ℕ} {rest : List ℕ} → is_plain false c ≡ true → IsBare rest → IsBare (c ∷ rest)
+  escaped : {c : ℕ} {rest : List ℕ} → IsBare rest → IsBare (backslash ∷ c ∷ rest)
+
+pub bare_append : (first second : List ℕ) → IsBare first → IsBare second → IsBare (first ++ second)
+bare_append first second nothing h = h
+bare_append first second (plain {rest = rest} is g) h = plain is (bare_append rest second g h)
+bare_append first second (escaped {rest = rest} g) h = escaped (bare_append rest second g h)
+
+pub bare_rest : (text : List ℕ) → IsBare text → IsRest false text
+bare_rest text nothing = rest_nothing
+bare_rest text (plain {rest = rest} is h) = rest_plain is (bare_rest rest h)
+bare_rest text (escaped {rest = rest} h) = rest_escaped (bare_rest rest h)
+
+plain_begins : (c : ℕ) → is_plain false c ≡ true → (c == quote) ≡ false
+plain_begins c h = grind (arith, nat_tests)
+
+bare_begins : (text : List ℕ) → IsBare text → begins_string text ≡ false
+bare_begins text nothing = refl
+bare_begins text (plain {c = c} is h) = plain_begins c is
+bare_begins text (escaped h) = refl
+
+-- such a word
+abbrev pub IsBareWord : List ℕ → Type 0
+IsBareWord text = (0 < length text) × IsBare text
+
+pub is_word : {text : List ℕ} → IsBareWord text → IsWord text
+is_word {text} h = bare h.0 (bare_begins text h.1) (bare_rest text h.1)
+
+-- such a word, and the rest of a word after it
+pub word_then : (first second : List ℕ) → IsBareWord first → IsRest false second → IsWord (first ++ second)
+word_then [] second h rest = let some = h.0 in absurd (omega arith)
+word_then (c ∷ first) second h rest = bare (omega arith) (bare_begins (c ∷ first) h.1) (rest_append false (c ∷ first) second (bare_rest (c ∷ first) h.1) rest)
 
 -- plain characters
-pub plain_rest : (text : List ℕ) → list_all (is_plain false) text ≡ true → IsRest false text
+pub plain_rest : (text : List ℕ) → list_all (is_plain false) text ≡ true → IsBare text
 plain_rest [] all = nothing
 plain_rest (c ∷ text) all = let parts = and_parts (is_plain false c) (list_all (is_plain false) text) all in plain parts.0 (plain_rest text parts.1)
 
 -- a word, and more of it
-pub word_append : (first second : List ℕ) → IsWord first → IsRest false second → IsWord (first ++ second)
-word_append first second w h = let some = w.0 in (omega (arith, length-append first second), rest_append false first second w.1 h)
+pub word_append : (first second : List ℕ) → IsBareWord first → IsBare second → IsBareWord (first ++ second)
+word_append first second w h = let some = w.0 in (omega (arith, length-append first second), bare_append first second w.1 h)
 
 -- a decimal digit
 pub digit_plain : (d : ℕ) → d < 10 → is_plain false (48 + d) ≡ true
 digit_plain d h = grind (arith, nat_tests)
 
-one_digit : (d : ℕ) → d < 10 → IsRest false ((48 + d) ∷ [])
+one_digit : (d : ℕ) → d < 10 → IsBare ((48 + d) ∷ [])
 one_digit d h = plain (digit_plain d h) nothing
 
 -- a number
-pub decimal_rest : (n : ℕ) → n < 2 ^ 64 → IsRest false (decimal n)
+pub decimal_rest : (n : ℕ) → n < 2 ^ 64 → IsBare (decimal n)
 decimal_rest n small =
-    decimal_by_steps (λ n digits. IsRest false digits) (λ n h. one_digit n h) (λ n digits h g. rest_append false digits ((48 + n % 10) ∷ []) g (one_digit (n % 10) (omega arith))) n small
+    decimal_by_steps (λ n digits. IsBare digits) (λ n h. one_digit n h) (λ n digits h g. bare_append digits ((48 + n % 10) ∷ []) g (one_digit (n % 10) (omega arith))) n small
 
-pub decimal_word : (n : ℕ) → n < 2 ^ 64 → IsWord (decimal n)
+pub decimal_word : (n : ℕ) → n < 2 ^ 64 → IsBareWord (decimal n)
 decimal_word n small = (decimal_nonempty n small, decimal_rest n small)
 
 -- a string in quotes
@@ -68,36 +106,42 @@ digit_inside d h = grind (arith, nat_tests)
 inside_plain : (o : ℕ) → (o == quote) ≡ false → (o == backslash) ≡ false → is_plain true o ≡ true
 inside_plain o q b = grind (arith, nat_tests)
 
-octet_inside : (o : ℕ) (rest : List ℕ) → IsRest true rest → (q b r : Bool) → (o == quote) ≡ q → (o == backslash) ≡ b → is_in_range 0x20 0x7e o ≡ r
-    → IsRest true ((if q || b then backslash ∷ o ∷ [] else if r then o ∷ [] else decimal_text o) ++ rest)
-octet_inside o rest h true b r eq eb er = escaped h
-octet_inside o rest h false true r eq eb er = escaped h
-octet_inside o rest h false false true eq eb er = plain (inside_plain o eq eb) h
+octet_inside : (o : ℕ) (rest : List ℕ) → IsString rest → (q b r : Bool) → (o == quote) ≡ q → (o == backslash) ≡ b → is_in_range 0x20 0x7e o ≡ r
+    → IsString ((if q || b then backslash ∷ o ∷ [] else if r then o ∷ [] else decimal_text o) ++ rest)
+octet_inside o rest h true b r eq eb er = string_escaped h
+octet_inside o rest h false true r eq eb er = string_escaped h
+octet_inside o rest h false false true eq eb er = string_plain (inside_plain o eq eb) h
 octet_inside o rest h false false false eq eb er =
-    escaped (plain (digit_inside (o / 10 % 10) (omega arith)) (plain (digit_inside (o % 10) (omega arith)) h))
+    string_escaped (string_plain (digit_inside (o / 10 % 10) (omega arith)) (string_plain (digit_inside (o % 10) (omega arith)) h))
 
-string_inside : (octets rest : List ℕ) → IsRest true rest → IsRest true (flat_map string_octet octets ++ rest)
+string_inside : (octets rest : List ℕ) → IsString rest → IsString (flat_map string_octet octets ++ rest)
 string_inside [] rest h = h
 string_inside (o ∷ octets) rest h =
-    subst (λ (text : List ℕ). IsRest true text) (sym (append_assoc (string_octet o) (flat_map string_octet octets) rest))
+    subst (λ (text : List ℕ). IsString text) (sym (append_assoc (string_octet o) (flat_map string_octet octets) rest))
     (octet_inside o (flat_map string_octet octets ++ rest) (string_inside octets rest h) _ _ _ refl refl refl)
 
-pub quoted_rest : (octets : List ℕ) → IsRest false (quoted octets)
-quoted_rest octets = turned (string_inside octets (quote ∷ []) (turned nothing))
-
 pub quoted_word : (octets : List ℕ) → IsWord (quoted octets)
-quoted_word octets = (omega arith, quoted_rest octets)
+quoted_word octets = string (string_inside octets (quote ∷ []) closed)
+
+-- a string in quotes within a word
+string_rest : (rest : List ℕ) → IsString rest → IsRest true rest
+string_rest rest closed = rest_turned rest_nothing
+string_rest rest (string_plain {rest = left} is h) = rest_plain is (string_rest left h)
+string_rest rest (string_escaped {rest = left} h) = rest_escaped (string_rest left h)
+
+pub quoted_rest : (octets : List ℕ) → IsRest false (quoted octets)
+quoted_rest octets = rest_turned (string_rest _ (string_inside octets (quote ∷ []) closed))
 
 -- a tag
 tag_plain : (o : ℕ) → is_ascii_alphanumeric o ≡ true → is_plain false o ≡ true
 tag_plain o h = grind (arith, nat_tests)
 
-tag_rest : (octets : List ℕ) → list_all is_ascii_alphanumeric octets ≡ true → IsRest false octets
+tag_rest : (octets : List ℕ) → list_all is_ascii_alphanumeric octets ≡ true → IsBare octets
 tag_rest [] all = nothing
 tag_rest (o ∷ octets) all =
     let parts = and_parts (is_ascii_alphanumeric o) (list_all is_ascii_alphanumeric octets) all in plain (tag_plain o parts.0) (tag_rest octets parts.1)
 
-pub tag_word : (octets : List ℕ) → is_tag octets ≡ true → IsWord octets
+pub tag_word : (octets : List ℕ) → is_tag octets ≡ true → IsBareWord octets
 tag_word [] is = absurd (cc is)
 tag_word (o ∷ octets) is =
     (omega arith, tag_rest (o ∷ octets) (and_parts (not (length (o ∷ octets) == 0)) (list_all is_ascii_alphanumeric (o ∷ octets)) is).1)
@@ -112,35 +156,35 @@ pub base32_plain : (d : ℕ) → d < 32 → is_plain false (digit_glyph true d) 
 base32_plain d h = grind (arith, nat_tests)
 
 -- octets in hexadecimal
-pub hex_rest : (octets : List ℕ) → IsBytes octets → IsRest false (hex_text octets)
+pub hex_rest : (octets : List ℕ) → IsBytes octets → IsBare (hex_text octets)
 hex_rest [] bytes = nothing
 hex_rest (o ∷ octets) bytes =
     let small : o < 256 = bytes 0 in
     plain (glyph_plain true (o / 16) (omega arith)) (plain (glyph_plain true (o % 16) (omega arith)) (hex_rest octets (λ i. bytes (suc i))))
 
-pub hex_word : (octets : List ℕ) → IsBytes octets → 0 < length octets → IsWord (hex_text octets)
+pub hex_word : (octets : List ℕ) → IsBytes octets → 0 < length octets → IsBareWord (hex_text octets)
 hex_word [] bytes some = absurd (omega arith)
 hex_word (o ∷ octets) bytes some = (omega arith, hex_rest (o ∷ octets) bytes)
 
 -- a salt
-pub salt_word : (octets : List ℕ) → IsBytes octets → IsWord (salt_text octets)
+pub salt_word : (octets : List ℕ) → IsBytes octets → IsBareWord (salt_text octets)
 salt_word [] bytes = (omega arith, plain refl nothing)
 salt_word (o ∷ octets) bytes = hex_word (o ∷ octets) bytes (omega arith)
 
 -- EUI-48 and EUI-64 addresses
-pair_rest : (o : ℕ) (rest : List ℕ) → o < 256 → IsRest false rest → IsRest false (digit_glyph false (o / 16) ∷ digit_glyph false (o % 16) ∷ rest)
+pair_rest : (o : ℕ) (rest : List ℕ) → o < 256 → IsBare rest → IsBare (digit_glyph false (o / 16) ∷ digit_glyph false (o % 16) ∷ rest)
 pair_rest o rest small h = plain (glyph_plain false (o / 16) (omega arith)) (plain (glyph_plain false (o % 16) (omega arith)) h)
 
-hyphens_rest : (octets : List ℕ) → IsBytes octets → IsRest false (flat_map hyphen_pair octets)
+hyphens_rest : (octets : List ℕ) → IsBytes octets → IsBare (flat_map hyphen_pair octets)
 hyphens_rest [] bytes = nothing
 hyphens_rest (o ∷ octets) bytes = plain refl (pair_rest o (flat_map hyphen_pair octets) (bytes 0) (hyphens_rest octets (λ i. bytes (suc i))))
 
-pub eui_word : (octets : List ℕ) → IsBytes octets → 0 < length octets → IsWord (eui_text octets)
+pub eui_word : (octets : List ℕ) → IsBytes octets → 0 < length octets → IsBareWord (eui_text octets)
 eui_word [] bytes some = absurd (omega arith)
 eui_word (o ∷ octets) bytes some = (omega arith, pair_rest o (flat_map hyphen_pair octets) (bytes 0) (hyphens_rest octets (λ i. bytes (suc i))))
 
 -- locators
-pub locator_word : (octets : List ℕ) → IsBytes octets → length octets ≡ 8 → IsWord (locator_text octets)
+pub locator_word : (octets : List ℕ) → IsBytes octets → length octets ≡ 8 → IsBareWord (locator_text octets)
 locator_word [] bytes size = absurd (omega arith)
 locator_word (a ∷ []) bytes size = absurd (omega arith)
 locator_word (a ∷ b ∷ []) bytes size = absurd (omega arith)
@@ -159,49 +203,49 @@ locator_word (a ∷ b ∷ c ∷ d ∷ e ∷ f ∷ g ∷ h ∷ []) bytes size = (
 locator_word (a ∷ b ∷ c ∷ d ∷ e ∷ f ∷ g ∷ h ∷ i ∷ octets) bytes size = absurd (omega arith)
 
 -- times
-pub two_rest : (n : ℕ) (rest : List ℕ) → IsRest false rest → IsRest false (two_digits n ++ rest)
+pub two_rest : (n : ℕ) (rest : List ℕ) → IsBare rest → IsBare (two_digits n ++ rest)
 two_rest n rest h = plain (digit_plain (n / 10 % 10) (omega arith)) (plain (digit_plain (n % 10) (omega arith)) h)
 
-date_rest : (year month day : ℕ) → IsRest false (date_text year month day)
+date_rest : (year month day : ℕ) → IsBare (date_text year month day)
 date_rest year month day = two_rest (year / 100) _ (two_rest (year % 100) _ (two_rest month _ (two_rest day [] nothing)))
 
-clock_rest : (seconds : ℕ) → IsRest false (clock_text seconds)
+clock_rest : (seconds : ℕ) → IsBare (clock_text seconds)
 clock_rest seconds = two_rest (seconds / 3600 % 24) _ (two_rest (seconds / 60 % 60) _ (two_rest (seconds % 60) [] nothing))
 
-month_word : (year seconds : ℕ) (in_month : DayOf) → IsWord (month_text year in_month ++ clock_text seconds)
+month_word : (year seconds : ℕ) (in_month : DayOf) → IsBareWord (month_text year in_month ++ clock_text seconds)
 month_word year seconds in_month =
-    (omega arith, rest_append false (month_text year in_month) (clock_text seconds) (date_rest year in_month.period (in_month.day + 1)) (clock_rest seconds))
+    (omega arith, bare_append (month_text year in_month) (clock_text seconds) (date_rest year in_month.period (in_month.day + 1)) (clock_rest seconds))
 
-day_word : (seconds : ℕ) (in_year : DayOf) → IsWord (day_text in_year ++ clock_text seconds)
+day_word : (seconds : ℕ) (in_year : DayOf) → IsBareWord (day_text in_year ++ clock_text seconds)
 day_word seconds in_year = month_word in_year.period seconds (month_of (month_sizes in_year.period) 1 in_year.day)
 
-pub time_word : (seconds : ℕ) → IsWord (time_text seconds)
+pub time_word : (seconds : ℕ) → IsBareWord (time_text seconds)
 time_word seconds = day_word seconds (year_of 137 1970 (seconds / 86400))
 
 -- names
 name_plain : (o : ℕ) → means_something o ≡ false → is_graphic o ≡ true → is_plain false o ≡ true
 name_plain o s g = grind (arith, nat_tests)
 
-name_octet : (o : ℕ) (rest : List ℕ) → IsRest false rest → (s g : Bool) → means_something o ≡ s → is_graphic o ≡ g
-    → IsRest false ((if s then backslash ∷ o ∷ [] else if g then o ∷ [] else decimal_text o) ++ rest)
+name_octet : (o : ℕ) (rest : List ℕ) → IsBare rest → (s g : Bool) → means_something o ≡ s → is_graphic o ≡ g
+    → IsBare ((if s then backslash ∷ o ∷ [] else if g then o ∷ [] else decimal_text o) ++ rest)
 name_octet o rest h true g es eg = escaped h
 name_octet o rest h false true es eg = plain (name_plain o es eg) h
 name_octet o rest h false false es eg =
     escaped (plain (digit_plain (o / 10 % 10) (omega arith)) (plain (digit_plain (o % 10) (omega arith)) h))
 
-label_rest : (label rest : List ℕ) → IsRest false rest → IsRest false (zone_label_text label ++ rest)
+label_rest : (label rest : List ℕ) → IsBare rest → IsBare (zone_label_text label ++ rest)
 label_rest [] rest h = h
 label_rest (o ∷ label) rest h =
-    subst (λ (text : List ℕ). IsRest false text) (sym (append_assoc (zone_octet_text o) (zone_label_text label) rest))
+    subst (λ (text : List ℕ). IsBare text) (sym (append_assoc (zone_octet_text o) (zone_label_text label) rest))
     (name_octet o (zone_label_text label ++ rest) (label_rest label rest h) _ _ refl refl)
 
-dotted_rest : (label : List ℕ) → IsRest false (dotted_label label)
+dotted_rest : (label : List ℕ) → IsBare (dotted_label label)
 dotted_rest [] = nothing
 dotted_rest (o ∷ label) = label_rest (o ∷ label) (codes ".") (plain refl nothing)
 
-labels_rest : (name : Labels) → IsRest false (flat_map dotted_label name)
+labels_rest : (name : Labels) → IsBare (flat_map dotted_label name)
 labels_rest [] = nothing
-labels_rest (label ∷ name) = rest_append false (dotted_label label) (flat_map dotted_label name) (dotted_rest label) (labels_rest name)
+labels_rest (label ∷ name) = bare_append (dotted_label label) (flat_map dotted_label name) (dotted_rest label) (labels_rest name)
 
 dotted_size : (label : List ℕ) → 0 < length label → 0 < length (dotted_label label)
 dotted_size [] some = absurd (omega arith)
@@ -212,21 +256,21 @@ abbrev pub BeginsLabel : Labels → Type 0
 BeginsLabel [] = Unit {0}
 BeginsLabel (label ∷ name) = 0 < length label
 
-pub labels_word : (name : Labels) → BeginsLabel name → IsWord (zone_name_text name)
+pub labels_word : (name : Labels) → BeginsLabel name → IsBareWord (zone_name_text name)
 labels_word [] some = (omega arith, plain refl nothing)
 labels_word (label ∷ name) some =
     let size = dotted_size label some in
     (omega (arith, size, length-append (dotted_label label) (flat_map dotted_label (with_root name))), labels_rest (with_root (label ∷ name)))
 
-pub name_word : (name : Labels) → IsName name → IsWord (zone_name_text name)
+pub name_word : (name : Labels) → IsName name → IsBareWord (zone_name_text name)
 name_word [] is = labels_word [] tt
 name_word (label ∷ name) is = labels_word (label ∷ name) (All-head IsLabel label name is.labels).some
 
 -- addresses of IPv4
-dot_rest : IsRest false (codes ".")
+dot_rest : IsBare (codes ".")
 dot_rest = plain refl nothing
 
-pub ipv4_word : (octets : List ℕ) → IsBytes octets → IsWord (ipv4_text octets)
+pub ipv4_word : (octets : List ℕ) → IsBytes octets → IsBareWord (ipv4_text octets)
 ipv4_word octets bytes =
     let small = λ (i : ℕ). let byte = bytes i in let fits : slice_index octets i < 2 ^ 64 = omega arith in fits in
     let first = decimal_word (slice_index octets 0) (small 0) in
@@ -240,7 +284,7 @@ slice_plain [] i all = refl
 slice_plain (c ∷ table) zero all = (and_parts (is_plain false c) (list_all (is_plain false) table) all).0
 slice_plain (c ∷ table) (suc i) all = slice_plain table i (and_parts (is_plain false c) (list_all (is_plain false) table) all).1
 
-symbols_rest : (table octets : List ℕ) → list_all (is_plain false) table ≡ true → IsRest false (encode_symbols table octets)
+symbols_rest : (table octets : List ℕ) → list_all (is_plain false) table ≡ true → IsBare (encode_symbols table octets)
 unfolding encode_symbols
 symbols_rest table [] all = nothing
 symbols_rest table (a ∷ []) all = plain (slice_plain table _ all) (plain (slice_plain table _ all) nothing)
@@ -248,12 +292,12 @@ symbols_rest table (a ∷ b ∷ []) all = plain (slice_plain table _ all) (plain
 symbols_rest table (a ∷ b ∷ c ∷ octets) all =
     plain (slice_plain table _ all) (plain (slice_plain table _ all) (plain (slice_plain table _ all) (plain (slice_plain table _ all) (symbols_rest table octets all))))
 
-padding_rest : (n : ℕ) → IsRest false (replicate n 61)
+padding_rest : (n : ℕ) → IsBare (replicate n 61)
 padding_rest zero = nothing
 padding_rest (suc n) = plain refl (padding_rest n)
 
-pub base64_rest : (octets : List ℕ) → IsRest false (encode_of standard octets)
-base64_rest octets = rest_append false _ _ (symbols_rest (standard.encode_table) octets refl) (padding_rest (padding_len (length octets)))
+pub base64_rest : (octets : List ℕ) → IsBare (encode_of standard octets)
+base64_rest octets = bare_append _ _ (symbols_rest (standard.encode_table) octets refl) (padding_rest (padding_len (length octets)))
 
 symbols_size : (table : List ℕ) (octets : List ℕ) → 0 < length octets → 0 < length (encode_symbols table octets)
 unfolding encode_symbols
@@ -262,7 +306,7 @@ symbols_size table (a ∷ []) some = omega arith
 symbols_size table (a ∷ b ∷ []) some = omega arith
 symbols_size table (a ∷ b ∷ c ∷ octets) some = omega arith
 
-pub base64_word : (octets : List ℕ) → 0 < length octets → IsWord (encode_of standard octets)
+pub base64_word : (octets : List ℕ) → 0 < length octets → IsBareWord (encode_of standard octets)
 base64_word octets some =
     word_append _ _ (symbols_size standard.encode_table octets some, symbols_rest (standard.encode_table) octets refl) (padding_rest (padding_len (length octets)))
 
@@ -270,30 +314,30 @@ base64_word octets some =
 abbrev pub is_plain_word : List ℕ → Bool
 is_plain_word text = not (length text == 0) && list_all (is_plain false) text
 
-pub plain_word : (text : List ℕ) → is_plain_word text ≡ true → IsWord text
+pub plain_word : (text : List ℕ) → is_plain_word text ≡ true → IsBareWord text
 plain_word [] all = absurd (cc all)
 plain_word (c ∷ text) all =
     (omega arith, plain_rest (c ∷ text) (and_parts (not (length (c ∷ text) == 0)) (list_all (is_plain false) (c ∷ text)) all).1)
 
-mnemonic_word : (names : Mnemonics) (n : ℕ) (other : List ℕ) → list_all (λ entry. is_plain_word entry.1) names ≡ true → IsWord other → IsWord (unwrap_or (mnemonic names n) other)
+mnemonic_word : (names : Mnemonics) (n : ℕ) (other : List ℕ) → list_all (λ entry. is_plain_word entry.1) names ≡ true → IsBareWord other → IsBareWord (unwrap_or (mnemonic names n) other)
 mnemonic_word [] n other all h = h
 mnemonic_word (entry ∷ names) n other all h = by_test (entry.0 == n) parts.0 (mnemonic_word names n other parts.1 h) where
   parts : (is_plain_word entry.1 ≡ true) × (list_all (λ entry. is_plain_word entry.1) names ≡ true)
   parts = and_parts (is_plain_word entry.1) (list_all (λ (entry : ℕ × List ℕ). is_plain_word entry.1) names) all
 
-  by_test : (b : Bool) → is_plain_word entry.1 ≡ true → IsWord (unwrap_or (mnemonic names n) other)
-      → IsWord (unwrap_or (option_map (λ (entry : ℕ × List ℕ). entry.1) (if b then Some entry else find (λ entry. entry.0 == n) names)) other)
+  by_test : (b : Bool) → is_plain_word entry.1 ≡ true → IsBareWord (unwrap_or (mnemonic names n) other)
+      → IsBareWord (unwrap_or (option_map (λ (entry : ℕ × List ℕ). entry.1) (if b then Some entry else find (λ entry. entry.0 == n) names)) other)
   by_test true here later = plain_word entry.1 here
   by_test false here later = later
 
-numbered_word : (n : ℕ) → n < 2 ^ 16 → (word : List ℕ) → IsWord word → IsWord (word ++ decimal n)
+numbered_word : (n : ℕ) → n < 2 ^ 16 → (word : List ℕ) → IsBareWord word → IsBareWord (word ++ decimal n)
 numbered_word n small word h = word_append word (decimal n) h (decimal_rest n (omega arith))
 
-rtype_word : (n : ℕ) → n < 2 ^ 16 → IsWord (type_text n)
+rtype_word : (n : ℕ) → n < 2 ^ 16 → IsBareWord (type_text n)
 unfolding type_mnemonics
 rtype_word n small = mnemonic_word type_mnemonics n _ refl (numbered_word n small (codes "TYPE") (plain_word (codes "TYPE") refl))
 
-pub class_word : (n : ℕ) → n < 2 ^ 16 → IsWord (class_text n)
+pub class_word : (n : ℕ) → n < 2 ^ 16 → IsBareWord (class_text n)
 unfolding class_mnemonics
 class_word n small = mnemonic_word class_mnemonics n _ refl (numbered_word n small (codes "CLASS") (plain_word (codes "CLASS") refl))
 
@@ -309,6 +353,6 @@ table_mnemonic_is : (n : ℕ) → mnemonic table_names n ≡ table_mnemonic n
 unfolding table_names table_mnemonic
 table_mnemonic_is n = refl
 
-pub type_is_word : (n : ℕ) → n < 2 ^ 16 → IsWord (type_word n)
+pub type_is_word : (n : ℕ) → n < 2 ^ 16 → IsBareWord (type_word n)
 type_is_word n small =
-    subst (λ (name : Option (List ℕ)). IsWord (unwrap_or name (type_text n))) (table_mnemonic_is n) (mnemonic_word table_names n (type_text n) table_plain (rtype_word n small))
+    subst (λ (name : Option (List ℕ)). IsBareWord (unwrap_or name (type_text n))) (table_mnemonic_is n) (mnemonic_word table_names n (type_text n) table_plain (rtype_word n small))

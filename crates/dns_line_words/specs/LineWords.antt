@@ -32,20 +32,32 @@ pub data IsRest : Bool → List ℕ → Type 0 where
   escaped : {quoted : Bool} {c : ℕ} {rest : List ℕ} → IsRest quoted rest → IsRest quoted (backslash ∷ c ∷ rest)
   turned : {quoted : Bool} {rest : List ℕ} → IsRest (not quoted) rest → IsRest quoted (quote ∷ rest)
 
--- a word: some characters, which end outside of quotes
-abbrev pub IsWord : List ℕ → Type 0
-IsWord word = (0 < length word) × IsRest false word
+-- the rest of a string in quotes, up to its closing quote: plain characters, and backslashes, each with any character
+pub data IsString : List ℕ → Type 0 where
+  closed : IsString (quote ∷ [])
+  plain : {c : ℕ} {rest : List ℕ} → is_plain true c ≡ true → IsString rest → IsString (c ∷ rest)
+  escaped : {c : ℕ} {rest : List ℕ} → IsString rest → IsString (backslash ∷ c ∷ rest)
 
--- a text that may follow a word: none, or one that begins with a character that ends a word
+-- whether a text begins with a quote
+abbrev pub begins_string : List ℕ → Bool
+begins_string [] = false
+begins_string (c ∷ text) = c == quote
+
+-- a word: a string in quotes, or some characters that begin with no quote and end outside of quotes
+pub data IsWord : List ℕ → Type 0 where
+  string : {rest : List ℕ} → IsString rest → IsWord (quote ∷ rest)
+  bare : {word : List ℕ} → 0 < length word → begins_string word ≡ false → IsRest false word → IsWord word
+
+-- a text that may follow a word that isn't in quotes: none, or one that begins with a character that ends a word
 abbrev pub EndsWord : List ℕ → Type 0
 EndsWord [] = Unit {0}
 EndsWord (c ∷ text) = ends_word c ≡ true
 
--- a word, or no characters, at the start of a text, and the text after it
+-- A word at the start of a text, and the text after it. Any text may follow a string in quotes.
 pub record SplitsWord (text word after : List ℕ) : Type 0 where
   pub whole : text ≡ word ++ after
-  pub rest : IsRest false word
-  pub ends : EndsWord after
+  pub is : IsWord word
+  pub ends : begins_string word ≡ false → EndsWord after
 
 -- the text after its first line
 abbrev pub after_line : List ℕ → List ℕ
@@ -57,7 +69,7 @@ pub data AreWordsOf : List ℕ → List (List ℕ) → Type 0 where
   none : AreWordsOf [] []
   blank : {c : ℕ} {text : List ℕ} {words : List (List ℕ)} → is_blank c ≡ true → AreWordsOf text words → AreWordsOf (c ∷ text) words
   comment : {text : List ℕ} {words : List (List ℕ)} → AreWordsOf (after_line text) words → AreWordsOf (semicolon ∷ text) words
-  more : {text word after : List ℕ} {words : List (List ℕ)} → 0 < length word → SplitsWord text word after → AreWordsOf after words → AreWordsOf text (word ∷ words)
+  more : {text word after : List ℕ} {words : List (List ℕ)} → SplitsWord text word after → AreWordsOf after words → AreWordsOf text (word ∷ words)
 
 -- the texts of words
 abbrev pub texts : List (Bor (List ℕ)) → List (List ℕ)
@@ -68,6 +80,17 @@ abbrev pub SplitsWords : List ℕ → Result (Vec (Bor (List ℕ))) TextError �
 SplitsWords line result =
     MatchResult result (λ words. AreWordsOf line (texts words.items))
     (λ error. (error ≡ OutOfMemory) ⊎ ((error ≡ BadWord) × ((words : List (List ℕ)) → ¬ AreWordsOf line words)))
+
+-- the rest of a word at the start of a text, and the text after it
+pub record SplitsRest (text word after : List ℕ) : Type 0 where
+  pub whole : text ≡ word ++ after
+  pub rest : IsRest false word
+  pub ends : EndsWord after
+
+-- the rest of a string in quotes at the start of a text, and the text after it
+pub record SplitsString (text word after : List ℕ) : Type 0 where
+  pub whole : text ≡ word ++ after
+  pub string : IsString word
 
 -- a text that is empty or begins with a word
 abbrev pub BeginsWord : List ℕ → Type 0

@@ -10,7 +10,7 @@ use Rattle.dns_number.specs.Classes.{class_text}
 use Rattle.dns_value_text.specs.Hex.{hex_text}
 use Rattle.dns_value_text.specs.String.{quoted}
 use Rattle.dns_fields_text.specs.FieldTexts.{parameters_text, prefixes_text, sized_text, strings_text}
-use Rattle.dns_fields_text.specs.GatewayTexts.{gateway_at, gateway_text, relay_text}
+use Rattle.dns_fields_text.specs.GatewayTexts.{gateway_at, gateway_text, name_at, relay_text}
 use Rattle.dns_fields_text.specs.HostIdentities.{identity_text}
 use Rattle.dns_fields_text.specs.ParameterItems.{parameters_of}
 use Rattle.dns_fields_text.specs.Parameters.{parameter_word}
@@ -60,11 +60,17 @@ RelaysSplit = (first : ℕ) (octets text : List ℕ) → IsBytes (first ∷ octe
     → (word after : List ℕ) × (gateway_at (first % 128) octets ≡ Some (word, after))
     × AreWordsOf text (decimal (first / 128) ∷ decimal (first % 128) ∷ word ∷ [])
 
--- an algorithm, a host identity tag, a public key and the names of servers
+-- the names that fill octets, one after another
+abbrev pub AreNames : List ℕ → List Labels → Type 0
+AreNames octets [] = octets ≡ []
+AreNames octets (name ∷ names) = (after : List ℕ) × (name_at octets ≡ Some (name, after)) × AreNames after names
+
+-- an algorithm, a host identity tag, a public key and the names of servers, which fill the other octets
 abbrev pub IdentitiesSplit : Type 0
 IdentitiesSplit = (tag_size algorithm high low : ℕ) (octets text : List ℕ) → IsBytes (tag_size ∷ algorithm ∷ high ∷ low ∷ octets)
     → identity_text (tag_size ∷ algorithm ∷ high ∷ low ∷ octets) ≡ Some text
     → (servers : List Labels)
+    × AreNames (drop (high * 256 + low) (drop tag_size octets)) servers
     × AreWordsOf text
     (decimal algorithm ∷ hex_text (take tag_size octets) ∷ encode_of standard (take (high * 256 + low) (drop tag_size octets)) ∷ map zone_name_text servers)
 

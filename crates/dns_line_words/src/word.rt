@@ -1,6 +1,6 @@
 //! The word that a text begins with (RFC 1035 section 5.1).
 ghost use Rattle.std.specs.Prelude.{◌≡◌, ℕ, List, MatchOption};
-ghost use Rattle.dns_line_words.specs.LineWords.{SplitsWord, ends_word, is_blank};
+ghost use Rattle.dns_line_words.specs.LineWords.{BeginsWord, SplitsRest, SplitsString, SplitsWord, ends_word, is_blank};
 
 /// Whether the character separates words. Parentheses only join lines.
 pub(crate) fn is_blank(character: u8) -> bool
@@ -16,12 +16,33 @@ fn ends_word(character: u8) -> bool
     is_blank(character) || character == b';'
 }
 
-/// The text after the word that a text begins with. `None` if a quote or a backslash is open at the
-/// end.
-fn after_word(text: &[u8]) -> Option<&[u8]>
+/// The text after the rest of a string in quotes. `None` if it has no closing quote.
+fn after_string(text: &[u8]) -> Option<&[u8]>
     ensures { MatchOption result
-        ((word : List ℕ) (after : List ℕ) → ¬ (SplitsWord text.now word after))
-        (λ after. (word : List ℕ) × SplitsWord text.now word after.now) }
+        ((word : List ℕ) (after : List ℕ) → ¬ (SplitsString text.now word after))
+        (λ after. (word : List ℕ) × SplitsString text.now word after.now) }
+{
+    let mut escaped = false;
+    let mut left = text;
+    'characters: while let [character, after @ ..] = left {
+        if escaped {
+            escaped = false;
+        } else if *character == b'\\' {
+            escaped = true;
+        } else if *character == b'"' {
+            return Some(after);
+        }
+        left = after;
+    }
+    None
+}
+
+/// The text after the rest of a word that isn't in quotes. `None` if a quote or a backslash is open
+/// at the end.
+fn after_rest(text: &[u8]) -> Option<&[u8]>
+    ensures { MatchOption result
+        ((word : List ℕ) (after : List ℕ) → ¬ (SplitsRest text.now word after))
+        (λ after. (word : List ℕ) × SplitsRest text.now word after.now) }
 {
     let mut quoted = false;
     let mut escaped = false;
@@ -41,9 +62,27 @@ fn after_word(text: &[u8]) -> Option<&[u8]>
     if quoted || escaped { None } else { Some(left) }
 }
 
+/// The text after the word that a text begins with. `None` if a quote or a backslash is open at the
+/// end.
+fn after_word(text: &[u8]) -> Option<&[u8]>
+    requires begins { BeginsWord text.now }
+    ensures { MatchOption result
+        ((word : List ℕ) (after : List ℕ) → ¬ (SplitsWord text.now word after))
+        (λ after. (word : List ℕ) × SplitsWord text.now word after.now) }
+{
+    let [first, after @ ..] = text else {
+        return None;
+    };
+    if *first == b'"' {
+        return after_string(after);
+    }
+    after_rest(text)
+}
+
 /// The word that a text begins with, and the text after it. `None` if a quote or a backslash is open
 /// at the end.
 pub(crate) fn split_word(text: &str) -> Option<(&str, &str)>
+    requires begins { BeginsWord text.now }
     ensures { MatchOption result
         ((word : List ℕ) (after : List ℕ) → ¬ (SplitsWord text.now word after))
         (λ split. SplitsWord text.now split.0.now split.1.now) }

@@ -33,7 +33,7 @@ returns-clause-records c = record_split
 
 pub returns-clause-identities : goal.returns-clause-identities
 returns-clause-identities c = λ tag_size algorithm high low octets text bytes e.
-    let h = identities_split tag_size algorithm high low octets text bytes e in (h.0, words_are _ _ h.1)
+    let h = identities_split tag_size algorithm high low octets text bytes e in (h.0, h.2, words_are _ _ h.1)
 
 pub returns-clause-parameters : goal.returns-clause-parameters
 returns-clause-parameters c = λ octets bytes. words_are _ _ (parameters_split octets bytes)

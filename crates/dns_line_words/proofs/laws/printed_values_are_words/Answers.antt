@@ -1,6 +1,5 @@
-use Rattle.dns_line_words.proofs.Ipv6Texts.{ipv6_word}
-use Rattle.dns_line_words.proofs.PrefixTexts.{hash_word, prefix_is_word}
-use Rattle.dns_line_words.proofs.WordTexts.{base64_word, class_word, decimal_word, eui_word, hex_word, ipv4_word, locator_word, name_word, quoted_word, salt_word, tag_word, time_word, type_is_word}
+use Rattle.dns_line_words.proofs.WordTexts.{quoted_word}
+use Rattle.dns_line_words.proofs.Words.{base64_word, class_word, decimal_word, eui_word, hash_word, hex_word, ipv4_word, ipv6_word, locator_word, name_word, prefix_is_word, salt_word, tag_word, time_word, type_is_word}
 use Rattle.dns_line_words.proofs.laws.printed_values_are_words.Goals as goal
 
 pub returns-clause-numbers : goal.returns-clause-numbers

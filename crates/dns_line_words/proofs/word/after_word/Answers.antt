@@ -1,23 +1,17 @@
-use Rattle.std.proofs.Common.{◌≡◌, ◌∙◌, true, false, get_or, sym, inl, inr, arith}
-use Rattle.std.specs.Prelude.{◌||◌}
-use Rattle.std.proofs.lemmas.Bool.{or_from, or_left, or_right}
-use Rattle.dns_line_words.specs.LineWords.{ends_word}
-use Rattle.dns_line_words.proofs.WordLemmas.{all_ends, all_open, word_ends}
+use Rattle.std.proofs.Common.{ℕ, List, arith, subst, sym}
+use Rattle.std.specs.Prelude.{MatchOption}
+use Rattle.std.proofs.lemmas.Bool.{ne_eqb}
+use Rattle.dns_line_words.specs.LineWords.{SplitsString}
+use Rattle.dns_line_words.proofs.WordLemmas.{after_first_is, word_of_rest, word_of_string}
 use Rattle.dns_line_words.proofs.word.after_word.Goals as goal
 
-pub returns-then-ends_word : goal.returns-then-ends_word
-returns-then-ends_word c =
-    let ends : ends_word (get_or c.characters.left.now 0 0) ≡ true = sym c.ends_word.ensures ∙ c.if-ends_word.true in
-    let outside : c.characters.quoted ≡ false = first_of (cc, grind arith) in
-    word_ends c.characters.quoted c.characters.escaped c.args.text.now c.characters.left.now c.characters.invariant outside c.if-escaped.false (omega arith) ends
+pub returns-then-first-eq34 : goal.returns-then-first-eq34
+returns-then-first-eq34 c =
+    let text : List ℕ = c.args.text.now in
+    word_of_string text (omega arith) c.if-first-eq34.true c.after_string.result
+    (subst
+    (λ (left : List ℕ). MatchOption c.after_string.result ((word : List ℕ) (after : List ℕ) → ¬ (SplitsString left word after)) (λ after. (word : List ℕ) × SplitsString left word after.now))
+    (sym (after_first_is text)) c.after_string.ensures)
 
-pub returns-then-escaped-2 : goal.returns-then-escaped-2
-returns-then-escaped-2 c =
-    let unclosed : c.characters.quoted || c.characters.escaped ≡ true =
-    elim c.if-escaped-2.either [ inl e ↦ or_left c.characters.quoted c.characters.escaped e | inr e ↦ or_right c.characters.quoted c.characters.escaped e.1 ] in
-    all_open c.characters.quoted c.characters.escaped c.args.text.now c.characters.left.now c.characters.invariant c.in_default.len_below unclosed
-
-pub returns-else-escaped-2 : goal.returns-else-escaped-2
-returns-else-escaped-2 c =
-    all_ends c.characters.quoted c.characters.escaped c.args.text.now c.characters.left.now c.characters.invariant c.in_default.len_below
-    (or_from c.characters.quoted c.characters.escaped c.if-escaped-2.false.0 c.if-escaped-2.false.1)
+pub returns : goal.returns
+returns c = word_of_rest c.args.text.now (omega arith) c.requires.begins (ne_eqb _ _ c.if-first-eq34.false) c.after_rest.result c.after_rest.ensures
