@@ -78,8 +78,8 @@ fn in_range_count(labels: &LabelStarts<'_>, offset: usize, from: usize) -> usize
     }
 }
 
-/// The index of the first label of the suffix to try first for the next name: the suffix that was
-/// found, or else the whole name.
+/// The index of a label of the name. The suffix that begins there is compared first with the next
+/// name. It is the suffix that was found, or the whole name if none was.
 fn shared_from(found: Found) -> usize
     ensures { result ≤ found.from }
 {
