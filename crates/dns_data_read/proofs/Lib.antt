@@ -1,6 +1,14 @@
 mod AppendLemmas
 mod CountLemmas
+mod FieldPart
+mod FieldShapes
+mod NumberOctets
 mod OneData
+mod PrintedLaws
+mod PrintedValues
 mod RdataLemmas
 mod RecordLemmas
 mod StringLemmas
+mod StringLists
+mod Unmarked
+mod WordsBack
