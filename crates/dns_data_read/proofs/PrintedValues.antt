@@ -1,6 +1,6 @@
 -- What is printed of a value of one word: it is a word, reads back, and isn't `\#`.
-use Rattle.std.proofs.Common.{◌≡◌, ◌∙◌, ℕ, zero, suc, ◌+◌, ◌*◌, ◌/◌, ◌%◌, ◌<◌, ◌≤◌, ◌^◌, ◌==◌, Bool, true, false, Some, List, [], ◌∷◌, ◌++◌, length, decimal, refl, sym, ap, subst, arith, inl}
-use Rattle.std.specs.Prelude.{All, if◌then◌else◌, nat_lt}
+use Rattle.std.proofs.Common.{◌≡◌, ℕ, zero, suc, ◌<◌, ◌≤◌, ◌^◌, Bool, true, false, Some, List, [], ◌∷◌, ◌++◌, length, decimal, refl, sym, ap, subst, arith, inl}
+use Rattle.std.specs.Prelude.{All}
 use Rattle.std.specs.List.{flat_map}
 use Rattle.std.specs.Net.Addr.{segments_of}
 use Rattle.std.specs.Net.Grammar.{IsDotted}
