@@ -5,8 +5,8 @@ use Rattle.std.specs.Prelude.{◌↔◌, ◌⊎◌}
 use Rattle.std.specs.Borrow.{Bor}
 use Rattle.std.specs.Net.Grammar.{IsNumber}
 use Rattle.dns_name.specs.Names.{Labels}
-use Rattle.dns_name.specs.NameTexts.{SpellsName}
 use Rattle.dns_number.specs.Classes.{SpellsClass}
+use Rattle.dns_fields_read.specs.NameWords.{IsNameText}
 use Rattle.dns_fields_read.specs.TypeWords.{IsTypeWord}
 use Rattle.dns_fields_read.proofs.TypeMapLaws.{one_word}
 use Rattle.dns_item.specs.Items.{RecordItem}
@@ -33,7 +33,7 @@ module _ (owner : Labels) (ttl class rtype : ℕ) (words : Words) where
   -- the head by its four words
   abbrev pub Head : List ℕ → List ℕ → List ℕ → List ℕ → Type 0
   Head name seconds class_word type_word =
-      SpellsName name owner × (IsNumber 10 seconds ttl × (ttl < 2 ^ 32)) × SpellsClass class_word class × IsTypeWord type_word rtype
+      IsNameText name owner × (IsNumber 10 seconds ttl × (ttl < 2 ^ 32)) × SpellsClass class_word class × IsTypeWord type_word rtype
 
   pub head_is : (x y z w : Bor (List ℕ)) → 4 ≤ length words
       → AreHeadWords words owner ttl class rtype ↔ Head (get_or words 0 x).now (get_or words 1 y).now (get_or words 2 z).now (get_or words 3 w).now
@@ -46,7 +46,7 @@ module _ (owner : Labels) (ttl class rtype : ℕ) (words : Words) where
     by_words (a ∷ b ∷ c ∷ d ∷ ws) many = (λ is. is, λ is. is)
 
   -- one of the words
-  pub owner_is : (x : Bor (List ℕ)) → 4 ≤ length words → AreHeadWords words owner ttl class rtype → SpellsName (get_or words 0 x).now owner
+  pub owner_is : (x : Bor (List ℕ)) → 4 ≤ length words → AreHeadWords words owner ttl class rtype → IsNameText (get_or words 0 x).now owner
   owner_is x many are = ((head_is x x x x many).0 are).0
 
   pub class_is : (x : Bor (List ℕ)) → 4 ≤ length words → AreHeadWords words owner ttl class rtype → SpellsClass (get_or words 2 x).now class

@@ -6,7 +6,8 @@ use Rattle.std.specs.Str.Pattern.{RFindsChar, SplitsAroundMatch}
 use Rattle.std.proofs.lemmas.Bool.{cond-false}
 use Rattle.std.proofs.lemmas.Str.Pattern.{NoCharPasses-char, drop_at_char}
 use Rattle.dns_value_text.specs.declared.text_error.TextError.{TextError}
-use Rattle.dns_fields_read.specs.ParameterValues.{AppendsOctets, AreJoined, comma_texts, with_first}
+use Rattle.dns_fields_read.specs.ParameterValues.{AreJoined, comma_texts, with_first}
+use Rattle.dns_fields_read.specs.Reading.{AppendsOctets}
 
 -- a text has no comma
 abbrev pub NoComma : List ℕ → Type 0
