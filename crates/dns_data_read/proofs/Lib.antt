@@ -1,5 +1,8 @@
 mod AppendLemmas
 mod CountLemmas
+mod FieldPart
+mod MarkedWords
+mod OctetLemmas
 mod OneData
 mod RdataLemmas
 mod RecordLemmas
