@@ -4,6 +4,7 @@ mod FieldPart
 mod MarkedWords
 mod OctetLemmas
 mod OneData
+mod ParametersBack
 mod RdataLemmas
 mod RecordLemmas
 mod StringLemmas
