@@ -1,10 +1,13 @@
 mod AppendLemmas
+mod ClearWords
 mod CountLemmas
 mod FieldPart
+mod LocationBack
 mod MarkedWords
 mod OctetLemmas
 mod OneData
 mod ParametersBack
+mod PrintedTexts
 mod RdataLemmas
 mod RecordLemmas
 mod StringLemmas
