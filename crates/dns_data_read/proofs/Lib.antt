@@ -2,6 +2,7 @@ mod AppendLemmas
 mod ClearWords
 mod CountLemmas
 mod FieldPart
+mod GatewaysBack
 mod LocationBack
 mod MarkedWords
 mod OctetLemmas
