@@ -3,6 +3,7 @@ mod ClearWords
 mod CountLemmas
 mod FieldPart
 mod GatewaysBack
+mod ListsBack
 mod LocationBack
 mod MarkedWords
 mod OctetLemmas
