@@ -12,24 +12,13 @@ use Rattle.dns_fields_text.specs.Strings.{string_at, strings_of}
 use Rattle.dns_fields_read.specs.Laws.{StringsReadBack}
 use Rattle.dns_line_words.specs.LineWords.{texts}
 use Rattle.dns_data_read.specs.FieldWords.{AreStrings, IsString, Words, counted}
+use Rattle.dns_data_read.proofs.OctetLemmas.{bytes_drop, bytes_take}
 
 -- octets that end a character string are there, and strings follow them
 after_string : (left : ℕ) (octets : List ℕ) → strings_after left octets ≡ true → (left ≤ length octets) × (strings_after 0 (drop left octets) ≡ true)
 after_string zero octets are = (omega arith, are)
 after_string (suc left) [] are = absurd (false≢true are)
 after_string (suc left) (o ∷ octets) are = let rest = after_string left octets are in (omega (arith, rest.0), rest.1)
-
--- octets of a part of a list
-bytes_taken : (n : ℕ) (octets : List ℕ) → IsBytes octets → IsBytes (take n octets)
-bytes_taken zero octets bytes i = omega arith
-bytes_taken (suc n) [] bytes i = bytes i
-bytes_taken (suc n) (o ∷ octets) bytes zero = bytes 0
-bytes_taken (suc n) (o ∷ octets) bytes (suc i) = bytes_taken n octets (λ k. bytes (suc k)) i
-
-bytes_dropped : (n : ℕ) (octets : List ℕ) → IsBytes octets → IsBytes (drop n octets)
-bytes_dropped zero octets bytes i = bytes i
-bytes_dropped (suc n) [] bytes i = bytes i
-bytes_dropped (suc n) (o ∷ octets) bytes i = bytes_dropped n octets (λ k. bytes (suc k)) i
 
 module _ (back : StringsReadBack) where
   -- the first string
@@ -39,7 +28,7 @@ module _ (back : StringsReadBack) where
       let small : size < 256 = bytes 0 in
       let sized : length string ≡ size = length-take-le size octets fits in (
         string,
-        subst (λ (w : List ℕ). SpellsString w string) (sym e) (back string (bytes_taken size octets (λ i. bytes (suc i)))),
+        subst (λ (w : List ℕ). SpellsString w string) (sym e) (back string (bytes_take size octets (λ i. bytes (suc i)))),
         omega arith,
         refl,
       )
@@ -66,7 +55,7 @@ module _ (back : StringsReadBack) where
         drop size octets,
         first_string size octets word.now after.0 bytes same,
         split_string size octets after.0,
-        strings_read count (drop size octets) own (omega (arith, length-drop size octets)) after.1 (bytes_dropped size octets (λ i. bytes (suc i))) others,
+        strings_read count (drop size octets) own (omega (arith, length-drop size octets)) after.1 (bytes_drop size octets (λ i. bytes (suc i))) others,
       )
 
 -- the first of the strings

@@ -1,12 +1,12 @@
 -- Printed texts that aren't `\#`. RFC 3597 section 5.
-use Rattle.std.proofs.Common.{◌≡◌, ◌≢◌, ◌∙◌, ℕ, ◌/◌, ◌%◌, ◌<◌, ◌≤◌, ◌^◌, ◌==◌, Bool, true, false, List, [], ◌∷◌, ◌++◌, length, decimal, refl, sym, ap, subst, arith, inl, inr}
-use Rattle.std.specs.Prelude.{Option, Some, codes, find, if◌then◌else◌, not, option_map, slice_index, unwrap_or}
+use Rattle.std.proofs.Common.{◌≡◌, ◌≢◌, ◌∙◌, ℕ, ◌/◌, ◌%◌, ◌<◌, ◌≤◌, ◌^◌, Bool, true, false, List, [], ◌∷◌, ◌++◌, length, decimal, refl, sym, ap, subst, arith, inl, inr}
+use Rattle.std.specs.Prelude.{codes}
 use Rattle.std.specs.Char.{digit_value}
 use Rattle.std.specs.Fmt.{digit_glyph}
-use Rattle.std.specs.List.{flat_map, list_all}
+use Rattle.std.specs.List.{flat_map}
 use Rattle.std.specs.Net.Grammar.{IsColonHex, IsDotted, IsGroupsAfter}
 use Rattle.std.specs.Str.Parse.{IsNumeral}
-use Rattle.std.proofs.lemmas.Bool.{and_parts, false≢true}
+use Rattle.std.proofs.lemmas.Bool.{false≢true}
 use Rattle.std.proofs.lemmas.Bool.Decides.{nat_tests}
 use Rattle.std.proofs.lemmas.Fmt.{decimal_is_IsNumeral}
 use Rattle.std.proofs.lemmas.List.Elements.{All-head}
@@ -15,17 +15,13 @@ use Rattle.base64.specs.GeneralPurpose.{encode_of}
 use Rattle.base64.specs.Rfc4648.{encode_symbols}
 use Rattle.hex.specs.Hex.{IsBytes}
 use Rattle.dns_name.specs.Names.{IsLabel, IsName, Labels, with_root}
-use Rattle.dns_number.specs.Mnemonics.{Mnemonics, mnemonic, type_mnemonics}
-use Rattle.dns_number.specs.Types.{type_text}
 use Rattle.dns_value_text.specs.Addresses.{eui_text, locator_text}
 use Rattle.dns_value_text.specs.Base32.{base32_digits, base32_text}
 use Rattle.dns_value_text.specs.Hex.{hex_text}
 use Rattle.dns_value_text.specs.String.{is_tag, quote, quoted, string_octet}
 use Rattle.dns_value_text.specs.Time.{time_text}
 use Rattle.dns_fields_text.specs.FieldTexts.{salt_text}
-use Rattle.dns_fields_text.specs.TypeNames.{mnemonic as printed_mnemonic, type_word}
 use Rattle.dns_fields_text.specs.ZoneNames.{dotted_label, zone_label_text, zone_name_text}
-use Rattle.dns_fields_read.specs.TypeWords.{table_mnemonics}
 
 abbrev pub Unmarked : List ℕ → Type 0
 Unmarked text = text ≢ codes "\\#"
@@ -70,9 +66,6 @@ numeral_begins radix (d ∷ digits) small is = record {
 
 decimal_begins : (n : ℕ) → n < 2 ^ 64 → Begins (decimal n)
 decimal_begins n small = numeral_begins 10 (decimal n) (omega arith) (decimal_is_IsNumeral n small).0
-
-pub number_unmarked : (n : ℕ) → n < 2 ^ 64 → Unmarked (decimal n)
-number_unmarked n small = begins_unmarked (decimal n) (decimal_begins n small)
 
 -- addresses
 dotted_begins : (text octets : List ℕ) → IsDotted text octets → Begins text
@@ -195,38 +188,3 @@ base64_unmarked [] some = absurd (omega arith)
 base64_unmarked (a ∷ []) some = longer _ _ _ _
 base64_unmarked (a ∷ b ∷ []) some = longer _ _ _ _
 base64_unmarked (a ∷ b ∷ c ∷ octets) some = longer _ _ _ _
-
--- record types
-abbrev is_unmarked : List ℕ → Bool
-is_unmarked text = not (slice_index text 0 == 92)
-
-mnemonic_unmarked : (names : Mnemonics) (n : ℕ) (other : List ℕ) → list_all (λ entry. is_unmarked entry.1) names ≡ true → is_unmarked other ≡ true
-    → is_unmarked (unwrap_or (mnemonic names n) other) ≡ true
-mnemonic_unmarked [] n other all h = h
-mnemonic_unmarked (entry ∷ names) n other all h = by_test (entry.0 == n) parts.0 (mnemonic_unmarked names n other parts.1 h) where
-  parts : (is_unmarked entry.1 ≡ true) × (list_all (λ entry. is_unmarked entry.1) names ≡ true)
-  parts = and_parts (is_unmarked entry.1) (list_all (λ (entry : ℕ × List ℕ). is_unmarked entry.1) names) all
-
-  by_test : (b : Bool) → is_unmarked entry.1 ≡ true → is_unmarked (unwrap_or (mnemonic names n) other) ≡ true
-      → is_unmarked (unwrap_or (option_map (λ (entry : ℕ × List ℕ). entry.1) (if b then Some entry else find (λ entry. entry.0 == n) names)) other) ≡ true
-  by_test true here later = here
-  by_test false here later = later
-
-type_text_unmarked : (n : ℕ) → is_unmarked (type_text n) ≡ true
-unfolding type_mnemonics
-type_text_unmarked n = mnemonic_unmarked type_mnemonics n (codes "TYPE" ++ decimal n) refl refl
-
-table_unmarked : list_all (λ entry. is_unmarked entry.1) table_mnemonics ≡ true
-unfolding table_mnemonics
-table_unmarked = refl
-
-same_mnemonic : (n : ℕ) → mnemonic table_mnemonics n ≡ printed_mnemonic n
-unfolding table_mnemonics printed_mnemonic
-same_mnemonic n = refl
-
-pub type_unmarked : (n : ℕ) → Unmarked (type_word n)
-type_unmarked n e = false≢true (sym (ap is_unmarked e) ∙ by_table) where
-  by_table : is_unmarked (type_word n) ≡ true
-  by_table =
-      subst (λ (name : Option (List ℕ)). is_unmarked (unwrap_or name (type_text n)) ≡ true) (same_mnemonic n)
-      (mnemonic_unmarked table_mnemonics n (type_text n) table_unmarked (type_text_unmarked n))

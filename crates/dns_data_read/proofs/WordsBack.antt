@@ -1,52 +1,39 @@
 -- The words of the text of one field represent its octets, and the first word isn't `\#`: fields of one word, sized octets, character strings, and octets in hexadecimal and in base64.
-use Rattle.std.proofs.Common.{◌≡◌, ◌≢◌, ◌∙◌, ℕ, suc, ◌/◌, ◌%◌, ◌<◌, ◌≤◌, ◌^◌, true, false, Some, List, [], ◌∷◌, ◌++◌, length, decimal, drop, refl, sym, subst, arith, append-nil}
-use Rattle.std.specs.Prelude.{map, nat_lt, ◌==◌}
-use Rattle.std.specs.Net.Addr.{segments_of}
-use Rattle.std.specs.Net.Grammar.{IsDotted, IsNumber}
-use Rattle.std.specs.Net.Text.{ipv4_text, ipv6_text}
+use Rattle.std.proofs.Common.{◌≡◌, ◌≢◌, ◌∙◌, ℕ, suc, ◌/◌, ◌%◌, ◌<◌, ◌^◌, true, false, Some, List, [], ◌∷◌, ◌++◌, length, decimal, drop, refl, sym, subst, arith, append-nil}
+use Rattle.std.specs.Prelude.{map}
+use Rattle.std.specs.Net.Grammar.{IsNumber}
 use Rattle.std.proofs.lemmas.Fmt.{decimal_is_IsNumeral}
 use Rattle.base64.specs.Engines.{standard}
 use Rattle.base64.specs.GeneralPurpose.{encode_of}
 use Rattle.hex.specs.Hex.{IsBytes}
-use Rattle.dns_name.specs.Names.{IsName, Labels, uncompressed}
 use Rattle.dns_wire.specs.Parts.{AreParts, Part}
-use Rattle.dns_wire.specs.Parts.Part.{Octets as OctetsPart}
 use Rattle.dns_fields.specs.Accepts.{accepts}
 use Rattle.dns_fields.specs.DataOrders.{part_octets}
 use Rattle.dns_fields.specs.Strings.{are_strings}
-use Rattle.dns_fields.specs.Values.{number_after, part_value}
+use Rattle.dns_fields.specs.Values.{part_value}
 use Rattle.dns_fields.specs.declared.kind.Kind.{Kind}
 use Rattle.dns_fields.specs.declared.kind.Kind.TheVariants as kinds
-use Rattle.dns_value_text.specs.Addresses.{eui_text, locator_text}
-use Rattle.dns_value_text.specs.Base32.{base32_text}
 use Rattle.dns_value_text.specs.Hex.{hex_text}
 use Rattle.dns_value_text.specs.Octets.{IsBase64, IsHex}
 use Rattle.dns_value_text.specs.String.{is_tag, quoted}
-use Rattle.dns_value_text.specs.Strings.{SpellsString}
-use Rattle.dns_value_text.specs.Time.{time_text}
-use Rattle.dns_fields_text.specs.FieldTexts.{salt_text, sized_text, strings_text, text_of_any, value_text}
+use Rattle.dns_fields_text.specs.FieldTexts.{sized_text, strings_text, text_of_any, value_text}
 use Rattle.dns_fields_text.specs.Strings.{strings_of}
-use Rattle.dns_fields_text.specs.TypeNames.{type_word}
-use Rattle.dns_fields_text.specs.ZoneNames.{zone_name_text}
-use Rattle.dns_fields_read.specs.Addresses.{IsIpv6Word}
-use Rattle.dns_fields_read.specs.EuiWords.{IsEuiWord}
 use Rattle.dns_fields_read.specs.JoinedWords.{joined}
-use Rattle.dns_fields_read.specs.LocatorWords.{IsLocatorWord}
-use Rattle.dns_fields_read.specs.NameWords.{IsNameWord}
 use Rattle.dns_fields_read.specs.SizedWords.{AreSized, IsSizedWords, sized}
 use Rattle.dns_line_words.specs.LineWords.{AreWordsOf, IsWord, texts}
 use Rattle.dns_line_words.specs.LineWords.AreWordsOf.{none, more}
 use Rattle.dns_line_words.specs.ListLaws.{word_of_any}
 use Rattle.dns_data_read.specs.DataWords.{IsMarked}
 use Rattle.dns_data_read.specs.Extents.{extent_of}
-use Rattle.dns_data_read.specs.FieldWords.{AreFieldWords, IsFieldWord, IsHash, IsNumberIn, IsOne, IsSalt, IsString, IsTime, IsType, Words}
+use Rattle.dns_data_read.specs.FieldWords.{AreFieldWords, IsFieldWord, IsOne, Words}
 use Rattle.dns_data_read.specs.declared.extent.Extent.TheVariants.{One}
 use Rattle.dns_data_read.proofs.FieldPart.{HasWords, IsFieldPart}
 use Rattle.dns_data_read.proofs.FieldShapes.{of_counted, of_fixed, of_name, of_rest, of_sized, of_uncompressed}
+use Rattle.dns_data_read.proofs.MarkedWords.{number_differs}
 use Rattle.dns_data_read.proofs.PrintedLaws.{PrintedLaws}
-use Rattle.dns_data_read.proofs.PrintedValues.{Printed, any_is, as_text, eui_printed, hash_printed, ipv4_printed, ipv6_printed, locator_printed, name_printed, number_printed, salt_printed, some_same, string_printed, tag_printed, text_is, text_printed, time_printed, type_printed}
+use Rattle.dns_data_read.proofs.PrintedValues.{Printed, any_is, eui_printed, hash_printed, ipv4_printed, ipv6_printed, locator_printed, name_printed, number_printed, salt_printed, some_same, string_printed, tag_printed, text_is, text_printed, time_printed, type_printed}
 use Rattle.dns_data_read.proofs.StringLists.{first_quoted, string_list_back}
-use Rattle.dns_data_read.proofs.Unmarked.{Unmarked, base64_unmarked as base64_text_unmarked, hex_unmarked, number_unmarked, quoted_unmarked}
+use Rattle.dns_data_read.proofs.Unmarked.{Unmarked, base64_unmarked as base64_text_unmarked, hex_unmarked, quoted_unmarked}
 
 -- a text that is one word
 word_alone : (text : List ℕ) → IsWord text → AreWordsOf text (text ∷ [])
@@ -83,102 +70,51 @@ IsPrinted kind text part =
     AreParts (part ∷ []) → IsBytes (part_octets part) → value_text kind (part_value kind part) ≡ Some text → Printed (IsFieldWord kind) (part_octets part) text
 
 module _ (laws : PrintedLaws) where
-  number_text : (size : ℕ) (octets text : List ℕ) → 256 ^ size ≤ 2 ^ 64 → length octets ≡ size → IsBytes octets → Some (decimal (number_after 0 octets)) ≡ Some text → Printed (IsNumberIn size) octets text
-  number_text size octets text fits size_is bytes e =
-      as_text (IsNumberIn size) octets (decimal (number_after 0 octets)) text e (number_printed laws size octets fits size_is bytes)
-
-  time_text_back : (octets text : List ℕ) → length octets ≡ 4 → IsBytes octets → Some (time_text (number_after 0 octets)) ≡ Some text → Printed IsTime octets text
-  time_text_back octets text size_is bytes e = as_text IsTime octets (time_text (number_after 0 octets)) text e (time_printed laws octets size_is bytes)
-
-  eui_text_back : (size : ℕ) (octets text : List ℕ) → 2 ≤ size → length octets ≡ size → IsBytes octets → Some (eui_text octets) ≡ Some text → Printed (IsEuiWord size) octets text
-  eui_text_back size octets text some size_is bytes e = as_text (IsEuiWord size) octets (eui_text octets) text e (eui_printed laws size octets some size_is bytes)
-
-  name_text : (name : Labels) (text : List ℕ) → IsName name → IsBytes (uncompressed name) → Some (zone_name_text name) ≡ Some text → Printed IsNameWord (uncompressed name) text
-  name_text name text is bytes e = as_text IsNameWord (uncompressed name) (zone_name_text name) text e (name_printed laws name is bytes)
-
-  -- a character string, a tag, a salt and a hash
-  module _ (size : ℕ) (octets text : List ℕ) (size_is : length octets ≡ size) (bytes : IsBytes (size ∷ octets)) where
-    few : length octets ≤ 255
-    few = let small : size < 256 = bytes 0 in omega arith
-
-    inner : IsBytes octets
-    inner i = bytes (suc i)
-
-    string_text : Some (quoted octets) ≡ Some text → Printed IsString (size ∷ octets) text
-    string_text e = as_text IsString (size ∷ octets) (quoted octets) text e (string_printed laws size octets size_is inner few)
-
-    tag_text : value_text kinds.Tag (part_value kinds.Tag (OctetsPart (size ∷ octets))) ≡ Some text → Printed IsString (size ∷ octets) text
-    tag_text e =
-        let tag = text_is (is_tag octets) octets text e in
-        as_text IsString (size ∷ octets) octets text tag.1 (tag_printed laws size octets size_is inner tag.0 few)
-
-    salt_text_back : Some (salt_text octets) ≡ Some text → Printed IsSalt (size ∷ octets) text
-    salt_text_back e = as_text IsSalt (size ∷ octets) (salt_text octets) text e (salt_printed laws size octets size_is inner few)
-
-    hash_text : value_text kinds.Hash (part_value kinds.Hash (OctetsPart (size ∷ octets))) ≡ Some text → Printed IsHash (size ∷ octets) text
-    hash_text e =
-        let some = any_is base32_text octets text e in
-        as_text IsHash (size ∷ octets) (base32_text octets) text some.1 (hash_printed laws size octets size_is inner some.0 few)
-
   -- what is printed of a field of one word
   word_printed : (kind : Kind) (part : Part) (text : List ℕ) → extent_of kind ≡ One → IsFieldPart kind part → value_text kind (part_value kind part) ≡ Some text
       → Printed (IsFieldWord kind) (part_octets part) text
   word_printed kinds.Number8 part text one is e =
-      of_fixed (IsPrinted kinds.Number8 text) 1 (λ octets size_is parts bytes e. number_text 1 octets text (omega arith) size_is bytes e) part is.0 is.1 is.2 e
+      of_fixed (IsPrinted kinds.Number8 text) 1 (λ octets sized parts bytes e. number_printed laws 1 octets text (omega arith) sized bytes e) part is.0 is.1 is.2 e
   word_printed kinds.Number16 part text one is e =
-      of_fixed (IsPrinted kinds.Number16 text) 2 (λ octets size_is parts bytes e. number_text 2 octets text (omega arith) size_is bytes e) part is.0 is.1 is.2 e
+      of_fixed (IsPrinted kinds.Number16 text) 2 (λ octets sized parts bytes e. number_printed laws 2 octets text (omega arith) sized bytes e) part is.0 is.1 is.2 e
   word_printed kinds.Number32 part text one is e =
-      of_fixed (IsPrinted kinds.Number32 text) 4 (λ octets size_is parts bytes e. number_text 4 octets text (omega arith) size_is bytes e) part is.0 is.1 is.2 e
+      of_fixed (IsPrinted kinds.Number32 text) 4 (λ octets sized parts bytes e. number_printed laws 4 octets text (omega arith) sized bytes e) part is.0 is.1 is.2 e
   word_printed kinds.Number48 part text one is e =
-      of_fixed (IsPrinted kinds.Number48 text) 6 (λ octets size_is parts bytes e. number_text 6 octets text (omega arith) size_is bytes e) part is.0 is.1 is.2 e
+      of_fixed (IsPrinted kinds.Number48 text) 6 (λ octets sized parts bytes e. number_printed laws 6 octets text (omega arith) sized bytes e) part is.0 is.1 is.2 e
   word_printed kinds.Seconds part text one is e =
-      of_fixed (IsPrinted kinds.Seconds text) 4 (λ octets size_is parts bytes e. number_text 4 octets text (omega arith) size_is bytes e) part is.0 is.1 is.2 e
+      of_fixed (IsPrinted kinds.Seconds text) 4 (λ octets sized parts bytes e. number_printed laws 4 octets text (omega arith) sized bytes e) part is.0 is.1 is.2 e
   word_printed kinds.Time part text one is e =
-      of_fixed (IsPrinted kinds.Time text) 4
-      (λ octets size_is parts bytes e.
-      time_text_back octets text size_is bytes (text_is (nat_lt (number_after 0 octets) (2 ^ 32)) (time_text (number_after 0 octets)) text e).1)
-      part is.0 is.1 is.2 e
+      of_fixed (IsPrinted kinds.Time text) 4 (λ octets sized parts bytes e. time_printed laws octets text sized bytes e) part is.0 is.1 is.2 e
   word_printed kinds.Ipv4 part text one is e =
-      of_fixed (IsPrinted kinds.Ipv4 text) 4
-      (λ octets size_is parts bytes e. as_text IsDotted octets (ipv4_text octets) text (text_is (length octets == 4) (ipv4_text octets) text e).1 (ipv4_printed laws octets size_is bytes))
-      part is.0 is.1 is.2 e
+      of_fixed (IsPrinted kinds.Ipv4 text) 4 (λ octets sized parts bytes e. ipv4_printed laws octets text sized bytes e) part is.0 is.1 is.2 e
   word_printed kinds.Ipv6 part text one is e =
-      of_fixed (IsPrinted kinds.Ipv6 text) 16
-      (λ octets size_is parts bytes e.
-      as_text IsIpv6Word octets (ipv6_text (segments_of octets)) text (text_is (length octets == 16) (ipv6_text (segments_of octets)) text e).1 (ipv6_printed laws octets size_is bytes))
-      part is.0 is.1 is.2 e
+      of_fixed (IsPrinted kinds.Ipv6 text) 16 (λ octets sized parts bytes e. ipv6_printed laws octets text sized bytes e) part is.0 is.1 is.2 e
   word_printed kinds.Eui48 part text one is e =
-      of_fixed (IsPrinted kinds.Eui48 text) 6 (λ octets size_is parts bytes e. eui_text_back 6 octets text (omega arith) size_is bytes e) part is.0 is.1 is.2 e
+      of_fixed (IsPrinted kinds.Eui48 text) 6 (λ octets sized parts bytes e. eui_printed laws 6 octets text (omega arith) sized bytes e) part is.0 is.1 is.2 e
   word_printed kinds.Eui64 part text one is e =
-      of_fixed (IsPrinted kinds.Eui64 text) 8 (λ octets size_is parts bytes e. eui_text_back 8 octets text (omega arith) size_is bytes e) part is.0 is.1 is.2 e
+      of_fixed (IsPrinted kinds.Eui64 text) 8 (λ octets sized parts bytes e. eui_printed laws 8 octets text (omega arith) sized bytes e) part is.0 is.1 is.2 e
   word_printed kinds.Locator64 part text one is e =
-      of_fixed (IsPrinted kinds.Locator64 text) 8
-      (λ octets size_is parts bytes e.
-      as_text IsLocatorWord octets (locator_text octets) text (text_is (length octets == 8) (locator_text octets) text e).1 (locator_printed laws octets size_is bytes))
-      part is.0 is.1 is.2 e
+      of_fixed (IsPrinted kinds.Locator64 text) 8 (λ octets sized parts bytes e. locator_printed laws octets text sized bytes e) part is.0 is.1 is.2 e
   word_printed kinds.RecordType part text one is e =
-      of_fixed (IsPrinted kinds.RecordType text) 2
-      (λ octets size_is parts bytes e. as_text IsType octets (type_word (number_after 0 octets)) text e (type_printed laws octets size_is bytes))
-      part is.0 is.1 is.2 e
+      of_fixed (IsPrinted kinds.RecordType text) 2 (λ octets sized parts bytes e. type_printed laws octets text sized bytes e) part is.0 is.1 is.2 e
   word_printed kinds.CompressibleName part text one is e =
-      of_name (IsPrinted kinds.CompressibleName text) (λ name parts bytes e. name_text name text parts.0 bytes e) part is.0 is.1 is.2 e
+      of_name (IsPrinted kinds.CompressibleName text) (λ name parts bytes e. name_printed laws name text parts.0 bytes e) part is.0 is.1 is.2 e
   word_printed kinds.PointedName part text one is e =
-      of_uncompressed (IsPrinted kinds.PointedName text) true true (λ lowers name parts bytes e. name_text name text parts.0 bytes e) part is.0 is.1 is.2 e
+      of_uncompressed (IsPrinted kinds.PointedName text) true true (λ lowers name parts bytes e. name_printed laws name text parts.0 bytes e) part is.0 is.1 is.2 e
   word_printed kinds.LowercasedName part text one is e =
-      of_uncompressed (IsPrinted kinds.LowercasedName text) false true (λ lowers name parts bytes e. name_text name text parts.0 bytes e) part is.0 is.1 is.2 e
+      of_uncompressed (IsPrinted kinds.LowercasedName text) false true (λ lowers name parts bytes e. name_printed laws name text parts.0 bytes e) part is.0 is.1 is.2 e
   word_printed kinds.PlainName part text one is e =
-      of_uncompressed (IsPrinted kinds.PlainName text) false false (λ lowers name parts bytes e. name_text name text parts.0 bytes e) part is.0 is.1 is.2 e
+      of_uncompressed (IsPrinted kinds.PlainName text) false false (λ lowers name parts bytes e. name_printed laws name text parts.0 bytes e) part is.0 is.1 is.2 e
   word_printed kinds.CharacterString part text one is e =
-      of_counted (IsPrinted kinds.CharacterString text) (λ size octets size_is parts bytes e. string_text size octets text size_is bytes e) part is.0 is.1 is.2 e
+      of_counted (IsPrinted kinds.CharacterString text) (λ size octets sized parts bytes e. string_printed laws size octets text sized bytes e) part is.0 is.1 is.2 e
   word_printed kinds.Tag part text one is e =
-      of_counted (IsPrinted kinds.Tag text) (λ size octets size_is parts bytes e. tag_text size octets text size_is bytes e) part is.0 is.1 is.2 e
+      of_counted (IsPrinted kinds.Tag text) (λ size octets sized parts bytes e. tag_printed laws size octets text sized bytes e) part is.0 is.1 is.2 e
   word_printed kinds.Salt part text one is e =
-      of_counted (IsPrinted kinds.Salt text) (λ size octets size_is parts bytes e. salt_text_back size octets text size_is bytes e) part is.0 is.1 is.2 e
+      of_counted (IsPrinted kinds.Salt text) (λ size octets sized parts bytes e. salt_printed laws size octets text sized bytes e) part is.0 is.1 is.2 e
   word_printed kinds.Hash part text one is e =
-      of_counted (IsPrinted kinds.Hash text) (λ size octets size_is parts bytes e. hash_text size octets text size_is bytes e) part is.0 is.1 is.2 e
+      of_counted (IsPrinted kinds.Hash text) (λ size octets sized parts bytes e. hash_printed laws size octets text sized bytes e) part is.0 is.1 is.2 e
   word_printed kinds.Text part text one is e =
-      of_rest (IsPrinted kinds.Text text) (accepts kinds.Text)
-      (λ octets accepted parts bytes e. as_text SpellsString octets (quoted octets) text e (text_printed laws octets bytes)) part is.0 is.1 is.2 e
+      of_rest (IsPrinted kinds.Text text) (accepts kinds.Text) (λ octets accepted parts bytes e. text_printed laws octets text bytes e) part is.0 is.1 is.2 e
   word_printed kind part text one is e = absurd (cc one)
 
   -- a field of one word
@@ -245,7 +181,7 @@ module _ (laws : PrintedLaws) where
   sized_unmarked part own is has =
       let own_part = sized_part part own is has in
       let few = own_part.2 in
-      first_unmarked own (decimal (length own_part.0)) (word_of_any (encode_of standard) own_part.0) own_part.4 (number_unmarked (length own_part.0) (omega (arith, few)))
+      first_unmarked own (decimal (length own_part.0)) (word_of_any (encode_of standard) own_part.0) own_part.4 (number_differs (decimal (length own_part.0)) (length own_part.0) (number_is (length own_part.0) (decimal (length own_part.0)) (omega (arith, few)) refl))
 
   -- character strings
   abbrev StringsPart : Words → Part → Type 0
