@@ -1,6 +1,6 @@
 -- Values of service parameters with a named key.
-use Rattle.std.proofs.Common.{◌≡◌, ◌∙◌, ◌≢◌, ℕ, zero, suc, ◌-◌, ◌/◌, ◌%◌, ◌≤◌, ◌==◌, Bool, true, false, List, [], ◌∷◌, ◌++◌, length, get_or, refl, sym, ap, subst, arith, inl, inr, ne_eqb}
-use Rattle.std.specs.Prelude.{Result, Ok, Err, ◌&&◌, nat_le, slice_index}
+use Rattle.std.proofs.Common.{◌≡◌, ◌∙◌, ◌≢◌, ℕ, zero, suc, ◌-◌, ◌/◌, ◌%◌, ◌≤◌, ◌==◌, Bool, true, false, List, [], ◌∷◌, ◌++◌, length, get_or, refl, sym, ap, subst, arith, ne_eqb}
+use Rattle.std.specs.Prelude.{Result, Ok, ◌&&◌, nat_le, slice_index}
 use Rattle.std.specs.Bool.{MatchBool}
 use Rattle.std.specs.Global.{Vec}
 use Rattle.std.specs.List.{flat_map}
