@@ -1,6 +1,6 @@
 -- The laws of values and of their words that are cited here.
 use Rattle.dns_value_text.specs.Laws.{Base64ReadsBack, HexReadsBack}
-use Rattle.dns_fields_read.specs.Laws.{EuiReadsBack, HashesReadBack, Ipv6ReadsBack, LocatorsReadBack, NamesReadBack, SaltsReadBack, StringsReadBack, TagsReadBack, TypesReadBack}
+use Rattle.dns_fields_read.specs.Laws.{EuiReadsBack, HashesReadBack, Ipv6ReadsBack, LocatorsReadBack, NamesReadBack, SaltsReadBack, StringsReadBack, TypesReadBack}
 use Rattle.dns_line_words.specs.Laws.{Base64IsWord, EuiAreWords, HashesAreWords, HexIsWord, Ipv4IsWord, Ipv6IsWord, LocatorsAreWords, NamesAreWords, NumbersAreWords, SaltsAreWords, StringsAreWords, TagsAreWords, TimesAreWords, TypesAreWords, WordsAreUnique}
 use Rattle.dns_line_words.specs.ListLaws.{SizedSplit, StringsSplit}
 
@@ -29,7 +29,6 @@ pub record ReadingLaws : Type 0 where
   pub types : TypesReadBack
   pub names : NamesReadBack
   pub strings : StringsReadBack
-  pub tags : TagsReadBack
   pub salts : SaltsReadBack
   pub hashes : HashesReadBack
   pub ipv6 : Ipv6ReadsBack

@@ -24,7 +24,7 @@ use Rattle.dns_fields_read.specs.EuiWords.{IsEuiWord}
 use Rattle.dns_fields_read.specs.LocatorWords.{IsLocatorWord}
 use Rattle.dns_fields_read.specs.NameWords.{IsNameWord}
 use Rattle.dns_line_words.specs.LineWords.{IsWord}
-use Rattle.dns_data_read.specs.FieldWords.{IsHash, IsNumberIn, IsSalt, IsString, IsTime, IsType, counted}
+use Rattle.dns_data_read.specs.FieldWords.{IsHash, IsNumberIn, IsSalt, IsString, IsTagWord, IsTime, IsType, counted}
 use Rattle.dns_data_read.proofs.MarkedWords.{number_differs, type_differs}
 use Rattle.dns_data_read.proofs.NumberOctets.{number_octets, number_small}
 use Rattle.dns_data_read.proofs.PrintedLaws.{PrintedLaws}
@@ -76,7 +76,7 @@ labels_octets (label ∷ name) bytes =
 
 module _ (laws : PrintedLaws) where
   open laws.words use {numbers as number_words, types as type_words, times as time_words, names as name_words, strings as string_words, tags as tag_words, salts as salt_words, hashes as hash_words, ipv4 as ipv4_word, ipv6 as ipv6_word, locators as locator_words, eui as eui_words}
-  open laws.reading use {types as types_back, names as names_back, strings as strings_back, tags as tags_back, salts as salts_back, hashes as hashes_back, ipv6 as ipv6_back, locators as locators_back, eui as eui_back}
+  open laws.reading use {types as types_back, names as names_back, strings as strings_back, salts as salts_back, hashes as hashes_back, ipv6 as ipv6_back, locators as locators_back, eui as eui_back}
 
   -- numbers, times and record types
   pub number_printed : (size : ℕ) (octets text : List ℕ) → 256 ^ size ≤ 2 ^ 64 → length octets ≡ size → IsBytes octets → Some (decimal (number_after 0 octets)) ≡ Some text → Printed (IsNumberIn size) octets text
@@ -163,11 +163,11 @@ module _ (laws : PrintedLaws) where
         as_text IsString (size ∷ octets) (quoted octets) text e
         (record { is_word = string_words octets; reads = (octets, strings_back octets bytes, few, whole); unmarked = quoted_unmarked octets })
 
-    pub tag_printed : text_if (is_tag octets) octets ≡ Some text → Printed IsString (size ∷ octets) text
+    pub tag_printed : text_if (is_tag octets) octets ≡ Some text → Printed IsTagWord (size ∷ octets) text
     tag_printed e =
         let tag = text_is (is_tag octets) octets text e in
-        as_text IsString (size ∷ octets) octets text tag.1
-        (record { is_word = tag_words octets tag.0; reads = (octets, tags_back octets tag.0, few, whole); unmarked = tag_unmarked octets tag.0 })
+        as_text IsTagWord (size ∷ octets) octets text tag.1
+        (record { is_word = tag_words octets tag.0; reads = (tag.0, few, whole); unmarked = tag_unmarked octets tag.0 })
 
     pub salt_printed : Some (salt_text octets) ≡ Some text → Printed IsSalt (size ∷ octets) text
     salt_printed e =

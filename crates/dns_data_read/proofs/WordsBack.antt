@@ -1,5 +1,5 @@
 -- The words of the text of one field represent its octets, and the first word isn't `\#`: fields of one word, sized octets, character strings, and octets in hexadecimal and in base64.
-use Rattle.std.proofs.Common.{◌≡◌, ◌≢◌, ◌∙◌, ℕ, suc, ◌/◌, ◌%◌, ◌<◌, ◌^◌, true, false, Some, List, [], ◌∷◌, ◌++◌, length, decimal, drop, refl, sym, subst, arith, append-nil}
+use Rattle.std.proofs.Common.{◌≡◌, ◌≢◌, ◌∙◌, ℕ, suc, ◌/◌, ◌%◌, ◌<◌, ◌^◌, true, false, Some, List, [], ◌∷◌, ◌++◌, length, decimal, refl, sym, subst, arith, append-nil}
 use Rattle.std.specs.Prelude.{map}
 use Rattle.std.specs.Net.Grammar.{IsNumber}
 use Rattle.std.proofs.lemmas.Fmt.{decimal_is_IsNumeral}
@@ -15,7 +15,7 @@ use Rattle.dns_fields.specs.declared.kind.Kind.{Kind}
 use Rattle.dns_fields.specs.declared.kind.Kind.TheVariants as kinds
 use Rattle.dns_value_text.specs.Hex.{hex_text}
 use Rattle.dns_value_text.specs.Octets.{IsBase64, IsHex}
-use Rattle.dns_value_text.specs.String.{is_tag, quoted}
+use Rattle.dns_value_text.specs.String.{quoted}
 use Rattle.dns_fields_text.specs.FieldTexts.{sized_text, strings_text, text_of_any, value_text}
 use Rattle.dns_fields_text.specs.Strings.{strings_of}
 use Rattle.dns_fields_read.specs.JoinedWords.{joined}
@@ -31,7 +31,7 @@ use Rattle.dns_data_read.proofs.FieldPart.{HasWords, IsFieldPart}
 use Rattle.dns_data_read.proofs.FieldShapes.{of_counted, of_fixed, of_name, of_rest, of_sized, of_uncompressed}
 use Rattle.dns_data_read.proofs.MarkedWords.{number_differs}
 use Rattle.dns_data_read.proofs.PrintedLaws.{PrintedLaws}
-use Rattle.dns_data_read.proofs.PrintedValues.{Printed, any_is, eui_printed, hash_printed, ipv4_printed, ipv6_printed, locator_printed, name_printed, number_printed, salt_printed, some_same, string_printed, tag_printed, text_is, text_printed, time_printed, type_printed}
+use Rattle.dns_data_read.proofs.PrintedValues.{Printed, any_is, eui_printed, hash_printed, ipv4_printed, ipv6_printed, locator_printed, name_printed, number_printed, salt_printed, some_same, string_printed, tag_printed, text_printed, time_printed, type_printed}
 use Rattle.dns_data_read.proofs.StringLists.{first_quoted, string_list_back}
 use Rattle.dns_data_read.proofs.Unmarked.{Unmarked, base64_unmarked as base64_text_unmarked, hex_unmarked, quoted_unmarked}
 
@@ -57,11 +57,11 @@ some_octets [] some e = omega arith
 some_octets (o ∷ octets) some e = cc e
 
 -- one word, which isn't split
-joined_one : (Represents : List ℕ → List ℕ → Type 0) (own : Words) (text octets : List ℕ) → texts own ≡ text ∷ [] → Represents text octets → (own ≢ []) × Represents (joined own) octets
+joined_one : (Represents : List ℕ → List ℕ → Type 0) (own : Words) (text octets : List ℕ) → texts own ≡ text ∷ [] → Represents text octets → Represents (joined own) octets
 joined_one Represents [] text octets e reads = absurd (cc e)
 joined_one Represents (word ∷ []) text octets e reads =
     let same : text ≡ word.now = cc e in
-    (λ none. cc none, subst (λ (t : List ℕ). Represents t octets) (same ∙ sym (append-nil word.now)) reads)
+    subst (λ (t : List ℕ). Represents t octets) (same ∙ sym (append-nil word.now)) reads
 joined_one Represents (word ∷ next ∷ own) text octets e reads = absurd (cc e)
 
 -- what is printed of a part
@@ -242,12 +242,12 @@ module _ (laws : PrintedLaws) where
   pub hexadecimal_back : (part : Part) (own : Words) → IsFieldPart kinds.Hexadecimal part → HasWords kinds.Hexadecimal part own → AreFieldWords kinds.Hexadecimal own (part_octets part)
   hexadecimal_back part own is has =
       let printed = (hexadecimal_part part own is has).1 in
-      joined_one IsHex own (hex_text (part_octets part)) (part_octets part) printed (laws.reading.hexadecimal (part_octets part) is.2)
+      (joined_one IsHex own (hex_text (part_octets part)) (part_octets part) printed (laws.reading.hexadecimal (part_octets part) is.2), hexadecimal_some part own is has)
 
   pub base64_back : (part : Part) (own : Words) → IsFieldPart kinds.Base64 part → HasWords kinds.Base64 part own → AreFieldWords kinds.Base64 own (part_octets part)
   base64_back part own is has =
       let printed = (base64_part part own is has).1 in
-      joined_one IsBase64 own (encode_of standard (part_octets part)) (part_octets part) printed (laws.reading.base64 (part_octets part) is.2)
+      (joined_one IsBase64 own (encode_of standard (part_octets part)) (part_octets part) printed (laws.reading.base64 (part_octets part) is.2), base64_some part own is has)
 
   pub hexadecimal_unmarked : (part : Part) (own : Words) → IsFieldPart kinds.Hexadecimal part → HasWords kinds.Hexadecimal part own → (after : Words) → ¬ (IsMarked (own ++ after))
   hexadecimal_unmarked part own is has =
@@ -258,8 +258,3 @@ module _ (laws : PrintedLaws) where
   base64_unmarked part own is has =
       let printed = base64_part part own is has in
       first_unmarked own (encode_of standard (part_octets part)) [] printed.1 (base64_text_unmarked (part_octets part) printed.0)
-
--- a printed tag is one
-pub tag_is_tag : (part : Part) (own : Words) → IsFieldPart kinds.Tag part → HasWords kinds.Tag part own → is_tag (drop 1 (part_octets part)) ≡ true
-tag_is_tag part own is has =
-    of_counted (λ part. HasWords kinds.Tag part own → is_tag (drop 1 (part_octets part)) ≡ true) (λ size octets size_is has. (text_is (is_tag octets) octets has.0 has.1).0) part is.0 has
