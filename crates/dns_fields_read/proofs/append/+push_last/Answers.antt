@@ -2,7 +2,7 @@ use Rattle.std.proofs.Common.{◌≡◌, ◌∙◌, ◌-◌, ◌/◌, ◌%◌, �
 use Rattle.std.proofs.lemmas.Grind.{common_steps}
 use Rattle.dns_fields_read.specs.Base32Words.{last_octets}
 use Rattle.dns_fields_read.proofs.Base32Lemmas.{last_more, last_none}
-use Rattle.dns_fields_read.proofs.base32.+push_last.Goals as goal
+use Rattle.dns_fields_read.proofs.append.+push_last.Goals as goal
 
 pub returns-then-size-eq0-clause-ok : goal.returns-then-size-eq0-clause-ok
 returns-then-size-eq0-clause-ok t c =
