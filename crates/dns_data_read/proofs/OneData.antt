@@ -64,7 +64,7 @@ one_field_word kinds.PointedName word xs ys a b = one_name word xs ys a b
 one_field_word kinds.LowercasedName word xs ys a b = one_name word xs ys a b
 one_field_word kinds.PlainName word xs ys a b = one_name word xs ys a b
 one_field_word kinds.CharacterString word xs ys a b = one_string_field word xs ys a b
-one_field_word kinds.Tag word xs ys a b = one_string_field word xs ys a b
+one_field_word kinds.Tag word xs ys a b = a.2 ∙ sym b.2
 one_field_word kinds.Salt word xs ys a b = one_salt_field word xs ys a b
 one_field_word kinds.Hash word xs ys a b = one_hash_field word xs ys a b
 one_field_word kinds.Text word xs ys a b = one_string word xs ys a b
@@ -80,8 +80,8 @@ one_strings (word ∷ words) xs ys a b =
 
 one_field_words : (kind : Kind) → RepresentsOne (AreFieldWords kind)
 one_field_words kinds.Strings words xs ys a b = one_strings words xs ys a.1 b.1
-one_field_words kinds.Hexadecimal words xs ys a b = one_hex words xs ys a.1 b.1
-one_field_words kinds.Base64 words xs ys a b = one_base64 words xs ys a.1 b.1
+one_field_words kinds.Hexadecimal words xs ys a b = one_hex words xs ys a.0 b.0
+one_field_words kinds.Base64 words xs ys a b = one_base64 words xs ys a.0 b.0
 one_field_words kinds.TypeBitMap words xs ys a b = one_map words xs ys a b
 one_field_words kinds.SmallTypeBitMap words xs ys a b = one_small_map words xs ys a b
 one_field_words kinds.ServiceParameters words xs ys a b = one_parameters words xs ys a b
