@@ -1,5 +1,7 @@
 mod AppendLemmas
 mod CountLemmas
+mod FieldPart
+mod FirstFields
 mod OneData
 mod RdataLemmas
 mod RecordLemmas
