@@ -1,6 +1,7 @@
 mod AppendLemmas
 mod CountLemmas
 mod OneData
+mod OpaqueBack
 mod RdataBack
 mod RdataLemmas
 mod RecordLemmas
