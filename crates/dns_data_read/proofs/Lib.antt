@@ -4,5 +4,6 @@ mod OneData
 mod OpaqueBack
 mod RdataBack
 mod RdataLemmas
+mod RecordBack
 mod RecordLemmas
 mod StringLemmas

@@ -50,7 +50,8 @@ joined_pairs (octet ∷ octets) (word ∷ next ∷ digits) e = cc
 digits_back : (octets : List ℕ) (digits : Words) → IsBytes octets → texts digits ≡ word_of_any (flat_map hex_octet) octets → AreHex digits octets
 digits_back octets digits bytes e = subst (λ (text : List ℕ). decode_of text ≡ Ok octets) (joined_pairs octets digits e) (pairs_back octets bytes)
 
-number_back : (n : ℕ) (word : List ℕ) → n < 2 ^ 64 → decimal n ≡ word → IsNumber 10 word n
+-- a number in decimal digits
+pub number_back : (n : ℕ) (word : List ℕ) → n < 2 ^ 64 → decimal n ≡ word → IsNumber 10 word n
 number_back n word small e = subst (λ (text : List ℕ). IsNumber 10 text n) e (let numeral = decimal_is_IsNumeral n small in (numeral.0, numeral.1))
 
 -- the mark, the number of octets and the digits
