@@ -3,6 +3,9 @@ mod CountLemmas
 mod FieldPart
 mod FirstFields
 mod OneData
+mod OpaqueBack
+mod RdataBack
 mod RdataLemmas
+mod RecordBack
 mod RecordLemmas
 mod StringLemmas

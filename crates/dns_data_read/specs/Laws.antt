@@ -29,6 +29,7 @@ record_with owner class ttl fields = record { owner = owner; rtype = rtype_of fi
 -- the words of the line of a record represent the record
 abbrev pub RecordsReadBack : Type 0
 RecordsReadBack =
-    (owner : Labels) (class ttl : ℕ) (fields : FieldData) (words : Words) → IsName owner → IsBytes (uncompressed owner) → class < 2 ^ 16 → ttl < 2 ^ 32 → HasOctets fields
+    (owner : Labels) (class ttl : ℕ) (fields : FieldData) (words : Words) → IsName owner → IsBytes (uncompressed owner) → class < 2 ^ 16 → ttl < 2 ^ 32 → rtype_of fields < 2 ^ 16
+    → HasOctets fields
     → AreWordsOf (record_text (zone_name_text owner) ttl class (rtype_of fields) (data_line fields)) (texts words)
     → IsRecordText words (record_with owner class ttl fields)
