@@ -1,0 +1,184 @@
+-- What is printed of a value of one word: it is a word, reads back, and isn't `\#`.
+use Rattle.std.proofs.Common.{◌≡◌, ◌∙◌, ℕ, zero, suc, ◌+◌, ◌*◌, ◌/◌, ◌%◌, ◌<◌, ◌≤◌, ◌^◌, ◌==◌, Bool, true, false, Some, List, [], ◌∷◌, ◌++◌, length, decimal, refl, sym, ap, subst, arith, inl}
+use Rattle.std.specs.Prelude.{All, if◌then◌else◌, nat_lt}
+use Rattle.std.specs.List.{flat_map}
+use Rattle.std.specs.Net.Addr.{segments_of}
+use Rattle.std.specs.Net.Grammar.{IsDotted}
+use Rattle.std.specs.Net.Text.{ipv4_text, ipv6_text}
+use Rattle.std.proofs.NetLemmas.Texts.{IsDotted-ipv4_text}
+use Rattle.std.proofs.lemmas.Fmt.{decimal_is_IsNumeral}
+use Rattle.std.proofs.lemmas.List.Elements.{All-cons, All-nil}
+use Rattle.hex.specs.Hex.{IsBytes}
+use Rattle.dns_name.specs.Names.{IsName, Labels, framed, uncompressed, with_root}
+use Rattle.dns_value_text.specs.Addresses.{eui_text, locator_text}
+use Rattle.dns_value_text.specs.Base32.{base32_text}
+use Rattle.dns_value_text.specs.String.{is_tag, quoted}
+use Rattle.dns_value_text.specs.Strings.{SpellsString}
+use Rattle.dns_value_text.specs.Time.{time_text}
+use Rattle.dns_fields.specs.Values.{number_after}
+use Rattle.dns_fields_text.specs.FieldTexts.{salt_text, text_if, text_of_any}
+use Rattle.dns_fields_text.specs.TypeNames.{type_word}
+use Rattle.dns_fields_text.specs.ZoneNames.{zone_name_text}
+use Rattle.dns_fields_read.specs.Addresses.{IsIpv6Word}
+use Rattle.dns_fields_read.specs.EuiWords.{IsEuiWord}
+use Rattle.dns_fields_read.specs.LocatorWords.{IsLocatorWord}
+use Rattle.dns_fields_read.specs.NameWords.{IsNameWord}
+use Rattle.dns_line_words.specs.LineWords.{IsWord}
+use Rattle.dns_data_read.specs.FieldWords.{IsHash, IsNumberIn, IsSalt, IsString, IsTime, IsType, counted}
+use Rattle.dns_data_read.proofs.NumberOctets.{number_octets, number_small}
+use Rattle.dns_data_read.proofs.PrintedLaws.{PrintedLaws}
+use Rattle.dns_data_read.proofs.Unmarked.{Unmarked, colon_hex_unmarked, dotted_unmarked, eui_unmarked, hash_unmarked, locator_unmarked, name_unmarked, number_unmarked, quoted_unmarked, salt_unmarked, tag_unmarked, time_unmarked, type_unmarked}
+
+pub record Printed (Represents : List ℕ → List ℕ → Type 0) (octets text : List ℕ) : Type 0 where
+  pub is_word : IsWord text
+  pub reads : Represents text octets
+  pub unmarked : Unmarked text
+
+pub some_same : {A : Type 0} (x y : A) → Some x ≡ Some y → x ≡ y
+some_same x y e = cc
+
+pub as_text : (Represents : List ℕ → List ℕ → Type 0) (octets word text : List ℕ) → Some word ≡ Some text → Printed Represents octets word → Printed Represents octets text
+as_text Represents octets word text e printed = subst (λ (t : List ℕ). Printed Represents octets t) (some_same word text e) printed
+
+-- a text that is printed if a test holds
+pub text_is : (test : Bool) (word text : List ℕ) → text_if test word ≡ Some text → (test ≡ true) × (Some word ≡ Some text)
+text_is true word text e = (refl, e)
+text_is false word text e = absurd (cc e)
+
+-- a text that is printed of octets if there are any
+pub any_is : (print : List ℕ → List ℕ) (octets text : List ℕ) → text_of_any print octets ≡ Some text → (0 < length octets) × (Some (print octets) ≡ Some text)
+any_is print [] text e = absurd (cc e)
+any_is print (o ∷ octets) text e = (omega arith, e)
+
+-- octets of labels
+bytes_before : (xs ys : List ℕ) → IsBytes (xs ++ ys) → IsBytes xs
+bytes_before [] ys bytes i = omega arith
+bytes_before (x ∷ xs) ys bytes zero = bytes 0
+bytes_before (x ∷ xs) ys bytes (suc i) = bytes_before xs ys (λ k. bytes (suc k)) i
+
+bytes_after : (xs ys : List ℕ) → IsBytes (xs ++ ys) → IsBytes ys
+bytes_after [] ys bytes i = bytes i
+bytes_after (x ∷ xs) ys bytes i = bytes_after xs ys (λ k. bytes (suc k)) i
+
+abbrev OfOctets : List ℕ → Type 0
+OfOctets label = All (λ octet. octet < 256) label
+
+label_octets : (label : List ℕ) → IsBytes label → OfOctets label
+label_octets [] bytes = All-nil (λ octet. octet < 256)
+label_octets (o ∷ label) bytes = All-cons (λ octet. octet < 256) o label (bytes 0) (label_octets label (λ i. bytes (suc i)))
+
+labels_octets : (name : Labels) → IsBytes (uncompressed name) → All OfOctets name
+labels_octets [] bytes = All-nil OfOctets
+labels_octets (label ∷ name) bytes =
+    let others = flat_map framed (with_root name) in
+    All-cons OfOctets label name (label_octets label (λ i. bytes_before (framed label) others bytes (suc i))) (labels_octets name (bytes_after (framed label) others bytes))
+
+module _ (laws : PrintedLaws) where
+  open laws.words use {numbers as number_words, types as type_words, times as time_words, names as name_words, strings as string_words, tags as tag_words, salts as salt_words, hashes as hash_words, ipv4 as ipv4_word, ipv6 as ipv6_word, locators as locator_words, eui as eui_words}
+  open laws.reading use {types as types_back, names as names_back, strings as strings_back, tags as tags_back, salts as salts_back, hashes as hashes_back, ipv6 as ipv6_back, locators as locators_back, eui as eui_back}
+
+  -- numbers, times and record types
+  pub number_printed : (size : ℕ) (octets : List ℕ) → 256 ^ size ≤ 2 ^ 64 → length octets ≡ size → IsBytes octets → Printed (IsNumberIn size) octets (decimal (number_after 0 octets))
+  number_printed size octets fits sized bytes =
+      let small = number_small size octets sized bytes in
+      let n = number_after 0 octets in
+      let numeral = decimal_is_IsNumeral n (omega (arith, small, fits)) in
+      record {
+        is_word = number_words n (omega (arith, small, fits));
+        reads = (n, (numeral.0, numeral.1), small, number_octets size octets sized bytes);
+        unmarked = number_unmarked n (omega (arith, small, fits));
+      }
+
+  pub time_printed : (octets : List ℕ) → length octets ≡ 4 → IsBytes octets → Printed IsTime octets (time_text (number_after 0 octets))
+  time_printed octets sized bytes =
+      let n = number_after 0 octets in
+      let small = number_small 4 octets sized bytes in
+      record {
+        is_word = time_words n;
+        reads = (n, inl (omega (arith, small), refl), number_octets 4 octets sized bytes);
+        unmarked = time_unmarked n;
+      }
+
+  pub type_printed : (octets : List ℕ) → length octets ≡ 2 → IsBytes octets → Printed IsType octets (type_word (number_after 0 octets))
+  type_printed octets sized bytes =
+      let n = number_after 0 octets in
+      let small = number_small 2 octets sized bytes in
+      record {
+        is_word = type_words n (omega (arith, small));
+        reads = (n, types_back n (omega (arith, small)), number_octets 2 octets sized bytes);
+        unmarked = type_unmarked n;
+      }
+
+  -- addresses
+  pub ipv4_printed : (octets : List ℕ) → length octets ≡ 4 → IsBytes octets → Printed IsDotted octets (ipv4_text octets)
+  ipv4_printed octets sized bytes =
+      let reads = IsDotted-ipv4_text octets sized bytes in
+      record { is_word = ipv4_word octets bytes; reads = reads; unmarked = dotted_unmarked (ipv4_text octets) octets reads }
+
+  pub ipv6_printed : (octets : List ℕ) → length octets ≡ 16 → IsBytes octets → Printed IsIpv6Word octets (ipv6_text (segments_of octets))
+  ipv6_printed octets sized bytes =
+      let reads = ipv6_back octets sized bytes in
+      record { is_word = ipv6_word octets bytes sized; reads = reads; unmarked = colon_hex_unmarked (ipv6_text (segments_of octets)) reads.0 reads.1 }
+
+  pub eui_printed : (size : ℕ) (octets : List ℕ) → 2 ≤ size → length octets ≡ size → IsBytes octets → Printed (IsEuiWord size) octets (eui_text octets)
+  eui_printed size octets some sized bytes = record {
+    is_word = eui_words octets bytes (omega arith);
+    reads = subst (λ n. IsEuiWord n (eui_text octets) octets) sized (eui_back octets bytes);
+    unmarked = eui_unmarked octets (omega arith);
+  }
+
+  pub locator_printed : (octets : List ℕ) → length octets ≡ 8 → IsBytes octets → Printed IsLocatorWord octets (locator_text octets)
+  locator_printed octets sized bytes = record {
+    is_word = locator_words octets bytes sized;
+    reads = locators_back octets sized bytes;
+    unmarked = locator_unmarked octets sized;
+  }
+
+  -- names
+  pub name_printed : (name : Labels) → IsName name → IsBytes (uncompressed name) → Printed IsNameWord (uncompressed name) (zone_name_text name)
+  name_printed name is bytes = record {
+    is_word = name_words name is;
+    reads = (name, names_back name is (labels_octets name bytes), refl);
+    unmarked = name_unmarked name is;
+  }
+
+  -- octets after their number
+  module _ (size : ℕ) (octets : List ℕ) (sized : length octets ≡ size) (bytes : IsBytes octets) where
+    whole : size ∷ octets ≡ counted octets
+    whole = ap (λ n. let all : List ℕ = n ∷ octets in all) (sym sized)
+
+    pub string_printed : length octets ≤ 255 → Printed IsString (size ∷ octets) (quoted octets)
+    string_printed few = record {
+      is_word = string_words octets;
+      reads = (octets, strings_back octets bytes, few, whole);
+      unmarked = quoted_unmarked octets;
+    }
+
+    pub tag_printed : is_tag octets ≡ true → length octets ≤ 255 → Printed IsString (size ∷ octets) octets
+    tag_printed tag few = record {
+      is_word = tag_words octets tag;
+      reads = (octets, tags_back octets tag, few, whole);
+      unmarked = tag_unmarked octets tag;
+    }
+
+    pub salt_printed : length octets ≤ 255 → Printed IsSalt (size ∷ octets) (salt_text octets)
+    salt_printed few = record {
+      is_word = salt_words octets bytes;
+      reads = (octets, salts_back octets bytes few, whole);
+      unmarked = salt_unmarked octets bytes;
+    }
+
+    pub hash_printed : 0 < length octets → length octets ≤ 255 → Printed IsHash (size ∷ octets) (base32_text octets)
+    hash_printed some few = record {
+      is_word = hash_words octets bytes some;
+      reads = (octets, hashes_back octets bytes (some, few), whole);
+      unmarked = hash_unmarked octets some;
+    }
+
+  -- text
+  pub text_printed : (octets : List ℕ) → IsBytes octets → Printed SpellsString octets (quoted octets)
+  text_printed octets bytes = record {
+    is_word = string_words octets;
+    reads = strings_back octets bytes;
+    unmarked = quoted_unmarked octets;
+  }
