@@ -1,5 +1,5 @@
 -- The first of printed fields.
-use Rattle.std.proofs.Common.{◌≡◌, ◌∙◌, ℕ, zero, suc, ◌<◌, ◌^◌, Bool, true, false, not, ◌&&◌, ◌||◌, List, [], ◌∷◌, ◌++◌, length, refl, sym, ap, subst, arith, length-append}
+use Rattle.std.proofs.Common.{◌≡◌, ◌∙◌, ℕ, ◌<◌, ◌^◌, Bool, true, false, not, ◌&&◌, ◌||◌, List, [], ◌∷◌, ◌++◌, length, refl, sym, ap, subst, arith, length-append}
 use Rattle.std.specs.Prelude.{◌==◌, if◌then◌else◌}
 use Rattle.std.specs.Borrow.{Bor}
 use Rattle.std.specs.List.{list_all}
@@ -20,7 +20,6 @@ use Rattle.dns_fields.specs.declared.kind.Kind.{Kind}
 use Rattle.dns_fields.specs.declared.kind.Kind.TheVariants as kinds
 use Rattle.dns_fields.specs.declared.shape.Shape.{Shape}
 use Rattle.dns_fields.specs.declared.shape.Shape.TheVariants.{Octets, Counted, Sized, Name, UncompressedName, Rest}
-use Rattle.dns_fields_read.specs.SizedWords.{IsSizedWords}
 use Rattle.dns_line_words.specs.FieldLaws.{AreWordsOfFields}
 use Rattle.dns_line_words.specs.LineWords.{AreWordsOf, texts}
 use Rattle.dns_data_read.specs.Extents.{extent_of}
@@ -28,6 +27,7 @@ use Rattle.dns_data_read.specs.FieldWords.{Words}
 use Rattle.dns_data_read.specs.declared.extent.Extent.{Extent}
 use Rattle.dns_data_read.specs.declared.extent.Extent.TheVariants.{All}
 use Rattle.dns_data_read.proofs.FieldPart.{HasWords, IsFieldPart}
+use Rattle.dns_data_read.proofs.OctetLemmas.{bytes_left, bytes_right}
 
 -- the last field of a type
 
@@ -86,17 +86,6 @@ module _ (d : Definition) where
   others_end [] last = refl
   others_end (next ∷ ds) last = (and_parts (not (takes_left d.1)) (left_is_last (kinds_in (next ∷ ds))) last).1
 
--- octets of the first part and of the others
-
-bytes_front : (xs ys : List ℕ) → IsBytes (xs ++ ys) → IsBytes xs
-bytes_front [] ys bytes i = omega arith
-bytes_front (x ∷ xs) ys bytes zero = bytes 0
-bytes_front (x ∷ xs) ys bytes (suc i) = bytes_front xs ys (λ k. bytes (suc k)) i
-
-bytes_back : (xs ys : List ℕ) → IsBytes (xs ++ ys) → IsBytes ys
-bytes_back [] ys bytes = bytes
-bytes_back (x ∷ xs) ys bytes = bytes_back xs ys (λ k. bytes (suc k))
-
 -- parts of this layout
 abbrev pub AreLayoutParts : Layout → List Part → Type 0
 AreLayoutParts layout parts = IsLaidOut layout parts × AreParts parts × IsBytes (octets_of_parts parts) × (length (octets_of_parts parts) < 2 ^ 16)
@@ -140,8 +129,8 @@ parts_split : (kind : Kind) (others : Layout) (part : Part) (left : List Part) �
 parts_split kind others part left is are names bytes small =
     let own = names_split part left names in
     let size = length-append (part_octets part) (octets_of_parts left) in (
-      (is, own.0, bytes_front (part_octets part) (octets_of_parts left) bytes, omega (arith, size, small)),
-      (are, own.1, bytes_back (part_octets part) (octets_of_parts left) bytes, omega (arith, size, small)),
+      (is, own.0, bytes_left (part_octets part) (octets_of_parts left) bytes, omega (arith, size, small)),
+      (are, own.1, bytes_right (part_octets part) (octets_of_parts left) bytes, omega (arith, size, small)),
     )
 
 -- words by their texts

@@ -1,8 +1,10 @@
 mod AppendLemmas
 mod ClearWords
 mod CountLemmas
+mod DataBack
 mod FieldPart
 mod FieldShapes
+mod FieldsBack
 mod FirstFields
 mod GatewaysBack
 mod ListsBack

@@ -18,7 +18,7 @@ use Rattle.dns_data_read.specs.Rdata.{IsRdata}
 use Rattle.dns_data_read.proofs.RdataLemmas.{plain_octets}
 
 -- the names among the parts of a view are names
-are_parts : (fields : FieldData) → AreParts (parts_of fields)
+pub are_parts : (fields : FieldData) → AreParts (parts_of fields)
 are_parts fields = let there = data_is_there _ _ _ fields.encoded in encoded_parts _ _ _ _ _ there.1
 
 -- parts fill their octets

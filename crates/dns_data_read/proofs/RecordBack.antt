@@ -1,11 +1,10 @@
 -- What is printed of a record reads back, if what is printed of RDATA does.
-use Rattle.std.proofs.Common.{◌≡◌, ℕ, zero, suc, ◌<◌, ◌^◌, List, [], ◌∷◌, ◌++◌, drop, decimal, refl, ap, subst, arith, inl, inr}
-use Rattle.std.specs.Prelude.{All, Option, Some, None, codes, option_map, unwrap_or}
+use Rattle.std.proofs.Common.{◌≡◌, ℕ, ◌<◌, ◌^◌, List, [], ◌∷◌, ◌++◌, drop, decimal, refl, ap, subst, arith, inl, inr}
+use Rattle.std.specs.Prelude.{Option, Some, None, codes, option_map, unwrap_or}
 use Rattle.std.specs.Str.{str_to_ascii_lowercase}
 use Rattle.std.proofs.lemmas.Fmt.{decimal_is_IsNumeral}
-use Rattle.std.proofs.lemmas.List.Elements.{All-cons, All-from_get_or, All-nil}
 use Rattle.hex.specs.Hex.{IsBytes}
-use Rattle.dns_name.specs.Names.{IsName, Labels, framed, uncompressed}
+use Rattle.dns_name.specs.Names.{IsName, Labels, uncompressed}
 use Rattle.dns_name.specs.NameTexts.{SpellsName}
 use Rattle.dns_number.specs.Classes.{SpellsClass, class_text}
 use Rattle.dns_number.specs.Mnemonics.{class_mnemonics, mnemonic}
@@ -23,26 +22,8 @@ use Rattle.dns_line_words.specs.ListLaws.{RecordsSplit}
 use Rattle.dns_data_read.specs.FieldWords.{Words}
 use Rattle.dns_data_read.specs.Laws.{DataReadsBack, HasOctets, RecordsReadBack}
 use Rattle.dns_data_read.specs.RecordWords.{AreHeadWords}
+use Rattle.dns_data_read.proofs.OctetLemmas.{labels_of_octets}
 use Rattle.dns_data_read.proofs.OpaqueBack.{number_back}
-
--- the octets of labels
-bytes_left : (xs ys : List ℕ) → IsBytes (xs ++ ys) → IsBytes xs
-bytes_left [] ys bytes i = omega arith
-bytes_left (x ∷ xs) ys bytes zero = bytes 0
-bytes_left (x ∷ xs) ys bytes (suc i) = bytes_left xs ys (λ k. bytes (suc k)) i
-
-bytes_right : (xs ys : List ℕ) → IsBytes (xs ++ ys) → IsBytes ys
-bytes_right [] ys bytes i = bytes i
-bytes_right (x ∷ xs) ys bytes i = bytes_right xs ys (λ k. bytes (suc k)) i
-
-abbrev OfOctets : List ℕ → Type 0
-OfOctets label = All (λ octet. octet < 256) label
-
-labels_of_octets : (name : Labels) → IsBytes (uncompressed name) → All OfOctets name
-labels_of_octets [] bytes = All-nil OfOctets
-labels_of_octets (label ∷ name) bytes =
-    let own = bytes_left (framed label) (uncompressed name) bytes in
-    All-cons OfOctets label name (All-from_get_or (λ octet. octet < 256) label 0 (λ i less. own (suc i))) (labels_of_octets name (bytes_right (framed label) (uncompressed name) bytes))
 
 -- the owner
 owner_back : NamesReadBack → (owner : Labels) (word : List ℕ) → IsName owner → IsBytes (uncompressed owner) → zone_name_text owner ≡ word → SpellsName word owner

@@ -1,7 +1,6 @@
 -- The words of the text of one field represent its octets, and the first word isn't `\#`: fields of one word, sized octets, character strings, and octets in hexadecimal and in base64.
-use Rattle.std.proofs.Common.{◌≡◌, ◌≢◌, ◌∙◌, ℕ, suc, ◌+◌, ◌*◌, ◌/◌, ◌%◌, ◌<◌, ◌≤◌, ◌^◌, true, false, Some, List, [], ◌∷◌, ◌++◌, length, decimal, drop, refl, sym, ap, subst, arith, append-nil}
+use Rattle.std.proofs.Common.{◌≡◌, ◌≢◌, ◌∙◌, ℕ, suc, ◌+◌, ◌/◌, ◌%◌, ◌<◌, ◌≤◌, ◌^◌, true, false, Some, List, [], ◌∷◌, ◌++◌, length, decimal, drop, refl, sym, subst, arith, append-nil}
 use Rattle.std.specs.Prelude.{map, nat_lt, ◌==◌}
-use Rattle.std.specs.Borrow.{Bor}
 use Rattle.std.specs.Net.Addr.{segments_of}
 use Rattle.std.specs.Net.Grammar.{IsDotted, IsNumber}
 use Rattle.std.specs.Net.Text.{ipv4_text, ipv6_text}
@@ -233,7 +232,7 @@ module _ (laws : PrintedLaws) where
         omega arith,
         λ i. first i ∷ second i ∷ octets,
         laws.words.unique has.0 (texts own) (decimal (length octets) ∷ word_of_any (encode_of standard) octets) has.2
-        (subst (λ (t : List ℕ). AreWordsOf t (decimal (length octets) ∷ word_of_any (encode_of standard) octets)) text (laws.words.sized octets (omega arith))),
+            (subst (λ (t : List ℕ). AreWordsOf t (decimal (length octets) ∷ word_of_any (encode_of standard) octets)) text (laws.words.sized octets (omega arith))),
       ))
       part is.0 is.2 has
 
@@ -261,7 +260,7 @@ module _ (laws : PrintedLaws) where
       let text = some_same (strings_text octets) has.0 has.1 in (
         are,
         laws.words.unique has.0 (texts own) (map quoted (strings_of octets)) has.2
-        (subst (λ (t : List ℕ). AreWordsOf t (map quoted (strings_of octets))) text (laws.words.string_lists octets)),
+            (subst (λ (t : List ℕ). AreWordsOf t (map quoted (strings_of octets))) text (laws.words.string_lists octets)),
       ))
       part is.0 is.2 has
 
