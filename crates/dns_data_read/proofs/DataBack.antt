@@ -10,9 +10,8 @@ use Rattle.dns_fields.specs.Layouts.{layout_of}
 use Rattle.dns_fields.specs.Table.{definitions_of, kinds_of}
 use Rattle.dns_fields.specs.declared.field_data.FieldData.{FieldData}
 use Rattle.dns_fields_text.specs.DataTexts.{data_fields, data_line}
-use Rattle.dns_fields_text.specs.FieldTexts.{fields_octets}
 use Rattle.dns_fields_text.specs.Laws.{FieldsAreAll}
-use Rattle.dns_line_words.specs.FieldLaws.{AreWordsOfData, opaque_words}
+use Rattle.dns_line_words.specs.FieldLaws.{AreWordsOfData, DataSplits, opaque_words}
 use Rattle.dns_line_words.specs.Laws.{WordsAreUnique}
 use Rattle.dns_line_words.specs.LineWords.{AreWordsOf, texts}
 use Rattle.dns_data_read.specs.DataWords.{AreDataWords}
@@ -36,13 +35,8 @@ data_parts fields bytes =
     let few = laid.0 in
     (laid.1, are_parts fields, bytes, omega (arith, few, short_octets (parts_of fields)))
 
--- the words of a line of RDATA by its fields
-abbrev pub DataSplitsExactly : Type 0
-DataSplitsExactly =
-    (fields : FieldData) → IsBytes (fields_octets (data_fields fields)) → (words : List (List ℕ)) × AreWordsOfData (data_fields fields) words × AreWordsOf (data_line fields) words
-
 -- the words of its line
-pub line_words : FieldsAreAll → DataSplitsExactly → (fields : FieldData) → HasOctets fields → (words : List (List ℕ)) × AreWordsOfData (data_fields fields) words × AreWordsOf (data_line fields) words
+pub line_words : FieldsAreAll → DataSplits → (fields : FieldData) → HasOctets fields → (words : List (List ℕ)) × AreWordsOfData (data_fields fields) words × AreWordsOf (data_line fields) words
 line_words all splits fields bytes = splits fields (subst IsBytes (sym (all fields)) bytes)
 
 module _ (word_laws : PrintedLaws) (list_laws : PrintedLists) where
@@ -58,7 +52,7 @@ module _ (word_laws : PrintedLaws) (list_laws : PrintedLists) where
       let are = data_parts fields bytes in
       inl (opaque_back (octets_of_parts (parts_of fields)) words bytes are.3 (printed.1 ∙ ap opaque_words (all fields)))
 
-  pub data_back : FieldsAreAll → WordsAreUnique → DataSplitsExactly → DataReadsBack
+  pub data_back : FieldsAreAll → WordsAreUnique → DataSplits → DataReadsBack
   data_back all unique splits fields words bytes printed =
       let line = line_words all splits fields bytes in
       let same = unique (data_line fields) line.0 (texts words) line.2 printed in

@@ -17,7 +17,6 @@ use Rattle.dns_fields.specs.RecordTypes.{TypeDefinition, record_types}
 use Rattle.dns_fields.specs.Shapes.{shape_of}
 use Rattle.dns_fields.specs.Table.{Definition, definitions_of, fields_in, kinds_in}
 use Rattle.dns_fields.specs.declared.kind.Kind.{Kind}
-use Rattle.dns_fields.specs.declared.kind.Kind.TheVariants as kinds
 use Rattle.dns_fields.specs.declared.shape.Shape.{Shape}
 use Rattle.dns_fields.specs.declared.shape.Shape.TheVariants.{Octets, Counted, Sized, Name, UncompressedName, Rest}
 use Rattle.dns_line_words.specs.FieldLaws.{AreWordsOfFields}
@@ -28,8 +27,6 @@ use Rattle.dns_data_read.specs.declared.extent.Extent.{Extent}
 use Rattle.dns_data_read.specs.declared.extent.Extent.TheVariants.{All}
 use Rattle.dns_data_read.proofs.FieldPart.{HasWords, IsFieldPart}
 use Rattle.dns_data_read.proofs.OctetLemmas.{bytes_left, bytes_right}
-
--- the last field of a type
 
 abbrev is_all : Extent → Bool
 is_all All = true
@@ -45,6 +42,7 @@ left_is_last [] = true
 left_is_last (kind ∷ []) = true
 left_is_last (kind ∷ next ∷ kinds) = not (takes_left kind) && left_is_last (next ∷ kinds)
 
+-- it is, in each record type
 rows_end : list_all (λ type. left_is_last (kinds_in type.fields)) record_types ≡ true
 unfolding record_types
 rows_end = refl
@@ -59,7 +57,6 @@ type_ends (type ∷ types) rtype all =
     let parts = and_parts (left_is_last (kinds_in type.fields)) (list_all (λ t. left_is_last (kinds_in t.fields)) types) all in
     either_ends (type.number == rtype) type.fields (fields_in types rtype) parts.0 (type_ends types rtype parts.1)
 
--- in each record type
 pub data_ends : (rtype : ℕ) → left_is_last (kinds_in (definitions_of rtype)) ≡ true
 unfolding definitions_of
 data_ends rtype = type_ends record_types rtype rows_end
@@ -75,6 +72,7 @@ all_left : (kind : Kind) → extent_of kind ≡ All → takes_left kind ≡ true
 all_left kind e = ap (λ (x : Extent). takes_rest (shape_of kind) || is_all x) e ∙ or_true (takes_rest (shape_of kind))
 
 module _ (d : Definition) where
+  -- no field follows it
   none_after : (ds : List Definition) → left_is_last (kinds_in (d ∷ ds)) ≡ true → takes_left d.1 ≡ true → ds ≡ []
   none_after [] last e = refl
   none_after (next ∷ ds) last e =
@@ -133,12 +131,11 @@ parts_split kind others part left is are names bytes small =
       (are, own.1, bytes_right (part_octets part) (octets_of_parts left) bytes, omega (arith, size, small)),
     )
 
--- words by their texts
-
 pub no_texts : (words : Words) → texts words ≡ [] → words ≡ []
 no_texts [] e = refl
 no_texts (word ∷ words) e = absurd (cc e)
 
+-- words whose texts are two lists, one after the other
 abbrev SplitsTexts : Words → List (List ℕ) → List (List ℕ) → Type 0
 SplitsTexts words xs ys = (own : Words) × (after : Words) × (words ≡ own ++ after) × (texts own ≡ xs) × (texts after ≡ ys)
 

@@ -1,5 +1,5 @@
 -- The words of the text of one field represent its octets, and the first word isn't `\#`: fields of one word, sized octets, character strings, and octets in hexadecimal and in base64.
-use Rattle.std.proofs.Common.{◌≡◌, ◌≢◌, ◌∙◌, ℕ, suc, ◌+◌, ◌/◌, ◌%◌, ◌<◌, ◌≤◌, ◌^◌, true, false, Some, List, [], ◌∷◌, ◌++◌, length, decimal, drop, refl, sym, subst, arith, append-nil}
+use Rattle.std.proofs.Common.{◌≡◌, ◌≢◌, ◌∙◌, ℕ, suc, ◌/◌, ◌%◌, ◌<◌, ◌≤◌, ◌^◌, true, false, Some, List, [], ◌∷◌, ◌++◌, length, decimal, drop, refl, sym, subst, arith, append-nil}
 use Rattle.std.specs.Prelude.{map, nat_lt, ◌==◌}
 use Rattle.std.specs.Net.Addr.{segments_of}
 use Rattle.std.specs.Net.Grammar.{IsDotted, IsNumber}

@@ -1,5 +1,5 @@
 -- What is printed of RDATA, and of a record, reads back.
-use Rattle.std.specs.Prelude.{◌≡◌, ℕ, ◌<◌, ◌^◌, All}
+use Rattle.std.specs.Prelude.{ℕ, ◌<◌, ◌^◌}
 use Rattle.hex.specs.Hex.{IsBytes}
 use Rattle.dns_name.specs.Names.{IsName, Labels, uncompressed}
 use Rattle.dns_fields.specs.Data.{parts_of, rtype_of}
