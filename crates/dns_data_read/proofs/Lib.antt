@@ -13,6 +13,7 @@ mod MarkedWords
 mod NumberOctets
 mod OctetLemmas
 mod OneData
+mod OneRecord
 mod OpaqueBack
 mod ParametersBack
 mod PrintedLaws

@@ -1,5 +1,9 @@
 //! Theorems on RDATA and records as words. Each contract is a theorem.
+ghost use Rattle.std.specs.Prelude.{ℕ};
+ghost use Rattle.dns_fields_read.specs.Laws.{RepresentsOne};
+ghost use Rattle.dns_data_read.specs.DataWords.{IsDataText};
 ghost use Rattle.dns_data_read.specs.Laws.{DataReadsBack, RecordsReadBack};
+ghost use Rattle.dns_data_read.specs.RecordWords.{IsRecordText};
 
 use dns_fields_read::laws::printed_fields_read_back;
 use dns_fields_text::laws::fields_are_all;
@@ -22,3 +26,9 @@ pub fn printed_data_reads_back()
     printed_fields_read_back();
     fields_are_all();
 }
+
+/// Words represent at most one list of parts of RDATA of a type, and at most one record.
+pub fn words_represent_one()
+    ensures rdata { (rtype : ℕ) → RepresentsOne (IsDataText rtype) }
+    ensures records { RepresentsOne IsRecordText }
+{}
