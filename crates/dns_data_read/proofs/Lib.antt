@@ -26,4 +26,5 @@ mod RecordLemmas
 mod StringLemmas
 mod StringLists
 mod Unmarked
+mod ViewOctets
 mod WordsBack

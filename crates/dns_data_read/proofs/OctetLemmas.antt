@@ -1,4 +1,4 @@
--- Octets that are part of others.
+-- Octets, and those that are part of others.
 use Rattle.std.proofs.Common.{ℕ, zero, suc, ◌<◌, List, [], ◌∷◌, ◌++◌, take, drop, arith}
 use Rattle.std.specs.Prelude.{All}
 use Rattle.std.proofs.lemmas.List.Elements.{All-cons, All-from_get_or, All-nil}
@@ -24,6 +24,11 @@ bytes_left (x ∷ xs) ys bytes (suc i) = bytes_left xs ys (λ k. bytes (suc k)) 
 pub bytes_right : (xs ys : List ℕ) → IsBytes (xs ++ ys) → IsBytes ys
 bytes_right [] ys bytes i = bytes i
 bytes_right (x ∷ xs) ys bytes i = bytes_right xs ys (λ k. bytes (suc k)) i
+
+pub bytes_append : (xs ys : List ℕ) → IsBytes xs → IsBytes ys → IsBytes (xs ++ ys)
+bytes_append [] ys first second i = second i
+bytes_append (x ∷ xs) ys first second zero = first 0
+bytes_append (x ∷ xs) ys first second (suc i) = bytes_append xs ys (λ k. first (suc k)) second i
 
 -- the octets of labels
 abbrev OfOctets : List ℕ → Type 0
