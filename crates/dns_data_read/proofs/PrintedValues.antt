@@ -1,15 +1,13 @@
 -- What is printed of a value of one word: it is a word, reads back, and isn't `\#`.
-use Rattle.std.proofs.Common.{◌≡◌, ℕ, zero, suc, ◌<◌, ◌≤◌, ◌^◌, Bool, true, false, Some, List, [], ◌∷◌, ◌++◌, length, decimal, refl, sym, subst, arith, inl}
-use Rattle.std.specs.Prelude.{All, ◌==◌, nat_lt}
-use Rattle.std.specs.List.{flat_map}
+use Rattle.std.proofs.Common.{◌≡◌, ℕ, suc, ◌<◌, ◌≤◌, ◌^◌, Bool, true, false, Some, List, [], ◌∷◌, length, decimal, refl, sym, subst, arith, inl}
+use Rattle.std.specs.Prelude.{◌==◌, nat_lt}
 use Rattle.std.specs.Net.Addr.{segments_of}
 use Rattle.std.specs.Net.Grammar.{IsDotted}
 use Rattle.std.specs.Net.Text.{ipv4_text, ipv6_text}
 use Rattle.std.proofs.NetLemmas.Texts.{IsDotted-ipv4_text}
 use Rattle.std.proofs.lemmas.Fmt.{decimal_is_IsNumeral}
-use Rattle.std.proofs.lemmas.List.Elements.{All-cons, All-nil}
 use Rattle.hex.specs.Hex.{IsBytes}
-use Rattle.dns_name.specs.Names.{IsName, Labels, framed, uncompressed, with_root}
+use Rattle.dns_name.specs.Names.{IsName, Labels, uncompressed}
 use Rattle.dns_value_text.specs.Addresses.{eui_text, locator_text}
 use Rattle.dns_value_text.specs.Base32.{base32_text}
 use Rattle.dns_value_text.specs.String.{is_tag, quoted}
@@ -27,6 +25,7 @@ use Rattle.dns_line_words.specs.LineWords.{IsWord}
 use Rattle.dns_data_read.specs.FieldWords.{IsHash, IsNumberIn, IsSalt, IsString, IsTagWord, IsTime, IsType, counted}
 use Rattle.dns_data_read.proofs.MarkedWords.{number_differs, type_differs}
 use Rattle.dns_data_read.proofs.NumberOctets.{number_octets, number_small}
+use Rattle.dns_data_read.proofs.OctetLemmas.{labels_of_octets}
 use Rattle.dns_data_read.proofs.PrintedLaws.{PrintedLaws}
 use Rattle.dns_data_read.proofs.Unmarked.{Unmarked, colon_hex_unmarked, dotted_unmarked, eui_unmarked, hash_unmarked, locator_unmarked, name_unmarked, quoted_unmarked, salt_unmarked, tag_unmarked, time_unmarked}
 
@@ -50,29 +49,6 @@ text_is false word text e = absurd (cc e)
 pub any_is : (print : List ℕ → List ℕ) (octets text : List ℕ) → text_of_any print octets ≡ Some text → (0 < length octets) × (Some (print octets) ≡ Some text)
 any_is print [] text e = absurd (cc e)
 any_is print (o ∷ octets) text e = (omega arith, e)
-
--- octets of labels
-bytes_before : (xs ys : List ℕ) → IsBytes (xs ++ ys) → IsBytes xs
-bytes_before [] ys bytes i = omega arith
-bytes_before (x ∷ xs) ys bytes zero = bytes 0
-bytes_before (x ∷ xs) ys bytes (suc i) = bytes_before xs ys (λ k. bytes (suc k)) i
-
-bytes_after : (xs ys : List ℕ) → IsBytes (xs ++ ys) → IsBytes ys
-bytes_after [] ys bytes i = bytes i
-bytes_after (x ∷ xs) ys bytes i = bytes_after xs ys (λ k. bytes (suc k)) i
-
-abbrev OfOctets : List ℕ → Type 0
-OfOctets label = All (λ octet. octet < 256) label
-
-label_octets : (label : List ℕ) → IsBytes label → OfOctets label
-label_octets [] bytes = All-nil (λ octet. octet < 256)
-label_octets (o ∷ label) bytes = All-cons (λ octet. octet < 256) o label (bytes 0) (label_octets label (λ i. bytes (suc i)))
-
-labels_octets : (name : Labels) → IsBytes (uncompressed name) → All OfOctets name
-labels_octets [] bytes = All-nil OfOctets
-labels_octets (label ∷ name) bytes =
-    let others = flat_map framed (with_root name) in
-    All-cons OfOctets label name (label_octets label (λ i. bytes_before (framed label) others bytes (suc i))) (labels_octets name (bytes_after (framed label) others bytes))
 
 module _ (laws : PrintedLaws) where
   open laws.words use {numbers as number_words, types as type_words, times as time_words, names as name_words, strings as string_words, tags as tag_words, salts as salt_words, hashes as hash_words, ipv4 as ipv4_word, ipv6 as ipv6_word, locators as locator_words, eui as eui_words}
@@ -143,7 +119,7 @@ module _ (laws : PrintedLaws) where
   name_printed name text is bytes e =
       as_text IsNameWord (uncompressed name) (zone_name_text name) text e (record {
         is_word = name_words name is;
-        reads = (name, names_back name is (labels_octets name bytes), refl);
+        reads = (name, names_back name is (labels_of_octets name bytes), refl);
         unmarked = name_unmarked name is;
       })
 

@@ -1,7 +1,8 @@
 -- What is printed of RDATA, and of a record, reads back.
-use Rattle.std.specs.Prelude.{◌≡◌, ℕ, ◌<◌, ◌^◌, All}
+use Rattle.std.specs.Prelude.{ℕ, ◌<◌, ◌^◌, List}
 use Rattle.hex.specs.Hex.{IsBytes}
 use Rattle.dns_name.specs.Names.{IsName, Labels, uncompressed}
+use Rattle.dns_name.specs.Parsers.{seen}
 use Rattle.dns_fields.specs.Data.{parts_of, rtype_of}
 use Rattle.dns_fields.specs.DataOrders.{octets_of_parts}
 use Rattle.dns_fields.specs.declared.field_data.FieldData.{FieldData}
@@ -18,6 +19,14 @@ use Rattle.dns_data_read.specs.RecordWords.{IsRecordText}
 abbrev pub HasOctets : FieldData → Type 0
 HasOctets fields = IsBytes (octets_of_parts (parts_of fields))
 
+-- the octets that a view of RDATA sees
+abbrev pub seen_by : FieldData → List ℕ
+seen_by fields = seen fields.parser
+
+-- the octets of RDATA are octets if those that its view sees are
+abbrev pub ViewsHaveOctets : Type 0
+ViewsHaveOctets = (fields : FieldData) → IsBytes (seen_by fields) → HasOctets fields
+
 -- the words of the line of RDATA represent RDATA of its type with its parts
 abbrev pub DataReadsBack : Type 0
 DataReadsBack = (fields : FieldData) (words : Words) → HasOctets fields → AreWordsOf (data_line fields) (texts words) → IsDataText (rtype_of fields) words (parts_of fields)
@@ -29,6 +38,7 @@ record_with owner class ttl fields = record { owner = owner; rtype = rtype_of fi
 -- the words of the line of a record represent the record
 abbrev pub RecordsReadBack : Type 0
 RecordsReadBack =
-    (owner : Labels) (class ttl : ℕ) (fields : FieldData) (words : Words) → IsName owner → IsBytes (uncompressed owner) → class < 2 ^ 16 → ttl < 2 ^ 32 → HasOctets fields
+    (owner : Labels) (class ttl : ℕ) (fields : FieldData) (words : Words) → IsName owner → IsBytes (uncompressed owner) → class < 2 ^ 16 → ttl < 2 ^ 32 → rtype_of fields < 2 ^ 16
+    → HasOctets fields
     → AreWordsOf (record_text (zone_name_text owner) ttl class (rtype_of fields) (data_line fields)) (texts words)
     → IsRecordText words (record_with owner class ttl fields)

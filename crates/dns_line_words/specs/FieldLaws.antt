@@ -49,10 +49,14 @@ opaque_words octets = codes "\\#" ∷ decimal (length octets) ∷ word_of_any (f
 abbrev pub AreWordsOfData : List NamedPart → List (List ℕ) → Type 0
 AreWordsOfData fields words = AreWordsOfFields fields words ⊎ ((fields_text [] fields ≡ None) × (words ≡ opaque_words (fields_octets fields)))
 
--- the text of fields that have a presentation format has words
+-- the text of fields that have a presentation format has the words of the fields
 abbrev pub FieldsSplit : Type 0
-FieldsSplit = (fields : List NamedPart) (text : List ℕ) → AreFields fields → fields_text [] fields ≡ Some text → (words : List (List ℕ)) × AreWordsOf text words
+FieldsSplit =
+    (fields : List NamedPart) (text : List ℕ) → AreFields fields → fields_text [] fields ≡ Some text
+    → (words : List (List ℕ)) × AreWordsOfFields fields words × AreWordsOf text words
 
--- the text of record data has words, whether it is that of its fields or that of an unknown type
+-- the text of RDATA has these words
 abbrev pub DataSplits : Type 0
-DataSplits = (fields : FieldData) → IsBytes (fields_octets (data_fields fields)) → (words : List (List ℕ)) × AreWordsOf (data_line fields) words
+DataSplits =
+    (fields : FieldData) → IsBytes (fields_octets (data_fields fields))
+    → (words : List (List ℕ)) × AreWordsOfData (data_fields fields) words × AreWordsOf (data_line fields) words
