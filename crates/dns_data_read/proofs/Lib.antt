@@ -21,10 +21,10 @@ mod PrintedTexts
 mod PrintedValues
 mod RdataBack
 mod RdataLemmas
+mod ReadOctets
 mod RecordBack
 mod RecordLemmas
 mod StringLemmas
 mod StringLists
 mod Unmarked
-mod ViewOctets
 mod WordsBack

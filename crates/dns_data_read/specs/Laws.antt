@@ -2,7 +2,8 @@
 use Rattle.std.specs.Prelude.{ℕ, ◌<◌, ◌^◌, List}
 use Rattle.hex.specs.Hex.{IsBytes}
 use Rattle.dns_name.specs.Names.{IsName, Labels, uncompressed}
-use Rattle.dns_name.specs.Parsers.{seen}
+use Rattle.dns_wire.specs.Parts.{Part}
+use Rattle.dns_data.specs.Layout.{DataAt, Layout}
 use Rattle.dns_fields.specs.Data.{parts_of, rtype_of}
 use Rattle.dns_fields.specs.DataOrders.{octets_of_parts}
 use Rattle.dns_fields.specs.declared.field_data.FieldData.{FieldData}
@@ -19,13 +20,9 @@ use Rattle.dns_data_read.specs.RecordWords.{IsRecordText}
 abbrev pub HasOctets : FieldData → Type 0
 HasOctets fields = IsBytes (octets_of_parts (parts_of fields))
 
--- the octets that a view of RDATA sees
-abbrev pub seen_by : FieldData → List ℕ
-seen_by fields = seen fields.parser
-
--- the octets of RDATA are octets if those that its view sees are
-abbrev pub ViewsHaveOctets : Type 0
-ViewsHaveOctets = (fields : FieldData) → IsBytes (seen_by fields) → HasOctets fields
+-- the octets of RDATA that is read of octets are octets
+abbrev pub ReadPartsHaveOctets : Type 0
+ReadPartsHaveOctets = (b : List ℕ) (layout : Layout) (p q : ℕ) (parts : List Part) → IsBytes b → DataAt b layout p q parts → IsBytes (octets_of_parts parts)
 
 -- the words of the line of RDATA represent RDATA of its type with its parts
 abbrev pub DataReadsBack : Type 0

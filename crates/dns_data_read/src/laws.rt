@@ -2,7 +2,7 @@
 ghost use Rattle.std.specs.Prelude.{ℕ};
 ghost use Rattle.dns_fields_read.specs.Laws.{RepresentsOne};
 ghost use Rattle.dns_data_read.specs.DataWords.{IsDataText};
-ghost use Rattle.dns_data_read.specs.Laws.{DataReadsBack, RecordsReadBack, ViewsHaveOctets};
+ghost use Rattle.dns_data_read.specs.Laws.{DataReadsBack, ReadPartsHaveOctets, RecordsReadBack};
 ghost use Rattle.dns_data_read.specs.RecordWords.{IsRecordText};
 
 use dns_fields_read::laws::printed_fields_read_back;
@@ -12,9 +12,9 @@ use dns_line_words::laws::{
 };
 use dns_value_text::laws::printed_values_read_back;
 
-/// The octets of RDATA are octets if those that its view sees are.
-pub fn views_have_octets()
-    ensures { ViewsHaveOctets }
+/// The octets of RDATA that is read of octets are octets.
+pub fn read_parts_have_octets()
+    ensures { ReadPartsHaveOctets }
 {}
 
 /// The words of what is printed of RDATA represent RDATA of its type with its parts, and the words

@@ -1,18 +1,14 @@
--- The octets of the parts of a view are octets if those that it sees are.
+-- The octets of RDATA that is read of octets are octets.
 use Rattle.std.proofs.Common.{◌≡◌, ℕ, zero, suc, ◌+◌, ◌-◌, ◌<◌, List, [], ◌∷◌, length, drop, refl, sym, subst, arith, length-take}
 use Rattle.std.specs.Prelude.{slice_range}
 use Rattle.hex.specs.Hex.{IsBytes}
 use Rattle.dns_name.specs.Names.{Labels, NameAt, framed, uncompressed}
 use Rattle.dns_name.specs.Names.NameAt.{label, pointer, root}
-use Rattle.dns_name.specs.Parsers.{offset, seen}
 use Rattle.dns_wire.specs.Parts.{Part}
 use Rattle.dns_wire.specs.Parts.Part.{Octets, CompressibleName, UncompressedName}
 use Rattle.dns_data.specs.Layout.{DataAt, Layout, octets_size, string_size}
 use Rattle.dns_data.specs.Layout.Layout.{End, AtMost, Rest, Fixed, CharacterString, SizedOctets, DomainName, UncompressedDomainName}
 use Rattle.dns_fields.specs.DataOrders.{octets_of_parts}
-use Rattle.dns_fields.specs.EncodedData.{data_is_there}
-use Rattle.dns_fields.specs.declared.field_data.FieldData.{FieldData}
-use Rattle.dns_data_read.specs.Laws.{HasOctets}
 use Rattle.dns_data_read.proofs.OctetLemmas.{bytes_append, bytes_drop, bytes_take}
 
 no_octets : IsBytes []
@@ -35,7 +31,7 @@ module _ (b : List ℕ) (bytes : IsBytes b) where
       bytes_append (framed own) (uncompressed name) (framed_octets own (omega (arith, size, short)) (range_octets (p + 1) (p + 1 + n) own refl)) (name_octets at)
   name_octets (pointer h back at) = name_octets at
 
-  data_octets : (layout : Layout) (p q : ℕ) (parts : List Part) → DataAt b layout p q parts → IsBytes (octets_of_parts parts)
+  pub data_octets : (layout : Layout) (p q : ℕ) (parts : List Part) → DataAt b layout p q parts → IsBytes (octets_of_parts parts)
   data_octets End p q parts h = subst (λ (ps : List Part). IsBytes (octets_of_parts ps)) (sym h.1) no_octets
   data_octets (Rest test) p q parts h = subst (λ (ps : List Part). IsBytes (octets_of_parts ps)) (sym h.1) (bytes_append (drop p b) [] (bytes_drop p b bytes) no_octets)
   data_octets (AtMost n layout) p q parts h = data_octets layout p q parts h.1
@@ -63,7 +59,3 @@ module _ (b : List ℕ) (bytes : IsBytes b) where
   data_octets (UncompressedDomainName pointers lowers layout) p q (CompressibleName name ∷ parts) h = absurd h
   data_octets (UncompressedDomainName pointers lowers layout) p q (UncompressedName flag name ∷ parts) h =
       bytes_append (uncompressed name) (octets_of_parts parts) (name_octets h.1) (data_octets layout h.0 q parts h.3)
-
-pub view_octets : (fields : FieldData) → IsBytes (seen fields.parser) → HasOctets fields
-view_octets fields bytes =
-    let there = data_is_there _ _ _ fields.encoded in data_octets (seen fields.parser) bytes _ (offset fields.parser) there.0 _ there.1
