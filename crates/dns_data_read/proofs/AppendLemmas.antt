@@ -1,5 +1,5 @@
 -- Appending the octets of words.
-use Rattle.std.proofs.Common.{◌≡◌, ◌∙◌, ℕ, zero, suc, ◌-◌, ◌/◌, ◌%◌, ◌<◌, List, [], ◌∷◌, ◌++◌, refl, ap, sym, subst, arith, inl, inr}
+use Rattle.std.proofs.Common.{◌≡◌, ◌∙◌, ℕ, List, ◌++◌, refl, ap, sym, subst, inl, inr}
 use Rattle.std.specs.Prelude.{◌↔◌, Some, Result, Ok, Err, OnOk, IfErr}
 use Rattle.std.specs.Global.{Vec}
 use Rattle.dns_value_text.specs.Reading.{ReadsOctets}
@@ -26,16 +26,6 @@ read_appended Represents (Ok more) old new (Err e) is appends = inl appends.1
 read_appended Represents (Err f) old new (Ok u) is appends = absurd (cc appends)
 read_appended Represents (Err f) old new (Err e) (inl memory) appends = let same : e ≡ f = cc in inl (same ∙ memory)
 read_appended Represents (Err f) old new (Err e) (inr bad) appends = let same : e ≡ f = cc in inr (same ∙ bad.0, bad.1)
-
--- the last octets of a number
-pub last_none : (n : ℕ) → last_octets 0 n ≡ []
-unfolding last_octets
-last_none n = refl
-
-pub last_more : (count n : ℕ) → 0 < count → last_octets count n ≡ last_octets (count - 1) (n / 256) ++ (n % 256) ∷ []
-unfolding last_octets
-last_more zero n some = absurd (omega arith)
-last_more (suc count) n some = let same : count ≡ suc count - 1 = omega arith in ap (λ k. last_octets k (n / 256) ++ (n % 256) ∷ []) same
 
 -- a field of this kind
 pub as_kind : (kind own : Kind) (word old new : List ℕ) (result : Result Unit TextError) → kind ≡ own → AppendsOctets (IsFieldWord own word) old new result → AppendsOctets (IsFieldWord kind word) old new result

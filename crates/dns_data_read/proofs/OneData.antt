@@ -3,6 +3,8 @@ use Rattle.std.proofs.Common.{◌≡◌, ◌∙◌, ℕ, List, [], ◌∷◌, �
 use Rattle.std.specs.Prelude.{Result, Ok, Err}
 use Rattle.std.specs.Borrow.{Bor}
 use Rattle.std.specs.Str.Parse.{digits_value}
+use Rattle.dns_data.proofs.theory.DataReading.{one_rdata}
+use Rattle.dns_fields.specs.FieldData.{type_layout}
 use Rattle.dns_fields.specs.Table.{kinds_of}
 use Rattle.dns_fields.specs.declared.kind.Kind.{Kind}
 use Rattle.dns_fields.specs.declared.kind.Kind.TheVariants as kinds
@@ -20,7 +22,7 @@ use Rattle.dns_fields_read.proofs.PrefixLemmas.{one_prefixes}
 use Rattle.dns_fields_read.proofs.StringLemmas.{one_string}
 use Rattle.dns_fields_read.proofs.TypeMapLaws.{one_word}
 use Rattle.dns_value_text.specs.declared.text_error.TextError.{TextError}
-use Rattle.dns_data_read.specs.DataWords.{AreCountedDigits, AreDataWords, AreFields, ReadsData}
+use Rattle.dns_data_read.specs.DataWords.{AreCountedDigits, AreDataWords, AreFields, IsDataText, ReadsData}
 use Rattle.dns_data_read.specs.Extents.{extent_of}
 use Rattle.dns_data_read.specs.FieldWords.{AreFieldWords, AreStrings, IsField, IsFieldOf, IsFieldWord, IsHash, IsNumberIn, IsOne, IsSalt, IsString, IsTime, IsType, Words, counted}
 use Rattle.dns_data_read.specs.Rdata.{IsRdata, ReadsRdata}
@@ -64,7 +66,7 @@ one_field_word kinds.PointedName word xs ys a b = one_name word xs ys a b
 one_field_word kinds.LowercasedName word xs ys a b = one_name word xs ys a b
 one_field_word kinds.PlainName word xs ys a b = one_name word xs ys a b
 one_field_word kinds.CharacterString word xs ys a b = one_string_field word xs ys a b
-one_field_word kinds.Tag word xs ys a b = one_string_field word xs ys a b
+one_field_word kinds.Tag word xs ys a b = a.2 ∙ sym b.2
 one_field_word kinds.Salt word xs ys a b = one_salt_field word xs ys a b
 one_field_word kinds.Hash word xs ys a b = one_hash_field word xs ys a b
 one_field_word kinds.Text word xs ys a b = one_string word xs ys a b
@@ -80,8 +82,8 @@ one_strings (word ∷ words) xs ys a b =
 
 one_field_words : (kind : Kind) → RepresentsOne (AreFieldWords kind)
 one_field_words kinds.Strings words xs ys a b = one_strings words xs ys a.1 b.1
-one_field_words kinds.Hexadecimal words xs ys a b = one_hex words xs ys a.1 b.1
-one_field_words kinds.Base64 words xs ys a b = one_base64 words xs ys a.1 b.1
+one_field_words kinds.Hexadecimal words xs ys a b = one_hex words xs ys a.0 b.0
+one_field_words kinds.Base64 words xs ys a b = one_base64 words xs ys a.0 b.0
 one_field_words kinds.TypeBitMap words xs ys a b = one_map words xs ys a b
 one_field_words kinds.SmallTypeBitMap words xs ys a b = one_small_map words xs ys a b
 one_field_words kinds.ServiceParameters words xs ys a b = one_parameters words xs ys a b
@@ -165,6 +167,13 @@ one_data rtype words xs ys (inl a) (inl b) = one_digits (drop 1 words) xs ys a.1
 one_data rtype words xs ys (inl a) (inr b) = absurd (b.0 a.0)
 one_data rtype words xs ys (inr a) (inl b) = absurd (a.0 b.0)
 one_data rtype words xs ys (inr a) (inr b) = one_fields (kinds_of rtype) words xs ys a.1 b.1
+
+-- and one list of parts
+pub one_parts : (rtype : ℕ) → RepresentsOne (IsDataText rtype)
+one_parts rtype words xs ys a b =
+    let same = one_data rtype words a.octets b.octets a.are b.are in
+    let own = subst (λ (octets : List ℕ). IsRdata rtype octets xs) same a.rdata in
+    (one_rdata b.octets (type_layout rtype) 0 (length b.octets) (length b.octets) xs ys own.fields b.rdata.fields).1
 
 -- RDATA of the octets that the words represent
 pub data_read : (rtype : ℕ) (words : Words) (octets slice : List ℕ) (result : Result OwnedFieldData TextError) → AreDataWords rtype words octets → slice ≡ octets → ReadsRdata rtype slice result

@@ -11,7 +11,7 @@ use Rattle.dns_fields.specs.FieldData.{type_layout}
 use Rattle.dns_data_read.specs.Rdata.{IsRdata}
 
 -- parts that are written without compression
-plain_octets : (parts : List Part) (m : CompressionTable) (w : ℕ) → (encode_parts Plain parts m w).octets ≡ octets_of_parts parts
+pub plain_octets : (parts : List Part) (m : CompressionTable) (w : ℕ) → (encode_parts Plain parts m w).octets ≡ octets_of_parts parts
 unfolding encode_parts encode_name
 plain_octets [] m w = refl
 plain_octets (Octets octets ∷ parts) m w = ap (λ (xs : List ℕ). octets ++ xs) (plain_octets parts m (w + length octets))

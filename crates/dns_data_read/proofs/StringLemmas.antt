@@ -1,38 +1,18 @@
 -- Character strings.
-use Rattle.std.proofs.Common.{◌≡◌, ◌∙◌, ℕ, ◌-◌, ◌<◌, ◌≤◌, List, [], ◌∷◌, ◌++◌, Some, length, drop, take, get_or, refl, sym, ap, subst, arith, inl, inr, append_assoc}
+use Rattle.std.proofs.Common.{◌≡◌, ◌∙◌, ℕ, ◌-◌, ◌<◌, ◌≤◌, List, [], ◌∷◌, ◌++◌, length, drop, take, get_or, refl, ap, arith, inl, inr, append_assoc}
 use Rattle.std.specs.Prelude.{Result, Ok, Err}
 use Rattle.std.proofs.lemmas.List.{take_all}
-use Rattle.dns_value_text.specs.Strings.{SpellsOctets, SpellsString, unquoted}
-use Rattle.dns_value_text.specs.Strings.SpellsOctets.{none, more}
+use Rattle.dns_value_text.specs.Strings.{SpellsString}
 use Rattle.dns_value_text.specs.declared.text_error.TextError.{TextError}
 use Rattle.std.specs.Borrow.{Bor}
 use Rattle.dns_fields_read.specs.Reading.{AppendsOctets}
+use Rattle.dns_fields_read.proofs.StringLemmas.{one_string}
 use Rattle.dns_data_read.specs.FieldWords.{AreStrings, IsString, Words}
-
-some_same : {A : Type 0} (x y : A) → Some x ≡ Some y → x ≡ y
-some_same x y e = cc
-
--- a text spells one string
-same_octets : (text xs ys : List ℕ) → SpellsOctets text xs → SpellsOctets text ys → xs ≡ ys
-same_octets text xs ys none none = refl
-same_octets text xs ys none (more f k) = absurd (cc f)
-same_octets text xs ys (more e h) none = absurd (cc e)
-same_octets text xs ys (more {after = after} {octets = octets} {octet = octet} e h) (more {after = rest} {octets = others} {octet = other} f k) =
-    let first : ℕ × List ℕ = (octet, after) in
-    let second : ℕ × List ℕ = (other, rest) in
-    let pair : first ≡ second = some_same first second (sym e ∙ f) in
-    let same : octet ≡ other = ap (λ (p : ℕ × List ℕ). p.0) pair in
-    let left : after ≡ rest = ap (λ (p : ℕ × List ℕ). p.1) pair in
-    let back = same_octets after octets others h (subst (λ (t : List ℕ). SpellsOctets t others) (sym left) k) in
-    cc (same, back)
-
-pub same_string : (word xs ys : List ℕ) → SpellsString word xs → SpellsString word ys → xs ≡ ys
-same_string word xs ys h k = same_octets (unquoted word) xs ys h k
 
 -- a longer string
 pub long_string : (word string : List ℕ) → SpellsString word string → 255 < length string → (octets : List ℕ) → ¬ (IsString word octets)
 long_string word string h long octets (other, is, short, whole) =
-    let same = ap length (same_string word string other h is) in
+    let same = ap length (one_string word string other h is) in
     omega arith
 
 -- the words after the first

@@ -1,9 +1,10 @@
 -- Words that represent a field of record data. RFC 1035 section 5.1; the RFC of each form of word is beside its definition.
-use Rattle.std.specs.Prelude.{◌≡◌, ◌≢◌, ℕ, ◌<◌, ◌≤◌, ◌^◌, List, [], ◌∷◌, ◌++◌, length}
+use Rattle.std.specs.Prelude.{◌≡◌, ◌≢◌, ℕ, ◌<◌, ◌≤◌, ◌^◌, true, List, [], ◌∷◌, ◌++◌, length}
 use Rattle.std.specs.Borrow.{Bor}
 use Rattle.std.specs.Net.Grammar.{IsDotted, IsNumber}
 use Rattle.dns_fields.specs.declared.kind.Kind.{Kind}
 use Rattle.dns_fields.specs.declared.kind.Kind.TheVariants as kinds
+use Rattle.dns_value_text.specs.String.{is_tag}
 use Rattle.dns_value_text.specs.Strings.{SpellsString}
 use Rattle.dns_fields_read.specs.Addresses.{IsIpv6Word}
 use Rattle.dns_fields_read.specs.Base32Words.{last_octets}
@@ -48,6 +49,10 @@ counted octets = length octets ∷ octets
 abbrev pub IsString : List ℕ → List ℕ → Type 0
 IsString word octets = (string : List ℕ) × SpellsString word string × (length string ≤ 255) × (octets ≡ counted string)
 
+-- a tag: the word is letters and digits, one at least. RFC 8659 section 4.1
+abbrev pub IsTagWord : List ℕ → List ℕ → Type 0
+IsTagWord word octets = (is_tag word ≡ true) × (length word ≤ 255) × (octets ≡ counted word)
+
 -- a salt, and a hash. RFC 5155 section 3.2
 abbrev pub IsSalt : List ℕ → List ℕ → Type 0
 IsSalt word octets = (salt : List ℕ) × IsSaltWord word salt × (octets ≡ counted salt)
@@ -80,17 +85,17 @@ IsFieldWord kinds.PointedName word octets = IsNameWord word octets
 IsFieldWord kinds.LowercasedName word octets = IsNameWord word octets
 IsFieldWord kinds.PlainName word octets = IsNameWord word octets
 IsFieldWord kinds.CharacterString word octets = IsString word octets
-IsFieldWord kinds.Tag word octets = IsString word octets
+IsFieldWord kinds.Tag word octets = IsTagWord word octets
 IsFieldWord kinds.Salt word octets = IsSalt word octets
 IsFieldWord kinds.Hash word octets = IsHash word octets
 IsFieldWord kinds.Text word octets = SpellsString word octets
 IsFieldWord kind word octets = ⊥
 
--- the words are a field of this kind. Character strings and digits have one word at least. An opaque field has no words
+-- the words are a field of this kind. There is one character string at least, and digits represent one octet at least. An opaque field has no words
 abbrev pub AreFieldWords : Kind → Words → List ℕ → Type 0
 AreFieldWords kinds.Strings words octets = (words ≢ []) × AreStrings words octets
-AreFieldWords kinds.Hexadecimal words octets = (words ≢ []) × AreHex words octets
-AreFieldWords kinds.Base64 words octets = (words ≢ []) × AreBase64 words octets
+AreFieldWords kinds.Hexadecimal words octets = AreHex words octets × (octets ≢ [])
+AreFieldWords kinds.Base64 words octets = AreBase64 words octets × (octets ≢ [])
 AreFieldWords kinds.TypeBitMap words octets = IsTypeMap words octets
 AreFieldWords kinds.SmallTypeBitMap words octets = IsSmallTypeMap words octets
 AreFieldWords kinds.ServiceParameters words octets = AreParameterWords words octets

@@ -4,11 +4,11 @@ use Rattle.std.specs.Net.Grammar.{IsNumber}
 use Rattle.dns_octets.specs.declared.octets.Octets.{Ghosts}
 use Rattle.dns_name.specs.Names.{Labels}
 use Rattle.dns_name.specs.NameReading.{name_labels}
-use Rattle.dns_name.specs.NameTexts.{SpellsName}
 use Rattle.dns_name.specs.declared.name.Name.{Name}
 use Rattle.dns_number.specs.Classes.{SpellsClass}
 use Rattle.dns_fields.specs.OwnedData.{owned_parts_of, owned_rtype_of}
 use Rattle.dns_fields.specs.declared.owned.OwnedFieldData.{OwnedFieldData}
+use Rattle.dns_fields_read.specs.NameWords.{IsNameText}
 use Rattle.dns_fields_read.specs.TypeWords.{IsTypeWord}
 use Rattle.dns_item.specs.Items.{RecordItem}
 use Rattle.dns_item.specs.Record.{record_item}
@@ -21,7 +21,7 @@ use Rattle.dns_data_read.specs.FieldWords.{Words}
 -- the first four words are the owner, the TTL in seconds, the class and the type of a record
 abbrev pub AreHeadWords : Words → Labels → ℕ → ℕ → ℕ → Type 0
 AreHeadWords (name ∷ seconds ∷ class_word ∷ type_word ∷ words) owner ttl class rtype =
-    SpellsName name.now owner × (IsNumber 10 seconds.now ttl × (ttl < 2 ^ 32)) × SpellsClass class_word.now class × IsTypeWord type_word.now rtype
+    IsNameText name.now owner × (IsNumber 10 seconds.now ttl × (ttl < 2 ^ 32)) × SpellsClass class_word.now class × IsTypeWord type_word.now rtype
 AreHeadWords _ owner ttl class rtype = ⊥
 
 -- the words after these represent its RDATA

@@ -1,22 +1,11 @@
 //! Appending octets.
 ghost use Rattle.std.specs.Prelude.{◌≡◌, ◌++◌, ◌≤◌, length, IfErr, OnOk};
-ghost use Rattle.dns_fields_read.specs.Base32Words.{last_octets};
 ghost use Rattle.dns_data_read.specs.Appended.{AppendsRead};
 ghost use Rattle.dns_data_read.specs.FieldWords.{counted};
 ghost use Rattle.dns_value_text.specs.declared.text_error.TextError.TheVariants.{OutOfMemory};
 
+use dns_fields_read::push_octets;
 use dns_value_text::TextError;
-
-/// Appends octets.
-pub(crate) fn push_octets(octets: &mut Vec<u8>, more: &[u8]) -> Result<(), TextError>
-    ensures ok { OnOk result (octets.new.items ≡ octets.old.items ++ more.now) }
-    ensures err { IfErr result (λ error. error ≡ OutOfMemory) }
-{
-    match octets.extend_from_slice(more) {
-        Ok(()) => Ok(()),
-        Err(_) => Err(TextError::OutOfMemory),
-    }
-}
 
 /// Appends octets after a length octet.
 pub(crate) fn push_counted(octets: &mut Vec<u8>, string: &[u8]) -> Result<(), TextError>
@@ -26,21 +15,6 @@ pub(crate) fn push_counted(octets: &mut Vec<u8>, string: &[u8]) -> Result<(), Te
 {
     match octets.push(string.len() as u8) {
         Ok(()) => push_octets(octets, string),
-        Err(_) => Err(TextError::OutOfMemory),
-    }
-}
-
-/// Appends the last `size` octets of a number, big-endian.
-pub(crate) fn push_last(octets: &mut Vec<u8>, size: u8, number: u64) -> Result<(), TextError>
-    ensures ok { OnOk result (octets.new.items ≡ octets.old.items ++ last_octets size number) }
-    ensures err { IfErr result (λ error. error ≡ OutOfMemory) }
-{
-    if size == 0 {
-        return Ok(());
-    }
-    push_last(octets, size - 1, number / 256)?;
-    match octets.push((number % 256) as u8) {
-        Ok(()) => Ok(()),
         Err(_) => Err(TextError::OutOfMemory),
     }
 }

@@ -7,6 +7,7 @@ mod data;
 mod extent;
 mod field;
 mod fields;
+pub mod laws;
 mod rdata;
 mod record;
 mod word;

@@ -1,20 +1,20 @@
 //! Fields that are one word (RFC 1035 section 5.1).
 ghost use Rattle.std.specs.Prelude.{◌≡◌, ◌+◌, ◌^◌};
 ghost use Rattle.std.specs.Net.Grammar.{IsDotted};
-ghost use Rattle.dns_data_read.specs.FieldWords.{IsHash, IsNumberIn, IsSalt, IsString, IsTime, IsType, IsFieldWord};
+ghost use Rattle.dns_data_read.specs.FieldWords.{IsHash, IsNumberIn, IsSalt, IsString, IsTagWord, IsTime, IsType, IsFieldWord};
 ghost use Rattle.dns_fields_read.specs.Addresses.{IsIpv6Word};
 ghost use Rattle.dns_fields_read.specs.EuiWords.{IsEuiWord};
 ghost use Rattle.dns_fields_read.specs.LocatorWords.{IsLocatorWord};
 ghost use Rattle.dns_fields_read.specs.NameWords.{IsNameWord};
 ghost use Rattle.dns_fields_read.specs.Reading.{AppendsOctets};
 
-use crate::append::{push_counted, push_last, push_octets, push_read};
+use crate::append::{push_counted, push_read};
 use dns_fields::Kind;
 use dns_fields_read::{
-    read_eui48, read_eui64, read_hash, read_ipv4, read_ipv6, read_locator, read_name, read_salt,
-    read_time, read_type,
+    push_last, push_octets, read_eui48, read_eui64, read_hash, read_ipv4, read_ipv6, read_locator,
+    read_name, read_salt, read_time, read_type,
 };
-use dns_value_text::{TextError, read_number, read_string};
+use dns_value_text::{Tag, TextError, read_number, read_string};
 use std::alloc::Global;
 
 /// The greatest number that a length octet counts.
@@ -125,6 +125,20 @@ pub(crate) fn push_string(alloc: Global, octets: &mut Vec<u8>, word: &str) -> Re
     push_counted(octets, string.as_slice())
 }
 
+/// Appends a tag.
+fn push_tag(octets: &mut Vec<u8>, word: &str) -> Result<(), TextError>
+    ensures { AppendsOctets (IsTagWord word.now) octets.old.items octets.new.items result }
+{
+    let tag = word.as_bytes();
+    if Tag::from_octets(tag).is_none() {
+        return Err(TextError::BadWord);
+    }
+    if tag.len() > MOST_OCTETS {
+        return Err(TextError::BadWord);
+    }
+    push_counted(octets, tag)
+}
+
 /// Appends a salt.
 fn push_salt(alloc: Global, octets: &mut Vec<u8>, word: &str) -> Result<(), TextError>
     ensures { AppendsOctets (IsSalt word.now) octets.old.items octets.new.items result }
@@ -169,7 +183,8 @@ pub(crate) fn push_word(
         Kind::CompressibleName | Kind::PointedName | Kind::LowercasedName | Kind::PlainName => {
             push_name(octets, word)
         }
-        Kind::CharacterString | Kind::Tag => push_string(alloc, octets, word),
+        Kind::CharacterString => push_string(alloc, octets, word),
+        Kind::Tag => push_tag(octets, word),
         Kind::Salt => push_salt(alloc, octets, word),
         Kind::Hash => push_hash(alloc, octets, word),
         Kind::Text => push_read(octets, read_string(alloc, word.as_bytes())),

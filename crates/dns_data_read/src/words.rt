@@ -1,16 +1,16 @@
 //! Fields that are all words that are left (RFC 1035 section 5.1).
-ghost use Rattle.std.specs.Prelude.{◌≢◌, []};
+ghost use Rattle.std.specs.Prelude.{◌≡◌, ◌≢◌, []};
 ghost use Rattle.dns_data_read.specs.FieldWords.{AreStrings, AreFieldWords};
 ghost use Rattle.dns_fields_read.specs.JoinedWords.{AreBase64, AreHex};
 ghost use Rattle.dns_fields_read.specs.LocationWords.{IsLocation};
 ghost use Rattle.dns_fields_read.specs.Reading.{AppendsOctets};
 
-use crate::append::{push_octets, push_read};
+use crate::append::push_read;
 use crate::word::push_string;
 use dns_fields::Kind;
 use dns_fields_read::{
-    read_base64_words, read_gateway, read_hex_words, read_host_identity, read_location,
-    read_parameters, read_prefixes, read_relay, read_small_type_map, read_type_map,
+    push_octets, read_base64_words, read_gateway, read_hex_words, read_host_identity,
+    read_location, read_parameters, read_prefixes, read_relay, read_small_type_map, read_type_map,
 };
 use dns_value_text::TextError;
 use std::alloc::Global;
@@ -39,26 +39,33 @@ fn push_some_strings(alloc: Global, octets: &mut Vec<u8>, words: &[&str]) -> Res
     push_strings(alloc, octets, words)
 }
 
-/// Appends the octets of hexadecimal digits, one word at least.
-fn push_hex(alloc: Global, octets: &mut Vec<u8>, words: &[&str]) -> Result<(), TextError>
-    ensures { AppendsOctets (λ all. (words.now ≢ []) × AreHex words.now all)
+/// Appends octets, one at least.
+fn push_some(octets: &mut Vec<u8>, more: &[u8]) -> Result<(), TextError>
+    ensures { AppendsOctets (λ all. (all ≡ more.now) × (all ≢ []))
         octets.old.items octets.new.items result }
 {
-    if words.is_empty() {
+    if more.is_empty() {
         return Err(TextError::BadWord);
     }
-    push_read(octets, read_hex_words(alloc, words))
+    push_octets(octets, more)
 }
 
-/// Appends the octets of base64, one word at least.
-fn push_base64(alloc: Global, octets: &mut Vec<u8>, words: &[&str]) -> Result<(), TextError>
-    ensures { AppendsOctets (λ all. (words.now ≢ []) × AreBase64 words.now all)
+/// Appends the octets of hexadecimal digits, one octet at least.
+fn push_hex(alloc: Global, octets: &mut Vec<u8>, words: &[&str]) -> Result<(), TextError>
+    ensures { AppendsOctets (λ all. AreHex words.now all × (all ≢ []))
         octets.old.items octets.new.items result }
 {
-    if words.is_empty() {
-        return Err(TextError::BadWord);
-    }
-    push_read(octets, read_base64_words(alloc, words))
+    let more = read_hex_words(alloc, words)?;
+    push_some(octets, more.as_slice())
+}
+
+/// Appends the octets of base64, one octet at least.
+fn push_base64(alloc: Global, octets: &mut Vec<u8>, words: &[&str]) -> Result<(), TextError>
+    ensures { AppendsOctets (λ all. AreBase64 words.now all × (all ≢ []))
+        octets.old.items octets.new.items result }
+{
+    let more = read_base64_words(alloc, words)?;
+    push_some(octets, more.as_slice())
 }
 
 /// Appends a location.

@@ -10,11 +10,15 @@ const BAD: &[(u16, &[&str])] = &[
     (1, &[]),
     (1, &["192.0.2.1", "192.0.2.2"]),
     (2, &["a..example."]),
+    (2, &["@"]),
+    (2, &["\"a.example.\""]),
     (6, &["a.example.", "b.example.", "1", "2", "3", "4"]),
     (15, &["65536", "mail.example."]),
     (16, &[]),
     (43, &["60485", "5", "1"]),
+    (43, &["60485", "5", "1", ""]),
     (48, &["256", "3", "5", "AQO"]),
+    (48, &["256", "3", "5", ""]),
     (
         50,
         &[
@@ -31,6 +35,9 @@ const BAD: &[(u16, &[&str])] = &[
         &["hmac.example.", "0", "300", "3", "AA==", "1", "0", "0"],
     ),
 ];
+
+/// Tags of CAA that aren't letters and digits (RFC 8659 section 4.1).
+const BAD_TAGS: &[&str] = &["", "issue-mail", "\"issue\"", "iss\\117e"];
 
 /// The same of the form of unknown types (RFC 3597 section 5): another number of octets, a missing
 /// digit, octets of another type, a compression pointer, and a number alone.
@@ -76,6 +83,14 @@ fn bad_octets(rt: HostRuntime) {
     }
 }
 
+#[test]
+fn bad_tags(rt: HostRuntime) {
+    for tag in BAD_TAGS {
+        let error = error_of(rt.alloc(), 257, &["0", tag, "ca.example"]);
+        assert_eq!(rt; error, Some(TextError::BadWord), "{tag}");
+    }
+}
+
 /// A text of this many letters.
 fn letters(alloc: Global, count: usize) -> Result<String, Fail> {
     let mut text = String::new(alloc);
@@ -93,6 +108,20 @@ fn long_strings(rt: HostRuntime) -> Result<(), Fail> {
     assert_eq!(rt; error, Some(TextError::BadWord));
     let most = letters(rt.alloc(), 255)?;
     assert_eq!(rt; error_of(rt.alloc(), 16, &[most.as_str()]), None);
+    Ok(())
+}
+
+/// So has a tag.
+#[test]
+fn long_tags(rt: HostRuntime) -> Result<(), Fail> {
+    let long = letters(rt.alloc(), 256)?;
+    let error = error_of(rt.alloc(), 257, &["0", long.as_str(), "ca.example"]);
+    assert_eq!(rt; error, Some(TextError::BadWord));
+    let most = letters(rt.alloc(), 255)?;
+    assert_eq!(rt;
+        error_of(rt.alloc(), 257, &["0", most.as_str(), "ca.example"]),
+        None
+    );
     Ok(())
 }
 

@@ -3,6 +3,7 @@ use dns_code::{Class, Rtype};
 use dns_data::{ComposeRecordData, RecordData};
 use dns_data_read::read_record;
 use dns_item::Ttl;
+use dns_value_text::TextError;
 use std::test::Fail;
 
 /// The record of RFC 1035 section 5.3.
@@ -25,7 +26,7 @@ fn mail_exchange(rt: HostRuntime) -> Result<(), Fail> {
     Ok(())
 }
 
-/// Another order, a TTL and an owner that don't exist, and missing words.
+/// Another order; a TTL, owners and a type that don't exist; and missing words.
 const BAD: &[&[&str]] = &[
     &["ISI.EDU.", "IN", "3600", "MX", "10", "VENERA.ISI.EDU."],
     &[
@@ -37,6 +38,7 @@ const BAD: &[&[&str]] = &[
         "VENERA.ISI.EDU.",
     ],
     &["ISI..EDU.", "3600", "IN", "MX", "10", "VENERA.ISI.EDU."],
+    &["@", "3600", "IN", "MX", "10", "VENERA.ISI.EDU."],
     &[
         "ISI.EDU.",
         "3600",
@@ -52,6 +54,7 @@ const BAD: &[&[&str]] = &[
 #[test]
 fn bad_records(rt: HostRuntime) {
     for words in BAD {
-        assert!(rt; read_record(rt.alloc(), words).is_err(), "{words:?}");
+        let error = read_record(rt.alloc(), words).err();
+        assert_eq!(rt; error, Some(TextError::BadWord), "{words:?}");
     }
 }

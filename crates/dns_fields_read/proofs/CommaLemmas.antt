@@ -1,12 +1,13 @@
 -- Texts with commas between them.
-use Rattle.std.proofs.Common.{◌≡◌, ◌∙◌, ◌≢◌, ℕ, suc, ◌*◌, ◌<◌, ◌==◌, Bool, true, false, cond, List, [], ◌∷◌, ◌++◌, length, get_or, take, drop, refl, sym, ap, subst, arith, inl, inr, append_assoc, append-nil, length-append, take-append-drop, ne_eqb}
+use Rattle.std.proofs.Common.{◌≡◌, ◌∙◌, ◌≢◌, ℕ, suc, ◌<◌, ◌==◌, Bool, true, false, cond, List, [], ◌∷◌, ◌++◌, length, get_or, take, drop, refl, sym, ap, subst, arith, inl, inr, append_assoc, append-nil, take-append-drop, ne_eqb}
 use Rattle.std.specs.Prelude.{Result, Ok, Err}
 use Rattle.std.specs.Str.{NoCharPasses}
 use Rattle.std.specs.Str.Pattern.{RFindsChar, SplitsAroundMatch}
 use Rattle.std.proofs.lemmas.Bool.{cond-false}
 use Rattle.std.proofs.lemmas.Str.Pattern.{NoCharPasses-char, drop_at_char}
 use Rattle.dns_value_text.specs.declared.text_error.TextError.{TextError}
-use Rattle.dns_fields_read.specs.ParameterValues.{AppendsOctets, AreJoined, comma_texts, with_first}
+use Rattle.dns_fields_read.specs.ParameterValues.{AreJoined, comma_texts, with_first}
+use Rattle.dns_fields_read.specs.Reading.{AppendsOctets}
 
 -- a text has no comma
 abbrev pub NoComma : List ℕ → Type 0

@@ -11,7 +11,7 @@ use Rattle.std.proofs.lemmas.Bool.{eqb-true, leb-true}
 use Rattle.std.proofs.lemmas.List.{length-take-le, take-append-drop}
 use Rattle.hex.specs.Hex.{IsBytes}
 use Rattle.dns_name.specs.Names.{Labels, uncompressed}
-use Rattle.dns_name.specs.NameTexts.{SpellsName}
+use Rattle.dns_fields_read.specs.NameWords.{IsNameText}
 use Rattle.dns_value_text.specs.Laws.{Base64ReadsBack}
 use Rattle.dns_fields_text.specs.GatewayTexts.{gateway_at, gateway_text, gateway_words, key_text, last_relay, name_at, name_word_at, relay_text, relay_words, word_at}
 use Rattle.dns_fields_text.specs.ZoneNames.{zone_name_text}
@@ -120,7 +120,7 @@ module _ (t : ℕ) (octets word after : List ℕ) (bytes : IsBytes octets) where
       record {
         gateway = uncompressed name;
         whole = first.whole ∙ ap (λ (xs : List ℕ). uncompressed name ++ xs) same.1;
-        is = inr (inr (inr (three, (name, subst (λ (w : List ℕ). SpellsName w name) same.0 (names_read_back name first.is_name first.of_octets), refl))));
+        is = inr (inr (inr (three, (name, subst (λ (w : List ℕ). IsNameText w name) same.0 (names_read_back name first.is_name first.of_octets), refl))));
         clear = subst HasNoSpace same.0 (name_clear name);
         most = omega arith;
         bytes = subst IsBytes same.1 first.bytes;

@@ -10,7 +10,7 @@ use Rattle.base64.specs.Engines.{standard}
 use Rattle.base64.specs.GeneralPurpose.{encode_of}
 use Rattle.hex.specs.Hex.{IsBytes}
 use Rattle.dns_name.specs.Names.{Labels, uncompressed}
-use Rattle.dns_name.specs.NameTexts.{SpellsName}
+use Rattle.dns_fields_read.specs.NameWords.{IsNameText}
 use Rattle.dns_value_text.specs.Hex.{hex_text}
 use Rattle.dns_value_text.specs.Laws.{Base64ReadsBack, HexReadsBack}
 use Rattle.dns_value_text.specs.Octets.{IsBase64, IsHex}
@@ -60,7 +60,7 @@ module _ (count : ℕ) (later : (octets text : List ℕ) (words : Words) → IsB
       subst (λ (ws : Words). AreNames ws octets) (sym first.whole) (
         uncompressed name,
         after,
-        (name, subst (λ (w : List ℕ). SpellsName w name) first.same (names_read_back name here.is_name here.of_octets), refl),
+        (name, subst (λ (w : List ℕ). IsNameText w name) first.same (names_read_back name here.is_name here.of_octets), refl),
         here.whole,
         later after more first.others here.bytes h first.rest_is first.separate,
       )

@@ -88,7 +88,7 @@ one_locator word xs ys a b = a.3 ∙ ap octets_of (one_segments word a.0 b.0 (a.
 
 -- names
 pub one_name : RepresentsOne IsNameWord
-one_name word xs ys a b = a.2 ∙ ap uncompressed (one_text_name word a.0 b.0 a.1 b.1) ∙ sym b.2
+one_name word xs ys a b = a.2 ∙ ap uncompressed (one_text_name word a.0 b.0 a.1.spelled b.1.spelled) ∙ sym b.2
 
 -- octets in digits
 pub one_hex : RepresentsOne AreHex

@@ -8,7 +8,8 @@ use Rattle.dns_fields_text.specs.Separated.{separated}
 use Rattle.dns_value_text.specs.declared.text_error.TextError.{TextError}
 use Rattle.dns_value_text.specs.Reading.{ReadsOctets}
 use Rattle.dns_value_text.specs.Strings.{SpellsString}
-use Rattle.dns_fields_read.specs.ParameterValues.{AppendsOctets, AreProtocols, IsAlpn, escaped}
+use Rattle.dns_fields_read.specs.ParameterValues.{AreProtocols, IsAlpn, escaped}
+use Rattle.dns_fields_read.specs.Reading.{AppendsOctets}
 use Rattle.dns_fields_read.specs.ProtocolNames.{IsCountedName, NamesFrom, octet_at}
 use Rattle.dns_fields_read.specs.Salts.{IsCounted}
 use Rattle.dns_fields_read.proofs.StringLemmas.{one_string}

@@ -1,6 +1,6 @@
 -- Values of service parameters with a named key.
-use Rattle.std.proofs.Common.{◌≡◌, ◌∙◌, ◌≢◌, ℕ, zero, suc, ◌-◌, ◌/◌, ◌%◌, ◌≤◌, ◌==◌, Bool, true, false, List, [], ◌∷◌, ◌++◌, length, get_or, refl, sym, ap, subst, arith, inl, inr, ne_eqb}
-use Rattle.std.specs.Prelude.{Result, Ok, Err, ◌&&◌, nat_le, slice_index}
+use Rattle.std.proofs.Common.{◌≡◌, ◌∙◌, ◌≢◌, ℕ, zero, suc, ◌-◌, ◌/◌, ◌%◌, ◌≤◌, ◌==◌, Bool, true, false, List, [], ◌∷◌, ◌++◌, length, get_or, refl, sym, ap, subst, arith, ne_eqb}
+use Rattle.std.specs.Prelude.{Result, Ok, ◌&&◌, nat_le, slice_index}
 use Rattle.std.specs.Bool.{MatchBool}
 use Rattle.std.specs.Global.{Vec}
 use Rattle.std.specs.List.{flat_map}
@@ -12,7 +12,8 @@ use Rattle.dns_value_text.specs.Octets.{IsBase64}
 use Rattle.dns_value_text.specs.Reading.{ReadsOctets}
 use Rattle.dns_value_text.specs.Strings.{SpellsString, is_quoted, unquoted}
 use Rattle.dns_fields_read.specs.Addresses.{IsIpv6Word}
-use Rattle.dns_fields_read.specs.ParameterValues.{AppendsOctets, AreHints, AreJoined, AreMandatory, AreProtocols, IsAlpn, IsEch, IsHint, IsListedKey, IsNamedValue, IsNothing, IsPort, comma_texts, two_octets}
+use Rattle.dns_fields_read.specs.ParameterValues.{AreHints, AreJoined, AreMandatory, AreProtocols, IsAlpn, IsEch, IsHint, IsListedKey, IsNamedValue, IsNothing, IsPort, comma_texts, two_octets}
+use Rattle.dns_fields_read.specs.Reading.{AppendsOctets}
 use Rattle.dns_fields_read.specs.Laws.{RepresentsOne}
 use Rattle.dns_fields_read.proofs.AnyOrderLemmas.{one_order}
 use Rattle.dns_fields_read.proofs.KeyLemmas.{one_key}
@@ -132,11 +133,6 @@ no_ipv6_hint key text bytes other same none octets is =
     (subst (λ (b : Bool). MatchBool b (IsDotted text octets) (IsIpv6Word text octets)) (ne_eqb key 4 other) is))
 
 -- the octets that are appended
-pub appended : (Is : List ℕ → Type 0) (more old new : List ℕ) (r : Result Unit TextError) → Is more → AppendsOctets (λ added. added ≡ more) old new r → AppendsOctets Is old new r
-appended Is more old new (Ok u) is (octets, same, e) = (octets, subst Is (sym same) is, e)
-appended Is more old new (Err e) is (inl memory) = inl memory
-appended Is more old new (Err e) is (inr bad) = absurd (bad.1 more refl)
-
 pub all_appended : (Is : List ℕ → Type 0) (old new : List ℕ) (u : Unit {0}) → old ≡ [] → AppendsOctets Is old new (Ok u) → Is new
 all_appended Is old new u empty (octets, is, e) = subst Is (sym (e ∙ ap (λ (xs : List ℕ). xs ++ octets) empty)) is
 

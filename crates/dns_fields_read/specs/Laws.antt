@@ -6,7 +6,6 @@ use Rattle.std.specs.Net.Grammar.{IsDotted}
 use Rattle.std.specs.Net.Text.{ipv4_text, ipv6_text}
 use Rattle.hex.specs.Hex.{IsBytes}
 use Rattle.dns_name.specs.Names.{Labels, IsName}
-use Rattle.dns_name.specs.NameTexts.{SpellsName}
 use Rattle.dns_value_text.specs.Addresses.{eui_text, locator_text}
 use Rattle.dns_value_text.specs.Base32.{base32_text}
 use Rattle.dns_value_text.specs.LocationItems.{LocationItem, location_of, location_text}
@@ -32,6 +31,7 @@ use Rattle.dns_fields_read.specs.GatewayWords.{IsGateway, IsRelay}
 use Rattle.dns_fields_read.specs.IdentityWords.{IsHostIdentity}
 use Rattle.dns_fields_read.specs.LocationWords.{IsLocation}
 use Rattle.dns_fields_read.specs.LocatorWords.{IsLocatorWord}
+use Rattle.dns_fields_read.specs.NameWords.{IsNameText}
 use Rattle.dns_fields_read.specs.PrefixWords.{ArePrefixWords, IsPrefixWord}
 use Rattle.dns_fields_read.specs.PrintedWords.{AreWords}
 use Rattle.dns_fields_read.specs.ParameterWords.{IsParameterWord}
@@ -55,7 +55,7 @@ Ipv6ReadsBack = (octets : List ℕ) → length octets ≡ 16 → IsBytes octets 
 
 -- names
 abbrev pub NamesReadBack : Type 0
-NamesReadBack = (name : Labels) → IsName name → All (λ label. All (λ octet. octet < 256) label) name → SpellsName (zone_name_text name) name
+NamesReadBack = (name : Labels) → IsName name → All (λ label. All (λ octet. octet < 256) label) name → IsNameText (zone_name_text name) name
 
 -- character strings in quotes
 abbrev pub StringsReadBack : Type 0

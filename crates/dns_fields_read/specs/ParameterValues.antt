@@ -1,5 +1,5 @@
 -- Values of service parameters with a named key. RFC 9460 sections 7 and 8; ech: RFC 9848 section 3; dohpath: RFC 9461 section 5; ohttp: RFC 9540 section 4.
-use Rattle.std.specs.Prelude.{◌≡◌, ◌⊎◌, ℕ, ◌/◌, ◌%◌, ◌^◌, ◌<◌, ◌==◌, ◌||◌, if◌then◌else◌, List, [], ◌∷◌, ◌++◌, map, length, Result, MatchResult}
+use Rattle.std.specs.Prelude.{◌≡◌, ℕ, ◌/◌, ◌%◌, ◌^◌, ◌<◌, ◌==◌, ◌||◌, if◌then◌else◌, List, [], ◌∷◌, ◌++◌, map, length}
 use Rattle.std.specs.Bool.{MatchBool}
 use Rattle.std.specs.List.{AllByRecursion, flat_map}
 use Rattle.std.specs.Net.Grammar.{IsDotted, IsNumber}
@@ -7,8 +7,6 @@ use Rattle.dns_fields_text.specs.Separated.{comma_text}
 use Rattle.dns_value_text.specs.Octets.{IsBase64}
 use Rattle.dns_value_text.specs.String.{backslash}
 use Rattle.dns_value_text.specs.Strings.{SpellsString, unquoted}
-use Rattle.dns_value_text.specs.declared.text_error.TextError.{TextError}
-use Rattle.dns_value_text.specs.declared.text_error.TextError.TheVariants.{BadWord, OutOfMemory}
 use Rattle.dns_fields_read.specs.Addresses.{IsIpv6Word}
 use Rattle.dns_fields_read.specs.AnyOrder.{AreIncreasing, InAnyOrder}
 use Rattle.dns_fields_read.specs.ParameterKeys.{IsKey}
@@ -94,9 +92,3 @@ IsNamedValue key text value =
     MatchBool (key == 5) (IsEch (unquoted text) value) (
     MatchBool (key == 6) (AreHints 6 (unquoted text) value) (
     MatchBool (key == 7) (SpellsString text value) (IsNothing text value)))))))
-
--- octets are appended, or there are none such, or an allocation fails
-abbrev pub AppendsOctets : (List ℕ → Type 0) → List ℕ → List ℕ → Result Unit TextError → Type 0
-AppendsOctets Is old new result =
-    MatchResult result (λ _. (octets : List ℕ) × Is octets × (new ≡ old ++ octets))
-    (λ error. (error ≡ OutOfMemory) ⊎ ((error ≡ BadWord) × ((octets : List ℕ) → ¬ (Is octets))))

@@ -1,4 +1,4 @@
--- Words that represent type bit maps. RFC 4034 section 4.1.2, RFC 2535 section 5.2.
+-- Words that represent type bit maps. The words: RFC 4034 section 4.2, RFC 2535 section 7.3. The bit maps: RFC 4034 section 4.1.2, RFC 2535 section 5.2.
 use Rattle.std.specs.Prelude.{◌≡◌, ◌⊎◌, ◌↔◌, ℕ, ◌^◌, ◌<◌, ◌==◌, Bool, true, List, [], ◌∷◌}
 use Rattle.std.specs.Borrow.{Bor}
 use Rattle.std.specs.List.{list_any}
@@ -29,7 +29,7 @@ pub record IsTypeMap (words : List (Bor (List ℕ))) (octets : List ℕ) : Type 
   pub blocks : is_type_map octets ≡ true
   pub bits : (n : ℕ) → n < 2 ^ 16 → has (map_types octets) n ≡ true ↔ HasType words n
 
--- each of the words represents a type, and the octets are the bit map of these types, which are from 1 to 127: a bit is set exactly if a word represents its type. RFC 2535 section 5.2
+-- each of the words represents a type, and the octets are the bit map of these types, which are from 1 to 127: a bit is set exactly if a word represents its type. RFC 2535 section 7.3
 pub record IsSmallTypeMap (words : List (Bor (List ℕ))) (octets : List ℕ) : Type 0 where
   pub types : AreTypes words
   pub bytes : IsBytes octets

@@ -1,5 +1,6 @@
 //! Appending octets to those of a value.
 ghost use Rattle.std.specs.Prelude.{◌≡◌, ◌++◌, IfErr, OnOk};
+ghost use Rattle.dns_fields_read.specs.Base32Words.{last_octets};
 ghost use Rattle.dns_fields_read.specs.NameWords.{IsNameWord};
 ghost use Rattle.dns_fields_read.specs.Reading.{AppendsOctets};
 ghost use Rattle.dns_value_text.specs.declared.text_error.TextError.TheVariants.{OutOfMemory};
@@ -7,8 +8,8 @@ ghost use Rattle.dns_value_text.specs.declared.text_error.TextError.TheVariants.
 use crate::name::read_name;
 use dns_value_text::TextError;
 
-/// Appends octets.
-pub(crate) fn push_octets(octets: &mut Vec<u8>, more: &[u8]) -> Result<(), TextError>
+/// Appends octets. Fails only if an allocation fails.
+pub fn push_octets(octets: &mut Vec<u8>, more: &[u8]) -> Result<(), TextError>
     ensures ok { OnOk result (octets.new.items ≡ octets.old.items ++ more.now) }
     ensures err { IfErr result (λ error. error ≡ OutOfMemory) }
 {
@@ -16,6 +17,21 @@ pub(crate) fn push_octets(octets: &mut Vec<u8>, more: &[u8]) -> Result<(), TextE
         Ok(()) => Ok(()),
         Err(_) => Err(TextError::OutOfMemory),
     }
+}
+
+/// Appends the last `size` octets of a number, big-endian. Fails only if an allocation fails.
+pub fn push_last(octets: &mut Vec<u8>, size: u8, number: u64) -> Result<(), TextError>
+    ensures ok { OnOk result (octets.new.items ≡ octets.old.items ++ last_octets size number) }
+    ensures err { IfErr result (λ error. error ≡ OutOfMemory) }
+{
+    if size == 0 {
+        return Ok(());
+    }
+    push_last(octets, size - 1, number / 256)?;
+    if octets.push((number % 256) as u8).is_err() {
+        return Err(TextError::OutOfMemory);
+    }
+    Ok(())
 }
 
 /// Appends the uncompressed octets of the name that a word represents.

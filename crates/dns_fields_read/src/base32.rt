@@ -1,13 +1,13 @@
 //! Octets in base32 with the extended hexadecimal alphabet and without padding (RFC 4648 section 7,
 //! RFC 5155 section 3.3).
-ghost use Rattle.std.specs.Prelude.{ℕ, ◌≡◌, ◌<◌, ◌≤◌, ◌++◌, length, true, MatchOption, IfErr, OnOk};
+ghost use Rattle.std.specs.Prelude.{ℕ, ◌≡◌, ◌<◌, ◌≤◌, length, true, MatchOption};
 ghost use Rattle.std.specs.Char.{to_ascii_uppercase};
 ghost use Rattle.std.specs.Fmt.{digit_glyph};
 ghost use Rattle.dns_value_text.specs.Reading.{ReadsOctets};
-ghost use Rattle.dns_value_text.specs.declared.text_error.TextError.TheVariants.{OutOfMemory};
-ghost use Rattle.dns_fields_read.specs.Base32Words.{AppendsBase32, IsBase32, IsDigits, IsGroupSize, last_octets};
+ghost use Rattle.dns_fields_read.specs.Base32Words.{AppendsBase32, IsBase32, IsDigits, IsGroupSize};
 ghost use Rattle.dns_fields_read.specs.Reading.{Reads};
 
+use crate::append::push_last;
 use dns_value_text::TextError;
 use std::alloc::Global;
 
@@ -38,21 +38,6 @@ fn read_digits(digits: &[u8]) -> Option<u64>
         number = number * 32 + value;
     }
     Some(number)
-}
-
-/// Appends the last `size` octets of a number, big-endian.
-fn push_last(octets: &mut Vec<u8>, size: u8, number: u64) -> Result<(), TextError>
-    ensures ok { OnOk result (octets.new.items ≡ octets.old.items ++ last_octets size number) }
-    ensures err { IfErr result (λ error. error ≡ OutOfMemory) }
-{
-    if size == 0 {
-        return Ok(());
-    }
-    push_last(octets, size - 1, number / 256)?;
-    if octets.push((number % 256) as u8).is_err() {
-        return Err(TextError::OutOfMemory);
-    }
-    Ok(())
 }
 
 /// The number of octets that this number of digits represents, and one more than the greatest

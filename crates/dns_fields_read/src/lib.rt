@@ -27,6 +27,7 @@ mod type_map;
 mod type_name;
 
 pub use address::{read_ipv4, read_ipv6};
+pub use append::{push_last, push_octets};
 pub use eui::{read_eui48, read_eui64};
 pub use gateway::{read_gateway, read_relay};
 pub use host_identity::read_host_identity;

@@ -1,11 +1,13 @@
 //! Values of service parameters with a named key (RFC 9460 section 7, RFC 9848 section 3, RFC 9461
 //! section 5, RFC 9540 section 4).
 ghost use Rattle.std.specs.Prelude.{◌≡◌};
-ghost use Rattle.dns_fields_read.specs.ParameterValues.{AppendsOctets, AreHints, AreJoined, IsEch, IsHint, IsNamedValue, IsNothing, IsPort, comma_texts};
+ghost use Rattle.dns_fields_read.specs.ParameterValues.{AreHints, AreJoined, IsEch, IsHint, IsNamedValue, IsNothing, IsPort, comma_texts};
+ghost use Rattle.dns_fields_read.specs.Reading.{AppendsOctets};
 ghost use Rattle.dns_value_text.specs.Reading.{ReadsOctets};
 ghost use Rattle.dns_value_text.specs.Strings.{unquoted};
 
 use crate::address::{read_ipv4, read_ipv6};
+use crate::append::push_octets;
 use crate::mandatory::read_mandatory;
 use crate::protocols::read_alpn;
 use dns_value_text::{TextError, read_base64, read_number, read_string};
@@ -67,16 +69,6 @@ fn read_ech(alloc: Global, text: &str) -> Result<Vec<u8>, TextError>
         }
         Err(error) => Err(error),
     }
-}
-
-/// Appends octets.
-fn push_octets(octets: &mut Vec<u8>, more: &[u8]) -> Result<(), TextError>
-    ensures { AppendsOctets (λ added. added ≡ more.now) octets.old.items octets.new.items result }
-{
-    if octets.extend_from_slice(more).is_err() {
-        return Err(TextError::OutOfMemory);
-    }
-    Ok(())
 }
 
 /// Appends the octets of an address.

@@ -1,7 +1,8 @@
 //! Values of the service parameter `alpn` (RFC 9460 section 7.1 and appendix A.1).
 ghost use Rattle.std.specs.Prelude.{◌≡◌, MatchOption};
-ghost use Rattle.dns_fields_read.specs.ParameterValues.{AppendsOctets, AreProtocols, IsAlpn};
+ghost use Rattle.dns_fields_read.specs.ParameterValues.{AreProtocols, IsAlpn};
 ghost use Rattle.dns_fields_read.specs.ProtocolNames.{IsCountedName, NamesFrom, octet_at};
+ghost use Rattle.dns_fields_read.specs.Reading.{AppendsOctets};
 ghost use Rattle.dns_value_text.specs.Reading.{ReadsOctets};
 
 use dns_value_text::{TextError, read_string};

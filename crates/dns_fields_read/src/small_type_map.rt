@@ -1,4 +1,4 @@
-//! Type bit maps of types up to 127 (RFC 2535 section 5.2).
+//! Type bit maps of types up to 127 (RFC 2535 section 7.3).
 ghost use Rattle.std.specs.Prelude.{◌≡◌};
 ghost use Rattle.std.specs.List.{list_all};
 ghost use Rattle.dns_fields_read.specs.TypeBits.{IsSmallMap, have_small_map, is_small_type};

@@ -1,4 +1,4 @@
-//! Type bit maps (RFC 4034 section 4.1.2).
+//! Type bit maps (RFC 4034 section 4.2).
 ghost use Rattle.std.specs.Prelude.{◌≡◌, ◌==◌, ◌≤◌, ◌+◌, ◌*◌, ◌/◌, ◌++◌, length};
 ghost use Rattle.std.specs.List.{list_any};
 ghost use Rattle.dns_fields_read.specs.TypeBits.{AppendsBlock, AppendsBlocks, AppendsTypes, octet_bits, octets_bits};

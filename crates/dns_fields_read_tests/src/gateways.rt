@@ -2,6 +2,7 @@
 use dns_fields_read::{
     read_base64_words, read_gateway, read_hex_words, read_host_identity, read_relay, read_sized,
 };
+use dns_value_text::TextError;
 use std::test::Fail;
 
 /// The gateways of RFC 4025 section 3.2, after their precedence. Their keys are the same.
@@ -67,7 +68,10 @@ const NOT_GATEWAYS: &[&[&str]] = &[
 #[test]
 fn words_of_no_gateway(rt: HostRuntime) -> Result<(), Fail> {
     for words in NOT_GATEWAYS {
-        assert!(rt; read_gateway(rt.alloc(), words).is_err());
+        assert_eq!(rt;
+            read_gateway(rt.alloc(), words).err(),
+            Some(TextError::BadWord)
+        );
     }
     Ok(())
 }
@@ -108,7 +112,10 @@ const NOT_RELAYS: &[&[&str]] = &[
 #[test]
 fn words_of_no_relay(rt: HostRuntime) -> Result<(), Fail> {
     for words in NOT_RELAYS {
-        assert!(rt; read_relay(rt.alloc(), words).is_err());
+        assert_eq!(rt;
+            read_relay(rt.alloc(), words).err(),
+            Some(TextError::BadWord)
+        );
     }
     Ok(())
 }
@@ -157,7 +164,10 @@ const NOT_IDENTITIES: &[&[&str]] = &[
 #[test]
 fn words_of_no_identity(rt: HostRuntime) -> Result<(), Fail> {
     for words in NOT_IDENTITIES {
-        assert!(rt; read_host_identity(rt.alloc(), words).is_err());
+        assert_eq!(rt;
+            read_host_identity(rt.alloc(), words).err(),
+            Some(TextError::BadWord)
+        );
     }
     Ok(())
 }
@@ -189,7 +199,10 @@ const NOT_SIZED: &[&[&str]] = &[
 #[test]
 fn words_of_other_numbers(rt: HostRuntime) -> Result<(), Fail> {
     for words in NOT_SIZED {
-        assert!(rt; read_sized(rt.alloc(), words).is_err());
+        assert_eq!(rt;
+            read_sized(rt.alloc(), words).err(),
+            Some(TextError::BadWord)
+        );
     }
     Ok(())
 }
@@ -205,6 +218,9 @@ fn split_digits(rt: HostRuntime) -> Result<(), Fail> {
         panic!(rt; "no octets");
     };
     assert_eq!(rt; read.as_slice(), b"foo".as_slice());
-    assert!(rt; read_base64_words(rt.alloc(), &["Zm9", "vYm"]).is_err());
+    assert_eq!(rt;
+        read_base64_words(rt.alloc(), &["Zm9", "vYm"]).err(),
+        Some(TextError::BadWord)
+    );
     Ok(())
 }

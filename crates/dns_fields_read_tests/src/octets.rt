@@ -1,5 +1,6 @@
 //! Words of octets.
 use dns_fields_read::{read_hash, read_prefixes, read_salt, read_small_type_map, read_type_map};
+use dns_value_text::TextError;
 use std::test::Fail;
 
 /// The test vectors of RFC 4648 section 10 for base32 with the extended hexadecimal alphabet, without
@@ -25,7 +26,7 @@ fn hashes(rt: HostRuntime) -> Result<(), Fail> {
         assert_eq!(rt; read.as_slice(), *octets);
     }
     for word in NOT_BASE32 {
-        assert!(rt; read_hash(rt.alloc(), word).is_err());
+        assert_eq!(rt; read_hash(rt.alloc(), word).err(), Some(TextError::BadWord));
     }
     Ok(())
 }
@@ -40,8 +41,8 @@ fn salts(rt: HostRuntime) -> Result<(), Fail> {
         panic!(rt; "no salt");
     };
     assert_eq!(rt; empty.as_slice(), b"".as_slice());
-    assert!(rt; read_salt(rt.alloc(), "-a").is_err());
-    assert!(rt; read_salt(rt.alloc(), "").is_err());
+    assert_eq!(rt; read_salt(rt.alloc(), "-a").err(), Some(TextError::BadWord));
+    assert_eq!(rt; read_salt(rt.alloc(), "").err(), Some(TextError::BadWord));
     Ok(())
 }
 
@@ -77,7 +78,10 @@ const NOT_PREFIXES: &[&str] = &[
 #[test]
 fn words_of_no_prefix(rt: HostRuntime) -> Result<(), Fail> {
     for word in NOT_PREFIXES {
-        assert!(rt; read_prefixes(rt.alloc(), &[*word]).is_err());
+        assert_eq!(rt;
+            read_prefixes(rt.alloc(), &[*word]).err(),
+            Some(TextError::BadWord)
+        );
     }
     Ok(())
 }
@@ -93,10 +97,13 @@ fn type_maps(rt: HostRuntime) {
         map.as_slice(),
         b"\x00\x06\x40\x01\x00\x00\x00\x03\x04\x1b\x00\x00\x00\x00\x00\x00\x00\x00\x00\x00\x00\x00\x00\x00\x00\x00\x00\x00\x00\x00\x00\x00\x00\x00\x00\x00\x20".as_slice()
     );
-    assert!(rt; read_type_map(rt.alloc(), &["A", "TYPE65536"]).is_err());
+    assert_eq!(rt;
+        read_type_map(rt.alloc(), &["A", "TYPE65536"]).err(),
+        Some(TextError::BadWord)
+    );
 }
 
-/// The types of RFC 2535 section 5.3, in another order.
+/// The types of RFC 2535 section 5.4, in another order.
 #[test]
 fn small_type_maps(rt: HostRuntime) {
     let Ok(map) = read_small_type_map(rt.alloc(), &["NXT", "a", "SIG", "MX"]) else {
@@ -112,8 +119,20 @@ fn small_type_maps(rt: HostRuntime) {
 /// No types, the first type and the first one after those of the map, and no mnemonic.
 #[test]
 fn types_of_no_small_map(rt: HostRuntime) {
-    assert!(rt; read_small_type_map(rt.alloc(), &[]).is_err());
-    assert!(rt; read_small_type_map(rt.alloc(), &["A", "TYPE0"]).is_err());
-    assert!(rt; read_small_type_map(rt.alloc(), &["A", "TYPE128"]).is_err());
-    assert!(rt; read_small_type_map(rt.alloc(), &["A", "NOTYPE"]).is_err());
+    assert_eq!(rt;
+        read_small_type_map(rt.alloc(), &[]).err(),
+        Some(TextError::BadWord)
+    );
+    assert_eq!(rt;
+        read_small_type_map(rt.alloc(), &["A", "TYPE0"]).err(),
+        Some(TextError::BadWord)
+    );
+    assert_eq!(rt;
+        read_small_type_map(rt.alloc(), &["A", "TYPE128"]).err(),
+        Some(TextError::BadWord)
+    );
+    assert_eq!(rt;
+        read_small_type_map(rt.alloc(), &["A", "NOTYPE"]).err(),
+        Some(TextError::BadWord)
+    );
 }

@@ -1,5 +1,6 @@
 //! Words of service parameters.
 use dns_fields_read::read_parameters;
+use dns_value_text::TextError;
 use std::test::Fail;
 
 /// The parameters of RFC 9460 appendix D.2.
@@ -64,7 +65,10 @@ const NOT_PARAMETERS: &[&[&str]] = &[
 #[test]
 fn words_of_no_parameters(rt: HostRuntime) -> Result<(), Fail> {
     for words in NOT_PARAMETERS {
-        assert!(rt; read_parameters(rt.alloc(), words).is_err());
+        assert_eq!(rt;
+            read_parameters(rt.alloc(), words).err(),
+            Some(TextError::BadWord)
+        );
     }
     Ok(())
 }
@@ -111,7 +115,11 @@ const MALFORMED: &[&str] = &[
 #[test]
 fn malformed_parameters(rt: HostRuntime) -> Result<(), Fail> {
     for word in MALFORMED {
-        assert!(rt; read_parameters(rt.alloc(), &[*word]).is_err(), "{word}");
+        assert_eq!(rt;
+            read_parameters(rt.alloc(), &[*word]).err(),
+            Some(TextError::BadWord),
+            "{word}"
+        );
     }
     Ok(())
 }

@@ -116,4 +116,8 @@ fn names(rt: HostRuntime) {
         b"\x0eAction.domains\x03ISI\x03EDU\x00".as_slice()
     );
     assert!(rt; read_name("ISI..EDU.").is_none());
+    assert!(rt; read_name("@").is_none());
+    assert!(rt; read_name("\\@").is_some());
+    assert!(rt; read_name("\"ISI.EDU.\"").is_none());
+    assert!(rt; read_name("\\\"ISI.EDU.").is_some());
 }

@@ -25,23 +25,22 @@ use Rattle.dns_fields.specs.declared.shape.Shape.TheVariants.{Octets, Counted, S
 use Rattle.dns_fields_text.specs.DataTexts.{data_fields, data_line, data_text}
 use Rattle.dns_fields_text.specs.FieldTexts.{fields_octets, fields_text}
 use Rattle.dns_fields_text.specs.Laws.{FieldsAreAll}
-use Rattle.dns_line_words.specs.FieldLaws.{AreFields, IsPartOf}
+use Rattle.dns_line_words.specs.FieldLaws.{AreFields, AreWordsOfData, IsPartOf, opaque_words}
 use Rattle.dns_line_words.specs.LineWords.{AreWordsOf}
 use Rattle.dns_line_words.proofs.FieldWords.{fields_split}
 use Rattle.dns_line_words.proofs.ListTexts.{opaque_split}
 use Rattle.dns_line_words.proofs.SpacedTexts.{words_are}
 
--- a text of words
-abbrev HasWords : List ℕ → Type 0
-HasWords text = (words : List (List ℕ)) × AreWordsOf text words
+-- a text of the words of fields, or of data of an unknown type
+abbrev HasWords : List NamedPart → List ℕ → Type 0
+HasWords fields text = (words : List (List ℕ)) × AreWordsOfData fields words × AreWordsOf text words
 
--- fields, or data of an unknown type
 text_split : (fields : List NamedPart) → AreFields fields → IsBytes (fields_octets fields) → length (fields_octets fields) < 2 ^ 64 → (o : Option (List ℕ)) → fields_text [] fields ≡ o
-    → HasWords (unwrap_or o (opaque_text (fields_octets fields)))
-text_split fields are bytes small None e = (_, words_are _ _ (opaque_split (fields_octets fields) bytes small))
-text_split fields are bytes small (Some text) e = fields_split fields text are e
+    → HasWords fields (unwrap_or o (opaque_text (fields_octets fields)))
+text_split fields are bytes small None e = (opaque_words (fields_octets fields), inr (e, refl), words_are _ _ (opaque_split (fields_octets fields) bytes small))
+text_split fields are bytes small (Some text) e = let h = fields_split fields text are e in (h.0, inl h.1, h.2)
 
-pub data_split : (fields : List NamedPart) → AreFields fields → IsBytes (fields_octets fields) → length (fields_octets fields) < 2 ^ 64 → HasWords (data_text fields)
+data_split : (fields : List NamedPart) → AreFields fields → IsBytes (fields_octets fields) → length (fields_octets fields) < 2 ^ 64 → HasWords fields (data_text fields)
 data_split fields are bytes small = text_split fields are bytes small (fields_text [] fields) refl
 
 -- the octets of parts
@@ -128,7 +127,7 @@ are_fields (d ∷ ds) parts h names bytes small =
     subst (λ (ps : List Part). AreFields (named_parts (d ∷ ds) ps)) (sym first.2)
     (All-cons IsField (record { name = d.0; kind = d.1; part = first.0 }) (named_parts ds first.1) first.3 later)
 
-pub line_split : FieldsAreAll → (d : FieldData) → IsBytes (fields_octets (data_fields d)) → HasWords (data_line d)
+pub line_split : FieldsAreAll → (d : FieldData) → IsBytes (fields_octets (data_fields d)) → HasWords (data_fields d) (data_line d)
 line_split all d bytes =
     let laid = any_laid_out d in
     let there = data_is_there _ _ _ d.encoded in

@@ -35,7 +35,7 @@ use Rattle.dns_fields_text.specs.Parameters.{parameter_word}
 use Rattle.dns_fields_text.specs.TypeMaps.{Block, bit_types, block_at, is_small_map, map_types, octet_types, types_text}
 use Rattle.dns_fields_text.specs.TypeNames.{type_word}
 use Rattle.dns_fields_text.specs.ZoneNames.{zone_name_text}
-use Rattle.dns_line_words.specs.FieldLaws.{AreFields, IsPartOf}
+use Rattle.dns_line_words.specs.FieldLaws.{AreFields, AreWordsOfFields, IsPartOf}
 use Rattle.dns_line_words.specs.LineWords.{AreWordsOf, EndsWord, IsWord}
 use Rattle.dns_line_words.specs.LocationLaws.{FitsLocation}
 use Rattle.dns_line_words.proofs.GatewayTexts.{gateways_split, identities_split, relays_split}
@@ -262,32 +262,49 @@ field_joined first None others text e = absurd (cc e)
 field_joined first (Some own) None text e = absurd (cc e)
 field_joined first (Some own) (Some left) text e = (own, left, refl, refl, some_same (first ++ own ++ left) text e)
 
-others_after : (opens : Bool) (own left : List ℕ) → HasText opens own → HasText true left → HasText true ((if opens then [] else codes " ") ++ own ++ left)
-others_after true own left h g = (h.0 ++ g.0, spaced_append own left h.0 g.0 h.1 g.2 g.1, ends_append own left h.2 g.2)
-others_after false own left h g = (h.0 ++ g.0, space (spaced_append own left h.0 g.0 h.1 g.2 g.1), refl)
+-- a field after a space, if it needs one, and the others
+others_after : (opens : Bool) (own left : List ℕ) (words others : List (List ℕ)) → AreSpaced own words → Opens opens own → AreSpaced left others → EndsWord left
+    → AreSpaced ((if opens then [] else codes " ") ++ own ++ left) (words ++ others) × EndsWord ((if opens then [] else codes " ") ++ own ++ left)
+others_after true own left words others h at g ends = (spaced_append own left words others h ends g, ends_append own left at ends)
+others_after false own left words others h at g ends = (space (spaced_append own left words others h ends g), refl)
 
-first_before : (opens : Bool) (own left : List ℕ) → HasText opens own → HasText true left → HasText false ((if opens then [] else []) ++ own ++ left)
-first_before true own left h g = (h.0 ++ g.0, spaced_append own left h.0 g.0 h.1 g.2 g.1, tt)
-first_before false own left h g = (h.0 ++ g.0, spaced_append own left h.0 g.0 h.1 g.2 g.1, tt)
+-- the first field and the others
+first_before : (opens : Bool) (own left : List ℕ) (words others : List (List ℕ)) → AreSpaced own words → AreSpaced left others → EndsWord left
+    → AreSpaced ((if opens then [] else []) ++ own ++ left) (words ++ others)
+first_before true own left words others h g ends = spaced_append own left words others h ends g
+first_before false own left words others h g ends = spaced_append own left words others h ends g
 
 abbrev IsField : NamedPart → Type 0
 IsField field = IsPartOf (shape_of field.kind) field.part
 
-others_have : (fields : List NamedPart) (text : List ℕ) → AreFields fields → fields_text (codes " ") fields ≡ Some text → HasText true text
-others_have [] text all e = some_text true [] text ([], no_words, tt) e
+-- a text of the words of fields
+abbrev HasFields : Bool → List NamedPart → List ℕ → Type 0
+HasFields opens fields text = (words : List (List ℕ)) × AreSpaced text words × Opens opens text × AreWordsOfFields fields words
+
+no_fields : (opens : Bool) (text : List ℕ) → Opens opens [] → Some [] ≡ Some text → HasFields opens [] text
+no_fields opens text at e =
+    let none : List ℕ = [] in subst (λ (xs : List ℕ). HasFields opens [] xs) (some_same none text e) ([], no_words, at, refl)
+
+others_have : (fields : List NamedPart) (text : List ℕ) → AreFields fields → fields_text (codes " ") fields ≡ Some text → HasFields true fields text
+others_have [] text all e = no_fields true text tt e
 others_have (field ∷ fields) text all e =
     let parts = field_joined (space_before field.kind (codes " ")) (value_text field.kind (part_value field.kind field.part)) (fields_text (codes " ") fields) text e in
     let own = part_has field.kind field.part parts.0 (All-head IsField field fields all) parts.2 in
     let left = others_have fields parts.1 (All-tail IsField field fields all) parts.3 in
-    subst (λ (xs : List ℕ). HasText true xs) parts.4 (others_after (begins_with_space field.kind) parts.0 parts.1 own left)
+    let both = others_after (begins_with_space field.kind) parts.0 parts.1 own.0 left.0 own.1 own.2 left.1 left.2 in
+    let words : AreWordsOfFields (field ∷ fields) (own.0 ++ left.0) = (own.0, left.0, refl, (parts.0, parts.2, words_are parts.0 own.0 own.1), left.3) in
+    subst (λ (xs : List ℕ). HasFields true (field ∷ fields) xs) parts.4 (own.0 ++ left.0, both.0, both.1, words)
 
-fields_have : (fields : List NamedPart) (text : List ℕ) → AreFields fields → fields_text [] fields ≡ Some text → HasText false text
-fields_have [] text all e = some_text false [] text ([], no_words, tt) e
+fields_have : (fields : List NamedPart) (text : List ℕ) → AreFields fields → fields_text [] fields ≡ Some text → HasFields false fields text
+fields_have [] text all e = no_fields false text tt e
 fields_have (field ∷ fields) text all e =
     let parts = field_joined (space_before field.kind []) (value_text field.kind (part_value field.kind field.part)) (fields_text (codes " ") fields) text e in
     let own = part_has field.kind field.part parts.0 (All-head IsField field fields all) parts.2 in
     let left = others_have fields parts.1 (All-tail IsField field fields all) parts.3 in
-    subst (λ (xs : List ℕ). HasText false xs) parts.4 (first_before (begins_with_space field.kind) parts.0 parts.1 own left)
+    let both = first_before (begins_with_space field.kind) parts.0 parts.1 own.0 left.0 own.1 left.1 left.2 in
+    let words : AreWordsOfFields (field ∷ fields) (own.0 ++ left.0) = (own.0, left.0, refl, (parts.0, parts.2, words_are parts.0 own.0 own.1), left.3) in
+    subst (λ (xs : List ℕ). HasFields false (field ∷ fields) xs) parts.4 (own.0 ++ left.0, both, tt, words)
 
-pub fields_split : (fields : List NamedPart) (text : List ℕ) → AreFields fields → fields_text [] fields ≡ Some text → (words : List (List ℕ)) × AreWordsOf text words
-fields_split fields text all e = let h = fields_have fields text all e in (h.0, words_are text h.0 h.1)
+pub fields_split : (fields : List NamedPart) (text : List ℕ) → AreFields fields → fields_text [] fields ≡ Some text
+    → (words : List (List ℕ)) × AreWordsOfFields fields words × AreWordsOf text words
+fields_split fields text all e = let h = fields_have fields text all e in (h.0, h.3, words_are text h.0 h.1)

@@ -1,17 +1,21 @@
 -- The words of printed fields. RFC 1035 section 5.1.
-use Rattle.std.specs.Prelude.{◌≡◌, ℕ, ◌<◌, ◌^◌, All, Some, List, [], length}
+use Rattle.std.specs.Prelude.{◌≡◌, ◌⊎◌, ℕ, ◌<◌, ◌^◌, All, Some, None, List, [], ◌∷◌, ◌++◌, length, codes, decimal}
+use Rattle.std.specs.List.{flat_map}
 use Rattle.hex.specs.Hex.{IsBytes}
+use Rattle.dns_data.specs.Printing.{hex_octet}
 use Rattle.dns_name.specs.Names.{IsName}
 use Rattle.dns_wire.specs.Parts.{Part}
 use Rattle.dns_wire.specs.Parts.Part.{Octets as OctetsPart, CompressibleName, UncompressedName as UncompressedPart}
 use Rattle.dns_fields.specs.FieldParts.{NamedPart}
 use Rattle.dns_fields.specs.Shapes.{shape_of}
+use Rattle.dns_fields.specs.Values.{part_value}
 use Rattle.dns_fields.specs.declared.shape.Shape.{Shape}
 use Rattle.dns_fields.specs.declared.shape.Shape.TheVariants.{Octets, Counted, Sized, Name, UncompressedName, Rest}
 use Rattle.dns_fields.specs.declared.field_data.FieldData.{FieldData}
 use Rattle.dns_fields_text.specs.DataTexts.{data_fields, data_line}
-use Rattle.dns_fields_text.specs.FieldTexts.{fields_octets, fields_text}
+use Rattle.dns_fields_text.specs.FieldTexts.{fields_octets, fields_text, value_text}
 use Rattle.dns_line_words.specs.LineWords.{AreWordsOf}
+use Rattle.dns_line_words.specs.ListLaws.{word_of_any}
 
 -- the part is one of a field of this shape
 abbrev pub IsPartOf : Shape → Part → Type 0
@@ -27,10 +31,32 @@ IsPartOf shape part = ⊥
 abbrev pub AreFields : List NamedPart → Type 0
 AreFields fields = All (λ field. IsPartOf (shape_of field.kind) field.part) fields
 
--- the text of fields that have a presentation format has words
-abbrev pub FieldsSplit : Type 0
-FieldsSplit = (fields : List NamedPart) (text : List ℕ) → AreFields fields → fields_text [] fields ≡ Some text → (words : List (List ℕ)) × AreWordsOf text words
+-- the words of the text of a field
+abbrev pub AreWordsOfField : NamedPart → List (List ℕ) → Type 0
+AreWordsOfField field words = (text : List ℕ) × (value_text field.kind (part_value field.kind field.part) ≡ Some text) × AreWordsOf text words
 
--- the text of record data has words, whether it is that of its fields or that of an unknown type
+-- the words of each field's text, one field after another
+abbrev pub AreWordsOfFields : List NamedPart → List (List ℕ) → Type 0
+AreWordsOfFields [] words = words ≡ []
+AreWordsOfFields (field ∷ fields) words =
+    (own : List (List ℕ)) × (after : List (List ℕ)) × (words ≡ own ++ after) × AreWordsOfField field own × AreWordsOfFields fields after
+
+-- the words of RDATA of an unknown type. RFC 3597 section 5
+abbrev pub opaque_words : List ℕ → List (List ℕ)
+opaque_words octets = codes "\\#" ∷ decimal (length octets) ∷ word_of_any (flat_map hex_octet) octets
+
+-- the words of RDATA: those of its fields; or those of its octets if a field has no presentation format
+abbrev pub AreWordsOfData : List NamedPart → List (List ℕ) → Type 0
+AreWordsOfData fields words = AreWordsOfFields fields words ⊎ ((fields_text [] fields ≡ None) × (words ≡ opaque_words (fields_octets fields)))
+
+-- the text of fields that have a presentation format has the words of the fields
+abbrev pub FieldsSplit : Type 0
+FieldsSplit =
+    (fields : List NamedPart) (text : List ℕ) → AreFields fields → fields_text [] fields ≡ Some text
+    → (words : List (List ℕ)) × AreWordsOfFields fields words × AreWordsOf text words
+
+-- the text of RDATA has these words
 abbrev pub DataSplits : Type 0
-DataSplits = (fields : FieldData) → IsBytes (fields_octets (data_fields fields)) → (words : List (List ℕ)) × AreWordsOf (data_line fields) words
+DataSplits =
+    (fields : FieldData) → IsBytes (fields_octets (data_fields fields))
+    → (words : List (List ℕ)) × AreWordsOfData (data_fields fields) words × AreWordsOf (data_line fields) words

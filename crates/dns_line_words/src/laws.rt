@@ -46,7 +46,8 @@ pub fn printed_lists_split()
     ensures records { RecordsSplit }
 {}
 
-/// What is printed of fields, or of record data, is words.
+/// What is printed of fields is the words of the fields, and what is printed of RDATA is these, or
+/// those of an unknown type if a field has no presentation format.
 pub fn printed_fields_split()
     ensures fields { FieldsSplit }
     ensures rdata { DataSplits }

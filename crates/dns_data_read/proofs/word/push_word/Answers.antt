@@ -47,11 +47,10 @@ returns-in-Number32 c =
     ]
 
 pub returns-in-CharacterString : goal.returns-in-CharacterString
-returns-in-CharacterString c =
-    elim c.in-CharacterString.is [
-      | inl is ↦ as_kind c.args.kind kinds.CharacterString c.args.word.now c.args.octets.now.items c.push_string.new.octets.items c.push_string.result is c.push_string.ensures
-      | inr is ↦ as_kind c.args.kind kinds.Tag c.args.word.now c.args.octets.now.items c.push_string.new.octets.items c.push_string.result is c.push_string.ensures
-    ]
+returns-in-CharacterString c = as_kind c.args.kind kinds.CharacterString c.args.word.now c.args.octets.now.items c.push_string.new.octets.items c.push_string.result c.in-CharacterString.is c.push_string.ensures
+
+pub returns-in-Tag : goal.returns-in-Tag
+returns-in-Tag c = as_kind c.args.kind kinds.Tag c.args.word.now c.args.octets.now.items c.push_tag.new.octets.items c.push_tag.result c.in-Tag.is c.push_tag.ensures
 
 pub returns-in-CompressibleName : goal.returns-in-CompressibleName
 returns-in-CompressibleName c =

@@ -1,7 +1,7 @@
 use Rattle.std.proofs.Common.{◌≡◌, ◌++◌, ◌∷◌, [], List, ℕ, ◌-◌, take, drop, length, refl, subst, inr, arith}
 use Rattle.std.specs.Prelude.{Err, Ok}
 use Rattle.std.proofs.lemmas.Grind.{common_steps}
-use Rattle.dns_fields_read.specs.ParameterValues.{AppendsOctets}
+use Rattle.dns_fields_read.specs.Reading.{AppendsOctets}
 use Rattle.dns_fields_read.specs.ProtocolNames.{IsCountedName, NamesFrom}
 use Rattle.dns_fields_read.proofs.ParameterLemmas.{front_with, no_items}
 use Rattle.dns_fields_read.proofs.ProtocolLemmas.{at_bad_comma, at_comma, at_end, at_octet, no_octet}

@@ -1,16 +1,16 @@
 use Rattle.std.proofs.Common.{◌≡◌, ◌∙◌, ◌-◌, ◌/◌, ◌%◌, ◌<◌, [], ◌∷◌, ◌++◌, ℕ, List, sym, ap, append-nil, append_assoc, arith}
 use Rattle.std.proofs.lemmas.Grind.{common_steps}
 use Rattle.dns_fields_read.specs.Base32Words.{last_octets}
-use Rattle.dns_data_read.proofs.AppendLemmas.{last_more, last_none}
-use Rattle.dns_data_read.proofs.append.+push_last.Goals as goal
+use Rattle.dns_fields_read.proofs.Base32Lemmas.{last_more, last_none}
+use Rattle.dns_fields_read.proofs.append.+push_last.Goals as goal
 
 pub returns-then-size-eq0-clause-ok : goal.returns-then-size-eq0-clause-ok
 returns-then-size-eq0-clause-ok t c =
     let none : last_octets c.args.size c.args.number ≡ [] = ap (λ k. last_octets k c.args.number) c.if-size-eq0.true ∙ last_none c.args.number in
     sym (append-nil c.args.octets.now.items) ∙ ap (λ (xs : List ℕ). c.args.octets.now.items ++ xs) (sym none)
 
-pub returns-in-Ok-clause-ok : goal.returns-in-Ok-clause-ok
-returns-in-Ok-clause-ok t c =
+pub returns-clause-ok : goal.returns-clause-ok
+returns-clause-ok t c =
     let some : 0 < c.args.size = omega arith in
     let last = last_more c.args.size c.args.number some in
     let pushed : c.push.new.self.items ≡ c.push_last.new.octets.items ++ (c.args.number % 256) ∷ [] = grind (arith, common_steps) in

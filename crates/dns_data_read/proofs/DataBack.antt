@@ -1,0 +1,63 @@
+-- What is printed of RDATA reads back.
+use Rattle.std.proofs.Common.{◌∙◌, ℕ, ◌≤◌, List, length, sym, ap, subst, arith, inl, inr}
+use Rattle.hex.specs.Hex.{IsBytes}
+use Rattle.dns_wire.specs.Encoders.{Plain, nothing}
+use Rattle.dns_wire.specs.Parts.{Part, parts_size}
+use Rattle.dns_wire.proofs.theory.NameSizes.{parts_are_short}
+use Rattle.dns_fields.specs.Data.{any_laid_out, parts_of, rtype_of}
+use Rattle.dns_fields.specs.DataOrders.{octets_of_parts}
+use Rattle.dns_fields.specs.Layouts.{layout_of}
+use Rattle.dns_fields.specs.Table.{definitions_of, kinds_of}
+use Rattle.dns_fields.specs.declared.field_data.FieldData.{FieldData}
+use Rattle.dns_fields_text.specs.DataTexts.{data_fields, data_line}
+use Rattle.dns_fields_text.specs.Laws.{FieldsAreAll}
+use Rattle.dns_line_words.specs.FieldLaws.{AreWordsOfData, DataSplits, opaque_words}
+use Rattle.dns_line_words.specs.Laws.{WordsAreUnique}
+use Rattle.dns_line_words.specs.LineWords.{AreWordsOf, texts}
+use Rattle.dns_data_read.specs.DataWords.{AreDataWords}
+use Rattle.dns_data_read.specs.FieldWords.{Words}
+use Rattle.dns_data_read.specs.Laws.{DataReadsBack, HasOctets}
+use Rattle.dns_data_read.proofs.FieldsBack.{fields_back, fields_unmarked}
+use Rattle.dns_data_read.proofs.FirstFields.{AreLayoutParts, data_ends}
+use Rattle.dns_data_read.proofs.ListsBack.{PrintedLists}
+use Rattle.dns_data_read.proofs.PrintedLaws.{PrintedLaws}
+use Rattle.dns_data_read.proofs.OpaqueBack.{opaque_back}
+use Rattle.dns_data_read.proofs.RdataBack.{are_parts, rdata_back}
+use Rattle.dns_data_read.proofs.RdataLemmas.{plain_octets}
+
+short_octets : (parts : List Part) → length (octets_of_parts parts) ≤ parts_size parts
+short_octets parts = subst (λ (xs : List ℕ). length xs ≤ parts_size parts) (plain_octets parts nothing 0) (parts_are_short Plain parts nothing 0)
+
+-- the parts of RDATA
+data_parts : (fields : FieldData) → HasOctets fields → AreLayoutParts (layout_of (kinds_of (rtype_of fields))) (parts_of fields)
+data_parts fields bytes =
+    let laid = any_laid_out fields in
+    let few = laid.0 in
+    (laid.1, are_parts fields, bytes, omega (arith, few, short_octets (parts_of fields)))
+
+-- the words of its line
+pub line_words : FieldsAreAll → DataSplits → (fields : FieldData) → HasOctets fields → (words : List (List ℕ)) × AreWordsOfData (data_fields fields) words × AreWordsOf (data_line fields) words
+line_words all splits fields bytes = splits fields (subst IsBytes (sym (all fields)) bytes)
+
+module _ (word_laws : PrintedLaws) (list_laws : PrintedLists) where
+  -- they represent its octets
+  data_words : FieldsAreAll → (fields : FieldData) (words : Words) → HasOctets fields → AreWordsOfData (data_fields fields) (texts words)
+      → AreDataWords (rtype_of fields) words (octets_of_parts (parts_of fields))
+  data_words all fields words bytes (inl printed) =
+      let are = data_parts fields bytes in
+      let ends = data_ends (rtype_of fields) in
+      let ds = definitions_of (rtype_of fields) in
+      inr (fields_unmarked word_laws list_laws ds (parts_of fields) words ends are printed, fields_back word_laws list_laws ds (parts_of fields) words ends are printed)
+  data_words all fields words bytes (inr printed) =
+      let are = data_parts fields bytes in
+      inl (opaque_back (octets_of_parts (parts_of fields)) words bytes are.3 (printed.1 ∙ ap opaque_words (all fields)))
+
+  pub data_back : FieldsAreAll → WordsAreUnique → DataSplits → DataReadsBack
+  data_back all unique splits fields words bytes printed =
+      let line = line_words all splits fields bytes in
+      let same = unique (data_line fields) line.0 (texts words) line.2 printed in
+      record {
+        octets = octets_of_parts (parts_of fields);
+        are = data_words all fields words bytes (subst (AreWordsOfData (data_fields fields)) same line.1);
+        rdata = rdata_back fields bytes;
+      }

@@ -1,0 +1,39 @@
+//! Theorems on RDATA and records as words. Each contract is a theorem.
+ghost use Rattle.std.specs.Prelude.{ℕ};
+ghost use Rattle.dns_fields_read.specs.Laws.{RepresentsOne};
+ghost use Rattle.dns_data_read.specs.DataWords.{IsDataText};
+ghost use Rattle.dns_data_read.specs.Laws.{DataReadsBack, ReadPartsHaveOctets, RecordsReadBack};
+ghost use Rattle.dns_data_read.specs.RecordWords.{IsRecordText};
+
+use dns_fields_read::laws::printed_fields_read_back;
+use dns_fields_text::laws::fields_are_all;
+use dns_line_words::laws::{
+    printed_fields_split, printed_lists_split, printed_values_are_words, words_are_unique,
+};
+use dns_value_text::laws::printed_values_read_back;
+
+/// The octets of RDATA that is read of octets are octets.
+pub fn read_parts_have_octets()
+    ensures { ReadPartsHaveOctets }
+{}
+
+/// The words of what is printed of RDATA represent RDATA of its type with its parts, and the words
+/// of what is printed of a record represent the record.
+pub fn printed_data_reads_back()
+    ensures rdata { DataReadsBack }
+    ensures records { RecordsReadBack }
+{
+    words_are_unique();
+    printed_values_are_words();
+    printed_lists_split();
+    printed_fields_split();
+    printed_values_read_back();
+    printed_fields_read_back();
+    fields_are_all();
+}
+
+/// Words represent at most one list of parts of RDATA of a type, and at most one record.
+pub fn words_represent_one()
+    ensures rdata { (rtype : ℕ) → RepresentsOne (IsDataText rtype) }
+    ensures records { RepresentsOne IsRecordText }
+{}
