@@ -24,7 +24,7 @@ use Rattle.dns_fields_text.specs.TypeMaps.{types_text}
 use Rattle.dns_fields_text.specs.TypeNames.{type_word}
 use Rattle.dns_fields_text.specs.ZoneNames.{zone_name_text}
 use Rattle.dns_line_words.specs.LineWords.{AreWordsOf, EndsWord, IsWord}
-use Rattle.dns_line_words.specs.LineWords.AreWordsOf.{blank}
+use Rattle.dns_line_words.specs.LineWords.AreWordsWithin.{blank}
 use Rattle.dns_line_words.specs.ListLaws.{word_of_any}
 use Rattle.dns_line_words.proofs.PrefixTexts.{bytes_take}
 use Rattle.dns_line_words.proofs.SpacedTexts.{AreSpaced, items_are, one_word, spaced_append, spaced_are, words_append}

@@ -5,7 +5,7 @@ use Rattle.std.specs.List.{flat_map}
 use Rattle.std.proofs.lemmas.List.Elements.{All-head, All-tail}
 use Rattle.dns_fields_text.specs.Separated.{separated, spaced}
 use Rattle.dns_line_words.specs.LineWords.{AreWordsOf, EndsWord, IsWord, SplitsWord}
-use Rattle.dns_line_words.specs.LineWords.AreWordsOf.{none, blank, more}
+use Rattle.dns_line_words.specs.LineWords.AreWordsWithin.{none, blank, more}
 
 -- words after spaces, without a comment
 pub data AreSpaced : List ℕ → List (List ℕ) → Type 0 where

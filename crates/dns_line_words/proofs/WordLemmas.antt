@@ -2,16 +2,21 @@
 use Rattle.std.proofs.Common.{◌≡◌, ◌∙◌, ℕ, ◌+◌, ◌-◌, ◌<◌, ◌≤◌, ◌==◌, ◌&&◌, Bool, true, false, List, [], ◌∷◌, ◌++◌, length, length-append, get_or, drop, take, Some, None, refl, sym, ap, subst, arith}
 use Rattle.std.specs.Prelude.{MatchOption, Option, not, ◌||◌, if◌then◌else◌}
 use Rattle.std.specs.Borrow.{Bor}
-use Rattle.std.proofs.lemmas.Bool.{and_parts, and_from, not-true, not_from_false, or_parts, or_from, cond-true, cond-false, eqb-true}
+use Rattle.std.proofs.lemmas.Bool.{and_parts, and_from, false≢true, not-true, not_from_false, or_parts, or_from, cond-true, cond-false, eqb-true}
 use Rattle.std.proofs.lemmas.Bool.Decides.{nat_tests}
 use Rattle.std.proofs.lemmas.List.{append_cancel_right, take_all}
 use Rattle.std.proofs.lemmas.Str.{lead_after_ascii}
 use Rattle.std.specs.Str.{IsUtf8}
 use Rattle.dns_value_text.specs.String.{quote, backslash}
-use Rattle.dns_line_words.specs.LineWords.{BeginsWord, EndsWord, IsRest, IsString, IsWord, SplitsRest, SplitsString, SplitsWord, begins_string, ends_word, is_plain}
+use Rattle.dns_line_words.specs.LineWords.{EndsWord, IsRest, IsString, IsWord, SplitsRest, SplitsString, SplitsWord, begins_string, ends_word, is_plain}
 use Rattle.dns_line_words.specs.LineWords.IsRest.{nothing, plain, escaped, turned}
 use Rattle.dns_line_words.specs.LineWords.IsString.{closed, plain as string_plain, escaped as string_escaped}
 use Rattle.dns_line_words.specs.LineWords.IsWord.{string, bare}
+
+-- a text that is empty, or whose first character ends no word
+abbrev pub BeginsWord : List ℕ → Type 0
+BeginsWord [] = Unit {0}
+BeginsWord (c ∷ text) = ends_word c ≡ false
 
 -- the text after the rest of a word, from within quotes or not, and from after a backslash or not
 abbrev pub rest_after : Bool → Bool → List ℕ → Option (List ℕ)
@@ -240,6 +245,23 @@ pub word_some : (word : List ℕ) → IsWord word → 0 < length word
 word_some word (string h) = omega arith
 word_some word (bare some b h) = some
 
+-- a word doesn't begin with a character that ends a word
+rest_begins : (word : List ℕ) → IsRest false word → BeginsWord word
+rest_begins word nothing = tt
+rest_begins word (plain is h) = not-true _ (and_parts _ _ is).1
+rest_begins word (escaped h) = refl
+rest_begins word (turned h) = refl
+
+word_begins : (word after : List ℕ) → IsWord word → BeginsWord (word ++ after)
+word_begins word after (string h) = refl
+word_begins word after (bare some other h) = first_of word some (rest_begins word h) where
+  first_of : (word : List ℕ) → 0 < length word → BeginsWord word → BeginsWord (word ++ after)
+  first_of [] some begins = absurd (omega arith)
+  first_of (c ∷ word) some begins = begins
+
+pub begins_with : (text word after : List ℕ) → SplitsWord text word after → BeginsWord text
+begins_with text word after h = subst BeginsWord (sym h.whole) (word_begins word after h.is)
+
 pub split_bare : (text word after : List ℕ) → SplitsWord text word after → begins_string text ≡ false → SplitsRest text word after
 split_bare text word after split b = by_word word split.is split.whole split.ends where
   by_word : (word : List ℕ) → IsWord word → text ≡ word ++ after → (begins_string word ≡ false → EndsWord after) → SplitsRest text word after
@@ -274,6 +296,14 @@ string_split (c ∷ text) word after some q h =
 pub no_word_in : (text word after : List ℕ) → length text < 1 → ¬ (SplitsWord text word after)
 no_word_in [] word after none split = let some = word_some word split.is in let whole = ap length split.whole in absurd (omega (arith, some, whole, length-append word after))
 no_word_in (c ∷ text) word after none split = absurd (omega arith)
+
+pub no_word_at : (text : List ℕ) → 0 < length text → ends_word (get_or text 0 0) ≡ true → (word : List ℕ) (after : List ℕ) → ¬ (SplitsWord text word after)
+no_word_at [] some ends word after split = absurd (omega arith)
+no_word_at (c ∷ text) some ends word after split = let begins = begins_with (c ∷ text) word after split in absurd (false≢true (sym begins ∙ ends))
+
+pub begins_by : (text : List ℕ) → ends_word (get_or text 0 0) ≡ false → BeginsWord text
+begins_by [] h = tt
+begins_by (c ∷ text) h = h
 
 pub begins_quote : (text : List ℕ) → 0 < length text → get_or text 0 0 ≡ quote → begins_string text ≡ true
 begins_quote [] some q = absurd (omega arith)

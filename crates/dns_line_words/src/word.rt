@@ -1,19 +1,12 @@
 //! The word that a text begins with (RFC 1035 section 5.1).
 ghost use Rattle.std.specs.Prelude.{◌≡◌, ℕ, List, MatchOption};
-ghost use Rattle.dns_line_words.specs.LineWords.{BeginsWord, SplitsRest, SplitsString, SplitsWord, ends_word, is_blank};
-
-/// Whether the character separates words. Parentheses only join lines.
-pub(crate) fn is_blank(character: u8) -> bool
-    ensures { result ≡ is_blank character }
-{
-    matches!(character, b' ' | b'\t' | b'\r' | b'\n' | b'(' | b')')
-}
+ghost use Rattle.dns_line_words.specs.LineWords.{SplitsRest, SplitsString, SplitsWord, ends_word};
 
 /// Whether the character ends a word outside of quotes.
 fn ends_word(character: u8) -> bool
     ensures { result ≡ ends_word character }
 {
-    is_blank(character) || character == b';'
+    matches!(character, b' ' | b'\t' | b'\r' | b'\n' | b'(' | b')' | b';')
 }
 
 /// The text after the rest of a string in quotes. `None` if it has no closing quote.
@@ -62,10 +55,9 @@ fn after_rest(text: &[u8]) -> Option<&[u8]>
     if quoted || escaped { None } else { Some(left) }
 }
 
-/// The text after the word that a text begins with. `None` if a quote or a backslash is open at the
-/// end.
+/// The text after the word that a text begins with. `None` if it begins with none, or if a quote or a
+/// backslash is open at the end.
 fn after_word(text: &[u8]) -> Option<&[u8]>
-    requires begins { BeginsWord text.now }
     ensures { MatchOption result
         ((word : List ℕ) (after : List ℕ) → ¬ (SplitsWord text.now word after))
         (λ after. (word : List ℕ) × SplitsWord text.now word after.now) }
@@ -76,13 +68,15 @@ fn after_word(text: &[u8]) -> Option<&[u8]>
     if *first == b'"' {
         return after_string(after);
     }
+    if ends_word(*first) {
+        return None;
+    }
     after_rest(text)
 }
 
-/// The word that a text begins with, and the text after it. `None` if a quote or a backslash is open
-/// at the end.
+/// The word that a text begins with, and the text after it. `None` if it begins with none, or if a
+/// quote or a backslash is open at the end.
 pub(crate) fn split_word(text: &str) -> Option<(&str, &str)>
-    requires begins { BeginsWord text.now }
     ensures { MatchOption result
         ((word : List ℕ) (after : List ℕ) → ¬ (SplitsWord text.now word after))
         (λ split. SplitsWord text.now split.0.now split.1.now) }

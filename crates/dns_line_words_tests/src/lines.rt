@@ -45,8 +45,7 @@ fn start_of_authority(rt: HostRuntime) -> Result<(), Fail> {
 const LINES: &[(&str, &[&str])] = &[
     ("", &[]),
     (" \t\r\n()", &[]),
-    ("; only a comment", &[]),
-    ("; a \"comment\nA", &["A"]),
+    ("; only a \"comment", &[]),
     ("TXT \"a b\" \"c;d\" ; e", &["TXT", "\"a b\"", "\"c;d\""]),
     ("TXT \"a\\\"b (c\" \"\"", &["TXT", "\"a\\\"b (c\"", "\"\""]),
     ("a\\ b\\;c\\(d\\\"e f", &["a\\ b\\;c\\(d\\\"e", "f"]),
@@ -57,7 +56,8 @@ const LINES: &[(&str, &[&str])] = &[
     ("TXT \"a\"\"b c\"d", &["TXT", "\"a\"", "\"b c\"", "d"]),
     ("\"a\\\"\"\"b\";c", &["\"a\\\"\"", "\"b\""]),
     ("a\"b c\"\"d\"e f", &["a\"b c\"\"d\"e", "f"]),
-    ("a;b\r\nc(d)e", &["a", "c", "d", "e"]),
+    ("a;b\r\n;c", &["a"]),
+    ("a(b)c", &["a", "b", "c"]),
     ("é \"ü ö\";ß", &["é", "\"ü ö\""]),
 ];
 
@@ -65,6 +65,71 @@ const LINES: &[(&str, &[&str])] = &[
 fn lines(rt: HostRuntime) -> Result<(), Fail> {
     for (line, words) in LINES {
         assert_splits(&rt, rt.alloc(), line, words)?;
+    }
+    Ok(())
+}
+
+/// Records over several lines, each with its words.
+const RECORDS: &[(&str, &[&str])] = &[
+    ("a (\n b\n) c", &["a", "b", "c"]),
+    ("(a\n(b\nc)\nd) e", &["a", "b", "c", "d", "e"]),
+    ("(\n)a", &["a"]),
+    ("a\n", &["a"]),
+    ("a\r\n \t\r\n; b\n", &["a"]),
+    ("a (b ; c)\nd) ; e", &["a", "b", "d"]),
+    ("a \"b\nc\" d", &["a", "\"b\nc\"", "d"]),
+    ("a\\\nb \\( \")\" c", &["a\\\nb", "\\(", "\")\"", "c"]),
+];
+
+#[test]
+fn records_over_lines(rt: HostRuntime) -> Result<(), Fail> {
+    for (line, words) in RECORDS {
+        assert_splits(&rt, rt.alloc(), line, words)?;
+    }
+    Ok(())
+}
+
+/// Fails if the line has words.
+fn assert_bad(rt: &impl Abort, alloc: Global, line: &str) -> Result<(), Fail> {
+    let Err(error) = split_words(alloc, line) else {
+        assert_eq!(rt; line, "a line that has no words");
+        return Ok(());
+    };
+    assert_eq!(rt; format!(in alloc; "{error}")?.as_str(), "bad word");
+    Ok(())
+}
+
+/// Texts with a word after the end of the line, or with parentheses that don't match.
+const BROKEN: &[&str] = &[
+    "a\nb",
+    "\na",
+    "a ; b\nc",
+    "; a\nb",
+    "a (b\nc)\nd",
+    "a\r\n\\",
+    "(",
+    "a (b",
+    "a ((b)",
+    ")",
+];
+
+/// Others.
+const UNMATCHED: &[&str] = &[
+    "a) b",
+    "a (b)) c",
+    "a )b(",
+    "a (b ; c)",
+    "a (b \")\"",
+    "a\n)",
+];
+
+#[test]
+fn lines_that_end_and_parentheses(rt: HostRuntime) -> Result<(), Fail> {
+    for line in BROKEN {
+        assert_bad(&rt, rt.alloc(), line)?;
+    }
+    for line in UNMATCHED {
+        assert_bad(&rt, rt.alloc(), line)?;
     }
     Ok(())
 }
@@ -86,11 +151,7 @@ const OPEN: &[&str] = &[
 #[test]
 fn open_quotes_and_backslashes(rt: HostRuntime) -> Result<(), Fail> {
     for line in OPEN {
-        let Err(error) = split_words(rt.alloc(), line) else {
-            assert_eq!(&rt; *line, "an open quote or backslash");
-            return Ok(());
-        };
-        assert_eq!(&rt; format!(in rt.alloc(); "{error}")?.as_str(), "bad word");
+        assert_bad(&rt, rt.alloc(), line)?;
     }
     Ok(())
 }

@@ -1,12 +1,13 @@
-use Rattle.std.proofs.Common.{length}
+use Rattle.std.proofs.Common.{◌+◌, ◌<◌, ◌^◌, length}
 use Rattle.dns_line_words.specs.LineWords.{texts}
 use Rattle.dns_line_words.proofs.LineLemmas.{AreRead}
 use Rattle.dns_line_words.proofs.line_words.split_words.Given as goal
-use denote.Shadow.{shadow}
-use denote.Text.{Utf8}
 
 abbrev pub invariant-words : goal.invariant-words
-invariant-words l = record { read : AreRead l.fn.line (texts l.words.items) l.left; utf8 : shadow (Utf8 l.left) }
+invariant-words l = record {
+  read : AreRead l.fn.line (texts l.words.items) l.left;
+  fits : l.left.depth + length l.left.text.now < 2 ^ 64;
+}
 
 abbrev pub decreases-words : goal.decreases-words
-decreases-words l = length l.left
+decreases-words l = length l.left.text.now
