@@ -12,14 +12,13 @@ use Rattle.dns_fields.specs.declared.field_data.FieldData.{FieldData}
 use Rattle.dns_fields_text.specs.DataTexts.{data_fields, data_line}
 use Rattle.dns_fields_text.specs.Laws.{FieldsAreAll}
 use Rattle.dns_line_words.specs.FieldLaws.{AreWordsOfData, DataSplits, opaque_words}
-use Rattle.dns_line_words.specs.Laws.{WordsAreUnique}
 use Rattle.dns_line_words.specs.LineWords.{AreWordsOf, texts}
+use Rattle.dns_line_words.proofs.LineLemmas.{one_list}
 use Rattle.dns_data_read.specs.DataWords.{AreDataWords}
 use Rattle.dns_data_read.specs.FieldWords.{Words}
 use Rattle.dns_data_read.specs.Laws.{DataReadsBack, HasOctets}
 use Rattle.dns_data_read.proofs.FieldsBack.{fields_back, fields_unmarked}
 use Rattle.dns_data_read.proofs.FirstFields.{AreLayoutParts, data_ends}
-use Rattle.dns_data_read.proofs.ListsBack.{PrintedLists}
 use Rattle.dns_data_read.proofs.PrintedLaws.{PrintedLaws}
 use Rattle.dns_data_read.proofs.OpaqueBack.{opaque_back}
 use Rattle.dns_data_read.proofs.RdataBack.{are_parts, rdata_back}
@@ -39,7 +38,7 @@ data_parts fields bytes =
 pub line_words : FieldsAreAll → DataSplits → (fields : FieldData) → HasOctets fields → (words : List (List ℕ)) × AreWordsOfData (data_fields fields) words × AreWordsOf (data_line fields) words
 line_words all splits fields bytes = splits fields (subst IsBytes (sym (all fields)) bytes)
 
-module _ (word_laws : PrintedLaws) (list_laws : PrintedLists) where
+module _ (laws : PrintedLaws) where
   -- they represent its octets
   data_words : FieldsAreAll → (fields : FieldData) (words : Words) → HasOctets fields → AreWordsOfData (data_fields fields) (texts words)
       → AreDataWords (rtype_of fields) words (octets_of_parts (parts_of fields))
@@ -47,15 +46,15 @@ module _ (word_laws : PrintedLaws) (list_laws : PrintedLists) where
       let are = data_parts fields bytes in
       let ends = data_ends (rtype_of fields) in
       let ds = definitions_of (rtype_of fields) in
-      inr (fields_unmarked word_laws list_laws ds (parts_of fields) words ends are printed, fields_back word_laws list_laws ds (parts_of fields) words ends are printed)
+      inr (fields_unmarked laws ds (parts_of fields) words ends are printed, fields_back laws ds (parts_of fields) words ends are printed)
   data_words all fields words bytes (inr printed) =
       let are = data_parts fields bytes in
       inl (opaque_back (octets_of_parts (parts_of fields)) words bytes are.3 (printed.1 ∙ ap opaque_words (all fields)))
 
-  pub data_back : FieldsAreAll → WordsAreUnique → DataSplits → DataReadsBack
-  data_back all unique splits fields words bytes printed =
+  pub data_back : FieldsAreAll → DataSplits → DataReadsBack
+  data_back all splits fields words bytes printed =
       let line = line_words all splits fields bytes in
-      let same = unique (data_line fields) line.0 (texts words) line.2 printed in
+      let same = one_list (data_line fields) line.0 (texts words) line.2 printed in
       record {
         octets = octets_of_parts (parts_of fields);
         are = data_words all fields words bytes (subst (AreWordsOfData (data_fields fields)) same line.1);

@@ -16,7 +16,7 @@ use Rattle.dns_data_read.specs.FieldWords.{IsField, Words}
 use Rattle.dns_data_read.specs.declared.extent.Extent.TheVariants.{All}
 use Rattle.dns_data_read.proofs.FieldPart.{HasWords, IsFieldPart}
 use Rattle.dns_data_read.proofs.FirstFields.{AreLayoutParts, first_field, left_is_last, no_texts, others_end}
-use Rattle.dns_data_read.proofs.ListsBack.{PrintedLists, gateway_back, gateway_unmarked, identity_back, identity_unmarked, location_back, location_unmarked, parameters_back, parameters_unmarked, prefixes_back, prefixes_unmarked, relay_back, relay_unmarked, small_map_back, small_map_unmarked, type_map_back, type_map_unmarked}
+use Rattle.dns_data_read.proofs.ListsBack.{gateway_back, gateway_unmarked, identity_back, identity_unmarked, location_back, location_unmarked, parameters_back, parameters_unmarked, prefixes_back, prefixes_unmarked, relay_back, relay_unmarked, small_map_back, small_map_unmarked, type_map_back, type_map_unmarked}
 use Rattle.dns_data_read.proofs.PrintedLaws.{PrintedLaws}
 use Rattle.dns_data_read.proofs.WordsBack.{base64_back, base64_unmarked, hexadecimal_back, hexadecimal_unmarked, sized_back, sized_unmarked, strings_back, strings_unmarked, word_back, word_unmarked}
 
@@ -30,40 +30,40 @@ no_text (UncompressedPart lowered name) own is has = let other = is.0.1 in cc ot
 own_marked : (own after : Words) → (after ≡ []) → IsMarked (own ++ after) → IsMarked own
 own_marked own after none marked = subst IsMarked (append-nil own) (subst (λ (ws : Words). IsMarked (own ++ ws)) none marked)
 
-module _ (word_laws : PrintedLaws) (list_laws : PrintedLists) where
+module _ (laws : PrintedLaws) where
   -- the words of the text of a field are the field
   field_back : (kind : Kind) (part : Part) (own : Words) → IsFieldPart kind part → HasWords kind part own → IsField kind own (part_octets part)
-  field_back kinds.SizedOctets part own is has = sized_back word_laws part own is has
-  field_back kinds.Strings part own is has = strings_back word_laws part own is has
-  field_back kinds.Hexadecimal part own is has = hexadecimal_back word_laws part own is has
-  field_back kinds.Base64 part own is has = base64_back word_laws part own is has
-  field_back kinds.TypeBitMap part own is has = type_map_back list_laws part own is has
-  field_back kinds.SmallTypeBitMap part own is has = small_map_back list_laws part own is has
-  field_back kinds.ServiceParameters part own is has = parameters_back list_laws part own is has
-  field_back kinds.AddressPrefixes part own is has = prefixes_back list_laws part own is has
-  field_back kinds.Location part own is has = location_back list_laws part own is has
-  field_back kinds.GatewayAndKey part own is has = gateway_back list_laws part own is has
-  field_back kinds.Relay part own is has = relay_back list_laws part own is has
-  field_back kinds.HostIdentity part own is has = identity_back list_laws part own is has
+  field_back kinds.SizedOctets part own is has = sized_back laws part own is has
+  field_back kinds.Strings part own is has = strings_back laws part own is has
+  field_back kinds.Hexadecimal part own is has = hexadecimal_back laws part own is has
+  field_back kinds.Base64 part own is has = base64_back laws part own is has
+  field_back kinds.TypeBitMap part own is has = type_map_back laws part own is has
+  field_back kinds.SmallTypeBitMap part own is has = small_map_back laws part own is has
+  field_back kinds.ServiceParameters part own is has = parameters_back laws part own is has
+  field_back kinds.AddressPrefixes part own is has = prefixes_back laws part own is has
+  field_back kinds.Location part own is has = location_back laws part own is has
+  field_back kinds.GatewayAndKey part own is has = gateway_back laws part own is has
+  field_back kinds.Relay part own is has = relay_back laws part own is has
+  field_back kinds.HostIdentity part own is has = identity_back laws part own is has
   field_back kinds.Opaque part own is has = absurd (no_text part own is has)
-  field_back kind part own is has = word_back word_laws kind part own refl is has
+  field_back kind part own is has = word_back laws kind part own refl is has
 
   -- and they don't begin with `\#`
   field_unmarked : (kind : Kind) (part : Part) (own after : Words) → IsFieldPart kind part → HasWords kind part own → (extent_of kind ≡ All → after ≡ []) → ¬ (IsMarked (own ++ after))
-  field_unmarked kinds.SizedOctets part own after is has all marked = sized_unmarked word_laws part own is has after marked
-  field_unmarked kinds.Strings part own after is has all marked = strings_unmarked word_laws part own is has after marked
-  field_unmarked kinds.Hexadecimal part own after is has all marked = hexadecimal_unmarked word_laws part own is has after marked
-  field_unmarked kinds.Base64 part own after is has all marked = base64_unmarked word_laws part own is has after marked
-  field_unmarked kinds.TypeBitMap part own after is has all marked = type_map_unmarked list_laws part own is has (own_marked own after (all refl) marked)
-  field_unmarked kinds.SmallTypeBitMap part own after is has all marked = small_map_unmarked list_laws part own is has (own_marked own after (all refl) marked)
-  field_unmarked kinds.ServiceParameters part own after is has all marked = parameters_unmarked list_laws part own is has (own_marked own after (all refl) marked)
-  field_unmarked kinds.AddressPrefixes part own after is has all marked = prefixes_unmarked list_laws part own is has (own_marked own after (all refl) marked)
-  field_unmarked kinds.Location part own after is has all marked = location_unmarked list_laws part own is has (own_marked own after (all refl) marked)
-  field_unmarked kinds.GatewayAndKey part own after is has all marked = gateway_unmarked list_laws part own is has (own_marked own after (all refl) marked)
-  field_unmarked kinds.Relay part own after is has all marked = relay_unmarked list_laws part own is has (own_marked own after (all refl) marked)
-  field_unmarked kinds.HostIdentity part own after is has all marked = identity_unmarked list_laws part own is has (own_marked own after (all refl) marked)
+  field_unmarked kinds.SizedOctets part own after is has all marked = sized_unmarked laws part own is has after marked
+  field_unmarked kinds.Strings part own after is has all marked = strings_unmarked laws part own is has after marked
+  field_unmarked kinds.Hexadecimal part own after is has all marked = hexadecimal_unmarked laws part own is has after marked
+  field_unmarked kinds.Base64 part own after is has all marked = base64_unmarked laws part own is has after marked
+  field_unmarked kinds.TypeBitMap part own after is has all marked = type_map_unmarked laws part own is has (own_marked own after (all refl) marked)
+  field_unmarked kinds.SmallTypeBitMap part own after is has all marked = small_map_unmarked laws part own is has (own_marked own after (all refl) marked)
+  field_unmarked kinds.ServiceParameters part own after is has all marked = parameters_unmarked laws part own is has (own_marked own after (all refl) marked)
+  field_unmarked kinds.AddressPrefixes part own after is has all marked = prefixes_unmarked laws part own is has (own_marked own after (all refl) marked)
+  field_unmarked kinds.Location part own after is has all marked = location_unmarked laws part own is has (own_marked own after (all refl) marked)
+  field_unmarked kinds.GatewayAndKey part own after is has all marked = gateway_unmarked laws part own is has (own_marked own after (all refl) marked)
+  field_unmarked kinds.Relay part own after is has all marked = relay_unmarked laws part own is has (own_marked own after (all refl) marked)
+  field_unmarked kinds.HostIdentity part own after is has all marked = identity_unmarked laws part own is has (own_marked own after (all refl) marked)
   field_unmarked kinds.Opaque part own after is has all marked = no_text part own is has
-  field_unmarked kind part own after is has all marked = word_unmarked word_laws kind part own refl is has after marked
+  field_unmarked kind part own after is has all marked = word_unmarked laws kind part own refl is has after marked
 
   -- the words of the texts of fields are the fields
   pub fields_back : (ds : List Definition) (parts : List Part) (words : Words) → left_is_last (kinds_in ds) ≡ true → AreLayoutParts (layout_of (kinds_in ds)) parts

@@ -15,9 +15,9 @@ use Rattle.dns_value_text.specs.Hex.{hex_text}
 use Rattle.dns_fields_text.specs.GatewayTexts.{gateway_at, gateway_text, gateway_words, key_text, last_relay, name_at, name_word_at, relay_text, relay_words, word_at}
 use Rattle.dns_fields_text.specs.HostIdentities.{identity_parts, identity_text, identity_words, servers_in, servers_text}
 use Rattle.dns_fields_text.specs.ZoneNames.{zone_name_text}
-use Rattle.dns_line_words.specs.Laws.{WordsAreUnique}
 use Rattle.dns_line_words.specs.LineWords.{AreWordsOf, texts}
 use Rattle.dns_line_words.specs.ListLaws.{AreNames, GatewaysSplit, IdentitiesSplit, RelaysSplit, word_of_any}
+use Rattle.dns_line_words.proofs.LineLemmas.{one_list}
 use Rattle.dns_fields_read.specs.GatewayWords.{IsGateway, IsRelay}
 use Rattle.dns_fields_read.specs.IdentityWords.{IsHostIdentity}
 use Rattle.dns_fields_read.specs.Laws.{GatewaysReadBack, IdentitiesReadBack, Ipv4ReadsBack, Ipv6ReadsBack, RelaysReadBack}
@@ -96,9 +96,9 @@ three_clear a b c words x y z all =
     All-cons HasNoSpace a (b ∷ c ∷ words) x (All-cons HasNoSpace b (c ∷ words) y (All-cons HasNoSpace c words z all))
 
 -- gateways
-module _ (ipv4 : Ipv4ReadsBack) (ipv6 : Ipv6ReadsBack) (unique : WordsAreUnique) (own : Words) (text : List ℕ) (are : AreWordsOf text (texts own)) where
+module _ (ipv4 : Ipv4ReadsBack) (ipv6 : Ipv6ReadsBack) (own : Words) (text : List ℕ) (are : AreWordsOf text (texts own)) where
   same_words : (words : List (List ℕ)) → AreWordsOf text words → texts own ≡ words
-  same_words words is = unique text (texts own) words are is
+  same_words words is = one_list text (texts own) words are is
 
   module _ (split : GatewaysSplit) (read : GatewaysReadBack) where
     pub gateway_read : (octets : List ℕ) → IsBytes octets → gateway_text octets ≡ Some text → IsGateway own octets
@@ -170,7 +170,7 @@ identity_is algorithm (t ∷ tag) (k ∷ key) servers text names e are =
       spaced_then : (s a b c k : List ℕ) → s ++ (a ++ s ++ b ++ s ++ c ++ k) ≡ (s ++ a) ++ ((s ++ b) ++ ((s ++ c) ++ k))
       spaced_then s a b c k = simp append_assoc
 
-module _ (unique : WordsAreUnique) (split : IdentitiesSplit) (read : IdentitiesReadBack) (own : Words) (text : List ℕ) (are : AreWordsOf text (texts own)) where
+module _ (split : IdentitiesSplit) (read : IdentitiesReadBack) (own : Words) (text : List ℕ) (are : AreWordsOf text (texts own)) where
   pub identity_read : (octets : List ℕ) → IsBytes octets → identity_text octets ≡ Some text → IsHostIdentity own octets
   identity_read [] bytes e = absurd (cc e)
   identity_read (a ∷ []) bytes e = absurd (cc e)
@@ -185,7 +185,7 @@ module _ (unique : WordsAreUnique) (split : IdentitiesSplit) (read : IdentitiesR
       let small : algorithm < 256 = bytes 1 in
       let clear = three_clear (decimal algorithm) (hex_text tag) (encode_of standard key) (map zone_name_text h.0) (decimal_clear algorithm (omega arith)) (hex_clear tag) (base64_clear key) (names_clear h.0) in
       read (size ∷ algorithm ∷ high ∷ low ∷ octets) text own bytes e
-      (are_printed (codes " " ++ text) own _ (unique text (texts own) _ are h.2) (identity_is algorithm tag key servers text h.0 printed h.1) clear) where
+      (are_printed (codes " " ++ text) own _ (one_list text (texts own) _ are h.2) (identity_is algorithm tag key servers text h.0 printed h.1) clear) where
         if_some : (b : Bool) (o : Option (List ℕ)) → (if b then o else None) ≡ Some text → o ≡ Some text
         if_some true o f = f
         if_some false o f = absurd (cc f)

@@ -1,10 +1,8 @@
 -- Printed fields of all words that are left read back.
-use Rattle.std.proofs.Common.{◌≡◌, ◌∙◌, ℕ, zero, suc, ◌+◌, ◌*◌, ◌%◌, ◌^◌, ◌<◌, ◌≤◌, ◌==◌, Bool, true, false, List, [], ◌∷◌, ◌++◌, length, map, refl, sym, ap, subst, arith, eq-eqb}
-use Rattle.std.specs.Prelude.{All, Option, Some, None, codes, if◌then◌else◌, nat_le, nat_lt, ◌||◌, ◌&&◌}
+use Rattle.std.proofs.Common.{◌≡◌, ◌∙◌, ℕ, ◌+◌, Bool, true, false, List, [], ◌∷◌, ◌++◌, length, map, refl, sym, ap, subst}
+use Rattle.std.specs.Prelude.{Option, Some, None, codes, if◌then◌else◌}
 use Rattle.std.specs.Fmt.{◌++?◌}
-use Rattle.std.proofs.lemmas.Bool.{ltb-true}
 use Rattle.std.proofs.lemmas.List.{length-map}
-use Rattle.std.proofs.lemmas.List.Elements.{All-append, All-cons, All-nil}
 use Rattle.hex.specs.Hex.{IsBytes}
 use Rattle.dns_data.specs.Layout.{IsLaidOut}
 use Rattle.dns_data.specs.Layout.Layout.{Rest as RestLayout}
@@ -21,17 +19,14 @@ use Rattle.dns_fields_text.specs.Parameters.{parameter_word}
 use Rattle.dns_fields_text.specs.PrefixItems.{PrefixItem, prefixes_of}
 use Rattle.dns_fields_text.specs.Prefixes.{has_word, prefix_text, prefix_word}
 use Rattle.dns_fields_text.specs.Separated.{separated, spaced, spaced_if_all}
-use Rattle.dns_fields_text.specs.TypeMaps.{bit_types, is_small_map, map_types, octet_types, types_text}
+use Rattle.dns_fields_text.specs.TypeMaps.{is_small_map, map_types, octet_types, types_text}
 use Rattle.dns_fields_text.specs.TypeNames.{type_word}
-use Rattle.dns_line_words.specs.Laws.{WordsAreUnique}
 use Rattle.dns_line_words.specs.LineWords.{AreWordsOf, texts}
-use Rattle.dns_line_words.specs.ListLaws.{GatewaysSplit, IdentitiesSplit, ParametersSplit, PrefixesSplit, RelaysSplit, TypesSplit}
-use Rattle.dns_line_words.specs.LocationLaws.{LocationsSplit}
-use Rattle.dns_fields_read.specs.Laws.{GatewaysReadBack, IdentitiesReadBack, Ipv4ReadsBack, Ipv6ReadsBack, LocationsReadBack, ParametersReadBack, PrefixFieldsReadBack, RelaysReadBack, SmallTypeMapsReadBack, TypeMapsReadBack}
+use Rattle.dns_line_words.proofs.FieldWords.{map_below, small_below}
+use Rattle.dns_line_words.proofs.LineLemmas.{one_list}
 use Rattle.dns_fields_read.specs.ParameterWords.{AreParameterWords}
 use Rattle.dns_fields_read.specs.PrefixWords.{ArePrefixWords}
-use Rattle.dns_fields_read.specs.TypeMapWords.{AreTypeTexts, IsSmallTypeMap, IsTypeMap, has}
-use Rattle.dns_fields_read.proofs.TypeMapLaws.{map_bound}
+use Rattle.dns_fields_read.specs.TypeMapWords.{AreTypeTexts, IsSmallTypeMap, IsTypeMap}
 use Rattle.dns_data_read.specs.DataWords.{IsMarked}
 use Rattle.dns_data_read.specs.FieldWords.{AreFieldWords, Words}
 use Rattle.dns_data_read.proofs.FieldPart.{HasWords, IsFieldPart}
@@ -39,28 +34,8 @@ use Rattle.dns_data_read.proofs.GatewaysBack.{gateway_read, identity_read, relay
 use Rattle.dns_data_read.proofs.LocationBack.{location_read}
 use Rattle.dns_data_read.proofs.MarkedWords.{gateway_words_unmarked, identity_words_unmarked, location_words_unmarked, parameter_words_unmarked, prefix_words_unmarked, relay_words_unmarked, types_unmarked}
 use Rattle.dns_data_read.proofs.ParametersBack.{parameters_read}
+use Rattle.dns_data_read.proofs.PrintedLaws.{PrintedLaws}
 use Rattle.dns_data_read.proofs.PrintedTexts.{some_same}
-
--- the laws of printed fields of several words
-pub record PrintedLists : Type 0 where
-  pub unique : WordsAreUnique
-  pub types_split : TypesSplit
-  pub parameters_split : ParametersSplit
-  pub prefixes_split : PrefixesSplit
-  pub locations_split : LocationsSplit
-  pub gateways_split : GatewaysSplit
-  pub relays_split : RelaysSplit
-  pub identities_split : IdentitiesSplit
-  pub ipv4 : Ipv4ReadsBack
-  pub ipv6 : Ipv6ReadsBack
-  pub type_maps : TypeMapsReadBack
-  pub small_type_maps : SmallTypeMapsReadBack
-  pub parameters : ParametersReadBack
-  pub prefixes : PrefixFieldsReadBack
-  pub locations : LocationsReadBack
-  pub gateways : GatewaysReadBack
-  pub relays : RelaysReadBack
-  pub identities : IdentitiesReadBack
 
 -- the octets of a field that takes all remaining octets
 rest_octets : (test : List ℕ → Bool) (octets : List ℕ) → IsLaidOut (RestLayout test) (OctetsPart octets ∷ []) → test octets ≡ true
@@ -72,40 +47,6 @@ type_texts [] [] same = tt
 type_texts [] (n ∷ types) same = absurd (cc same)
 type_texts (word ∷ own) [] same = absurd (cc same)
 type_texts (word ∷ own) (n ∷ types) same = (cc same, type_texts own types (cc same))
-
-or_true : (b : Bool) → (b || true) ≡ true
-or_true true = refl
-or_true false = refl
-
-types_below : (types : List ℕ) → ((n : ℕ) → has types n ≡ true → n < 2 ^ 16) → All (λ n. n < 2 ^ 16) types
-types_below [] small = All-nil (λ n. n < 2 ^ 16)
-types_below (t ∷ types) small =
-    All-cons (λ n. n < 2 ^ 16) t types (small t (ap (λ (b : Bool). b || has types t) (eq-eqb t t refl)))
-    (types_below types (λ n h. small n (ap (λ (b : Bool). (t == n) || b) h ∙ or_true (t == n))))
-
--- the types of a small map
-first_bit : (b : Bool) (first most : ℕ) → first < most → All (λ n. n < most) (if b then first ∷ [] else [])
-first_bit true first most h = All-cons (λ n. n < most) first [] h (All-nil (λ n. n < most))
-first_bit false first most h = All-nil (λ n. n < most)
-
-bits_below : (count first octet most : ℕ) → first + count ≤ most → All (λ n. n < most) (bit_types count first octet)
-bits_below zero first octet most h = All-nil (λ n. n < most)
-bits_below (suc count) first octet most h =
-    All-append (λ n. n < most) (if nat_le 128 octet then first ∷ [] else []) (bit_types count (first + 1) (octet % 128 * 2)) (first_bit (nat_le 128 octet) first most (omega arith))
-    (bits_below count (first + 1) (octet % 128 * 2) most (omega arith))
-
-octets_below : (octets : List ℕ) (first most : ℕ) → first + 8 * length octets ≤ most → All (λ n. n < most) (octet_types first octets)
-octets_below [] first most h = All-nil (λ n. n < most)
-octets_below (octet ∷ octets) first most h =
-    All-append (λ n. n < most) (bit_types 8 first octet) (octet_types (first + 8) octets) (bits_below 8 first octet most (omega arith)) (octets_below octets (first + 8) most (omega arith))
-
-small_below : (octets : List ℕ) → is_small_map octets ≡ true → All (λ n. n < 2 ^ 16) (octet_types 0 octets)
-small_below [] h = All-nil (λ n. n < 2 ^ 16)
-small_below (octet ∷ octets) h = octets_below (octet ∷ octets) 0 (2 ^ 16) (few (nat_lt octet 128) (nat_lt (length octets) 16) _ refl h) where
-  few : (a b c : Bool) → nat_lt (length octets) 16 ≡ b → a && b && c ≡ true → 0 + 8 * length (octet ∷ octets) ≤ 2 ^ 16
-  few true true c s e = let short = ltb-true (length octets) 16 s in omega arith
-  few true false c s e = absurd (cc e)
-  few false b c s e = absurd (cc e)
 
 if_some : (b : Bool) (x text : List ℕ) → (if b then Some x else None) ≡ Some text → (b ≡ true) × (x ≡ text)
 if_some true x text e = (refl, some_same x text e)
@@ -125,34 +66,33 @@ prefixes_are first (item ∷ items) text e =
     let here = prefix_then first (prefix_text item) text (has_word item) (spaced_if_all (codes " ") (map prefix_word items)) e in
     ap (λ (xs : List ℕ). (first ++ prefix_text item) ++ xs) (prefixes_are (codes " ") items here.0 here.1) ∙ here.2
 
-module _ (laws : PrintedLists) where
+module _ (laws : PrintedLaws) where
   -- the octets of each kind
   module _ (octets text : List ℕ) (own : Words) (bytes : IsBytes octets) (are : AreWordsOf text (texts own)) where
     same_words : (other : List ℕ) (words : List (List ℕ)) → other ≡ text → AreWordsOf other words → texts own ≡ words
-    same_words other words e is = laws.unique text (texts own) words are (subst (λ (xs : List ℕ). AreWordsOf xs words) e is)
+    same_words other words e is = one_list text (texts own) words are (subst (λ (xs : List ℕ). AreWordsOf xs words) e is)
 
     type_map_is : is_type_map octets ≡ true → Some (types_text (map_types octets)) ≡ Some text → IsTypeMap own octets
     type_map_is map_is e =
-        let small = types_below (map_types octets) (λ n h. map_bound (length octets) 0 n octets (omega arith) bytes map_is h) in
-        let same = same_words (types_text (map_types octets)) (map type_word (map_types octets)) (some_same _ text e) (laws.types_split (map_types octets) small) in
-        laws.type_maps own octets bytes map_is (type_texts own (map_types octets) same)
+        let same = same_words (types_text (map_types octets)) (map type_word (map_types octets)) (some_same _ text e) (laws.lists.types (map_types octets) (map_below octets bytes)) in
+        laws.reading.type_maps own octets bytes map_is (type_texts own (map_types octets) same)
 
     small_map_is : (if is_small_map octets then Some (types_text (octet_types 0 octets)) else None) ≡ Some text → IsSmallTypeMap own octets
     small_map_is e =
         let parts = if_some (is_small_map octets) (types_text (octet_types 0 octets)) text e in
-        let same = same_words (types_text (octet_types 0 octets)) (map type_word (octet_types 0 octets)) parts.1 (laws.types_split (octet_types 0 octets) (small_below octets parts.0)) in
-        laws.small_type_maps own octets bytes parts.0 (type_texts own (octet_types 0 octets) same)
+        let same = same_words (types_text (octet_types 0 octets)) (map type_word (octet_types 0 octets)) parts.1 (laws.lists.types (octet_types 0 octets) (small_below octets parts.0)) in
+        laws.reading.small_type_maps own octets bytes parts.0 (type_texts own (octet_types 0 octets) same)
 
     parameters_are : are_parameters octets ≡ true → Some (parameters_text octets) ≡ Some text → AreParameterWords own octets
     parameters_are is e =
-        parameters_read laws.parameters octets own bytes is
-        (same_words (parameters_text octets) (map parameter_word (parameters_of octets)) (some_same _ text e) (laws.parameters_split octets bytes))
+        parameters_read laws.reading.parameters octets own bytes is
+        (same_words (parameters_text octets) (map parameter_word (parameters_of octets)) (some_same _ text e) (laws.lists.parameters octets bytes))
 
     prefixes_is : are_prefixes octets ≡ true → prefixes_text octets ≡ Some text → ArePrefixWords own octets
     prefixes_is is e =
-        let same = same_words text (map prefix_text (prefixes_of octets)) refl (laws.prefixes_split octets text bytes e) in
+        let same = same_words text (map prefix_text (prefixes_of octets)) refl (laws.lists.prefixes octets text bytes e) in
         let count = sym (length-map own (λ word. word.now)) ∙ ap length same ∙ length-map (prefixes_of octets) prefix_text in
-        laws.prefixes own octets text bytes is e count (ap spaced same ∙ prefixes_are [] (prefixes_of octets) text e)
+        laws.reading.prefixes own octets text bytes is e count (ap spaced same ∙ prefixes_are [] (prefixes_of octets) text e)
 
   -- a field of each kind reads back
   pub type_map_back : (part : Part) (own : Words) → IsFieldPart kinds.TypeBitMap part → HasWords kinds.TypeBitMap part own → AreFieldWords kinds.TypeBitMap own (part_octets part)
@@ -177,22 +117,22 @@ module _ (laws : PrintedLists) where
   prefixes_back (UncompressedPart lowered name) own field words = absurd (cc (field.0.1))
 
   pub location_back : (part : Part) (own : Words) → IsFieldPart kinds.Location part → HasWords kinds.Location part own → AreFieldWords kinds.Location own (part_octets part)
-  location_back (OctetsPart octets) own field words = location_read laws.unique laws.locations_split laws.locations octets words.0 own field.2 words.2 words.1
+  location_back (OctetsPart octets) own field words = location_read laws.lists.locations laws.reading.locations octets words.0 own field.2 words.2 words.1
   location_back (CompressibleName name) own field words = absurd field.0
   location_back (UncompressedPart lowered name) own field words = absurd field.0
 
   pub gateway_back : (part : Part) (own : Words) → IsFieldPart kinds.GatewayAndKey part → HasWords kinds.GatewayAndKey part own → AreFieldWords kinds.GatewayAndKey own (part_octets part)
-  gateway_back (OctetsPart octets) own field words = gateway_read laws.ipv4 laws.ipv6 laws.unique own words.0 words.2 laws.gateways_split laws.gateways octets field.2 words.1
+  gateway_back (OctetsPart octets) own field words = gateway_read laws.reading.ipv4 laws.reading.ipv6 own words.0 words.2 laws.lists.gateways laws.reading.gateways octets field.2 words.1
   gateway_back (CompressibleName name) own field words = absurd (cc (field.0.1))
   gateway_back (UncompressedPart lowered name) own field words = absurd (cc (field.0.1))
 
   pub relay_back : (part : Part) (own : Words) → IsFieldPart kinds.Relay part → HasWords kinds.Relay part own → AreFieldWords kinds.Relay own (part_octets part)
-  relay_back (OctetsPart octets) own field words = relay_read laws.ipv4 laws.ipv6 laws.unique own words.0 words.2 laws.relays_split laws.relays octets field.2 words.1
+  relay_back (OctetsPart octets) own field words = relay_read laws.reading.ipv4 laws.reading.ipv6 own words.0 words.2 laws.lists.relays laws.reading.relays octets field.2 words.1
   relay_back (CompressibleName name) own field words = absurd (cc (field.0.1))
   relay_back (UncompressedPart lowered name) own field words = absurd (cc (field.0.1))
 
   pub identity_back : (part : Part) (own : Words) → IsFieldPart kinds.HostIdentity part → HasWords kinds.HostIdentity part own → AreFieldWords kinds.HostIdentity own (part_octets part)
-  identity_back (OctetsPart octets) own field words = identity_read laws.unique laws.identities_split laws.identities own words.0 words.2 octets field.2 words.1
+  identity_back (OctetsPart octets) own field words = identity_read laws.lists.identities laws.reading.identities own words.0 words.2 octets field.2 words.1
   identity_back (CompressibleName name) own field words = absurd (cc (field.0.1))
   identity_back (UncompressedPart lowered name) own field words = absurd (cc (field.0.1))
 

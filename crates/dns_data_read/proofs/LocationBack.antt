@@ -11,8 +11,8 @@ use Rattle.dns_value_text.specs.Locations.{altitude_text, metres_text, middle, s
 use Rattle.dns_value_text.specs.Time.{two_digits}
 use Rattle.dns_fields_text.specs.Separated.{spaced}
 use Rattle.dns_line_words.specs.LineWords.{AreWordsOf, texts}
-use Rattle.dns_line_words.specs.Laws.{WordsAreUnique}
 use Rattle.dns_line_words.specs.LocationLaws.{FitsLocation, LocationsSplit, location_words}
+use Rattle.dns_line_words.proofs.LineLemmas.{one_list}
 use Rattle.dns_fields_read.specs.Laws.{LocationsReadBack}
 use Rattle.dns_fields_read.specs.LocationWords.{IsLocation}
 use Rattle.dns_fields_read.specs.PrintedWords.{HasNoSpace}
@@ -134,13 +134,13 @@ location_fits (version ∷ size ∷ horizontal ∷ vertical ∷ a ∷ b ∷ c �
     is
 location_fits octets item bytes is = absurd (cc is)
 
-module _ (unique : WordsAreUnique) (split : LocationsSplit) (read : LocationsReadBack) (octets text : List ℕ) (own : Words) (bytes : IsBytes octets) (are : AreWordsOf text (texts own)) where
+module _ (split : LocationsSplit) (read : LocationsReadBack) (octets text : List ℕ) (own : Words) (bytes : IsBytes octets) (are : AreWordsOf text (texts own)) where
   by_location : (o : Option LocationItem) → location_of octets ≡ o → option_map location_text o ≡ Some text → IsLocation own octets
   by_location None found e = absurd (cc e)
   by_location (Some item) found e =
       let fits = location_fits octets item bytes found in
       let whole : location_text item ≡ text = cc e in
-      let same : texts own ≡ location_words item = unique text (texts own) (location_words item) are (subst (λ (xs : List ℕ). AreWordsOf xs (location_words item)) whole (split item fits)) in
+      let same : texts own ≡ location_words item = one_list text (texts own) (location_words item) are (subst (λ (xs : List ℕ). AreWordsOf xs (location_words item)) whole (split item fits)) in
       let clear = All-from_recursion HasNoSpace (location_words item) (location_clear item fits) in
       read own octets item bytes found (ap spaced same ∙ text_is item) (own_clear own (subst (λ (words : List (List ℕ)). All HasNoSpace words) (sym same) clear))
 

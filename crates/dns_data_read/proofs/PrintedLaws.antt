@@ -1,12 +1,12 @@
--- The laws of values and of their words that are cited here.
+-- The laws of what is printed that are cited here.
 use Rattle.dns_value_text.specs.Laws.{Base64ReadsBack, HexReadsBack}
-use Rattle.dns_fields_read.specs.Laws.{EuiReadsBack, HashesReadBack, Ipv6ReadsBack, LocatorsReadBack, NamesReadBack, SaltsReadBack, StringsReadBack, TypesReadBack}
-use Rattle.dns_line_words.specs.Laws.{Base64IsWord, EuiAreWords, HashesAreWords, HexIsWord, Ipv4IsWord, Ipv6IsWord, LocatorsAreWords, NamesAreWords, NumbersAreWords, SaltsAreWords, StringsAreWords, TagsAreWords, TimesAreWords, TypesAreWords, WordsAreUnique}
-use Rattle.dns_line_words.specs.ListLaws.{SizedSplit, StringsSplit}
+use Rattle.dns_fields_read.specs.Laws.{EuiReadsBack, GatewaysReadBack, HashesReadBack, IdentitiesReadBack, Ipv4ReadsBack, Ipv6ReadsBack, LocationsReadBack, LocatorsReadBack, NamesReadBack, ParametersReadBack, PrefixFieldsReadBack, RelaysReadBack, SaltsReadBack, SmallTypeMapsReadBack, StringsReadBack, TypeMapsReadBack, TypesReadBack}
+use Rattle.dns_line_words.specs.Laws.{Base64IsWord, EuiAreWords, HashesAreWords, HexIsWord, Ipv4IsWord, Ipv6IsWord, LocatorsAreWords, NamesAreWords, NumbersAreWords, SaltsAreWords, StringsAreWords, TagsAreWords, TimesAreWords, TypesAreWords}
+use Rattle.dns_line_words.specs.ListLaws.{GatewaysSplit, IdentitiesSplit, ParametersSplit, PrefixesSplit, RelaysSplit, SizedSplit, StringsSplit, TypesSplit}
+use Rattle.dns_line_words.specs.LocationLaws.{LocationsSplit}
 
--- what is printed is these words
+-- a value is one word
 pub record WordLaws : Type 0 where
-  pub unique : WordsAreUnique
   pub numbers : NumbersAreWords
   pub types : TypesAreWords
   pub times : TimesAreWords
@@ -21,22 +21,42 @@ pub record WordLaws : Type 0 where
   pub eui : EuiAreWords
   pub hexadecimal : HexIsWord
   pub base64 : Base64IsWord
-  pub sized : SizedSplit
-  pub string_lists : StringsSplit
 
--- what is printed reads back
+-- a list of values is these words
+pub record ListLaws : Type 0 where
+  pub sized : SizedSplit
+  pub strings : StringsSplit
+  pub types : TypesSplit
+  pub parameters : ParametersSplit
+  pub prefixes : PrefixesSplit
+  pub locations : LocationsSplit
+  pub gateways : GatewaysSplit
+  pub relays : RelaysSplit
+  pub identities : IdentitiesSplit
+
+-- they read back
 pub record ReadingLaws : Type 0 where
   pub types : TypesReadBack
   pub names : NamesReadBack
   pub strings : StringsReadBack
   pub salts : SaltsReadBack
   pub hashes : HashesReadBack
+  pub ipv4 : Ipv4ReadsBack
   pub ipv6 : Ipv6ReadsBack
   pub locators : LocatorsReadBack
   pub eui : EuiReadsBack
   pub hexadecimal : HexReadsBack
   pub base64 : Base64ReadsBack
+  pub type_maps : TypeMapsReadBack
+  pub small_type_maps : SmallTypeMapsReadBack
+  pub parameters : ParametersReadBack
+  pub prefixes : PrefixFieldsReadBack
+  pub locations : LocationsReadBack
+  pub gateways : GatewaysReadBack
+  pub relays : RelaysReadBack
+  pub identities : IdentitiesReadBack
 
 pub record PrintedLaws : Type 0 where
   pub words : WordLaws
+  pub lists : ListLaws
   pub reading : ReadingLaws

@@ -27,15 +27,13 @@ use Rattle.dns_data_read.proofs.MarkedWords.{number_differs, type_differs}
 use Rattle.dns_data_read.proofs.NumberOctets.{number_octets, number_small}
 use Rattle.dns_data_read.proofs.OctetLemmas.{labels_of_octets}
 use Rattle.dns_data_read.proofs.PrintedLaws.{PrintedLaws}
+use Rattle.dns_data_read.proofs.PrintedTexts.{some_same}
 use Rattle.dns_data_read.proofs.Unmarked.{Unmarked, colon_hex_unmarked, dotted_unmarked, eui_unmarked, hash_unmarked, locator_unmarked, name_unmarked, quoted_unmarked, salt_unmarked, tag_unmarked, time_unmarked}
 
 pub record Printed (Represents : List ℕ → List ℕ → Type 0) (octets text : List ℕ) : Type 0 where
   pub is_word : IsWord text
   pub reads : Represents text octets
   pub unmarked : Unmarked text
-
-pub some_same : {A : Type 0} (x y : A) → Some x ≡ Some y → x ≡ y
-some_same x y e = cc
 
 pub as_text : (Represents : List ℕ → List ℕ → Type 0) (octets word text : List ℕ) → Some word ≡ Some text → Printed Represents octets word → Printed Represents octets text
 as_text Represents octets word text e printed = subst (λ (t : List ℕ). Printed Represents octets t) (some_same word text e) printed

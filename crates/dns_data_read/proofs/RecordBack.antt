@@ -16,9 +16,9 @@ use Rattle.dns_fields_text.specs.DataTexts.{data_line}
 use Rattle.dns_fields_text.specs.RecordLines.{record_text}
 use Rattle.dns_fields_text.specs.TypeNames.{type_word}
 use Rattle.dns_fields_text.specs.ZoneNames.{zone_name_text}
-use Rattle.dns_line_words.specs.Laws.{WordsAreUnique}
 use Rattle.dns_line_words.specs.LineWords.{AreWordsOf, texts}
 use Rattle.dns_line_words.specs.ListLaws.{RecordsSplit}
+use Rattle.dns_line_words.proofs.LineLemmas.{one_list}
 use Rattle.dns_data_read.specs.FieldWords.{Words}
 use Rattle.dns_data_read.specs.Laws.{DataReadsBack, HasOctets, RecordsReadBack}
 use Rattle.dns_data_read.specs.RecordWords.{AreHeadWords}
@@ -65,10 +65,10 @@ module _ (types : TypesReadBack) (names : NamesReadBack) where
         cc,
       )
 
-  pub record_back : WordsAreUnique → RecordsSplit → LinesSplit → DataReadsBack → RecordsReadBack
-  record_back unique split lines rdata owner class ttl fields words is bytes c t r octets printed =
+  pub record_back : RecordsSplit → LinesSplit → DataReadsBack → RecordsReadBack
+  record_back split lines rdata owner class ttl fields words is bytes c t r octets printed =
       let line = lines fields octets in
       let own = split owner ttl class (rtype_of fields) (data_line fields) line.0 is t c r line.1 in
-      let same = unique (record_text (zone_name_text owner) ttl class (rtype_of fields) (data_line fields)) _ (texts words) own printed in
+      let same = one_list (record_text (zone_name_text owner) ttl class (rtype_of fields) (data_line fields)) _ (texts words) own printed in
       let parts = head_back owner ttl class (rtype_of fields) words line.0 is bytes t c r same in
       record { head = parts.0; value = rdata fields (drop 4 words) octets (subst (λ (value : List (List ℕ)). AreWordsOf (data_line fields) value) parts.1 line.1) }

@@ -1,8 +1,6 @@
 -- The words of the text of one field represent its octets, and the first word isn't `\#`: fields of one word, sized octets, character strings, and octets in hexadecimal and in base64.
-use Rattle.std.proofs.Common.{◌≡◌, ◌≢◌, ◌∙◌, ℕ, suc, ◌/◌, ◌%◌, ◌<◌, ◌^◌, true, false, Some, List, [], ◌∷◌, ◌++◌, length, decimal, refl, sym, subst, arith, append-nil}
+use Rattle.std.proofs.Common.{◌≡◌, ◌≢◌, ◌∙◌, ℕ, suc, ◌/◌, ◌%◌, ◌<◌, true, false, Some, List, [], ◌∷◌, ◌++◌, length, decimal, refl, sym, subst, arith, append-nil}
 use Rattle.std.specs.Prelude.{map}
-use Rattle.std.specs.Net.Grammar.{IsNumber}
-use Rattle.std.proofs.lemmas.Fmt.{decimal_is_IsNumeral}
 use Rattle.base64.specs.Engines.{standard}
 use Rattle.base64.specs.GeneralPurpose.{encode_of}
 use Rattle.hex.specs.Hex.{IsBytes}
@@ -23,6 +21,7 @@ use Rattle.dns_fields_read.specs.SizedWords.{AreSized, IsSizedWords, sized}
 use Rattle.dns_line_words.specs.LineWords.{AreWordsOf, IsWord, texts}
 use Rattle.dns_line_words.specs.LineWords.AreWordsOf.{none, more}
 use Rattle.dns_line_words.specs.ListLaws.{word_of_any}
+use Rattle.dns_line_words.proofs.LineLemmas.{one_list}
 use Rattle.dns_data_read.specs.DataWords.{IsMarked}
 use Rattle.dns_data_read.specs.Extents.{extent_of}
 use Rattle.dns_data_read.specs.FieldWords.{AreFieldWords, IsFieldWord, IsOne, Words}
@@ -30,8 +29,10 @@ use Rattle.dns_data_read.specs.declared.extent.Extent.TheVariants.{One}
 use Rattle.dns_data_read.proofs.FieldPart.{HasWords, IsFieldPart}
 use Rattle.dns_data_read.proofs.FieldShapes.{of_counted, of_fixed, of_name, of_rest, of_sized, of_uncompressed}
 use Rattle.dns_data_read.proofs.MarkedWords.{number_differs}
+use Rattle.dns_data_read.proofs.OpaqueBack.{number_back}
 use Rattle.dns_data_read.proofs.PrintedLaws.{PrintedLaws}
-use Rattle.dns_data_read.proofs.PrintedValues.{Printed, any_is, eui_printed, hash_printed, ipv4_printed, ipv6_printed, locator_printed, name_printed, number_printed, salt_printed, some_same, string_printed, tag_printed, text_printed, time_printed, type_printed}
+use Rattle.dns_data_read.proofs.PrintedTexts.{some_same}
+use Rattle.dns_data_read.proofs.PrintedValues.{Printed, any_is, eui_printed, hash_printed, ipv4_printed, ipv6_printed, locator_printed, name_printed, number_printed, salt_printed, string_printed, tag_printed, text_printed, time_printed, type_printed}
 use Rattle.dns_data_read.proofs.StringLists.{first_quoted, string_list_back}
 use Rattle.dns_data_read.proofs.Unmarked.{Unmarked, base64_unmarked as base64_text_unmarked, hex_unmarked, quoted_unmarked}
 
@@ -119,7 +120,7 @@ module _ (laws : PrintedLaws) where
 
   -- a field of one word
   own_word : (own : Words) (text : List ℕ) → AreWordsOf text (texts own) → IsWord text → texts own ≡ text ∷ []
-  own_word own text are word = laws.words.unique text (texts own) (text ∷ []) are (word_alone text word)
+  own_word own text are word = one_list text (texts own) (text ∷ []) are (word_alone text word)
 
   pub word_back : (kind : Kind) (part : Part) (own : Words) → extent_of kind ≡ One → IsFieldPart kind part → HasWords kind part own → IsOne (IsFieldWord kind) own (part_octets part)
   word_back kind part own one is has =
@@ -132,19 +133,16 @@ module _ (laws : PrintedLaws) where
       first_unmarked own has.0 [] (own_word own has.0 has.2 printed.is_word) printed.unmarked after
 
   -- sized octets
-  number_is : (n : ℕ) (word : List ℕ) → n < 2 ^ 64 → decimal n ≡ word → IsNumber 10 word n
-  number_is n word small e = subst (λ (w : List ℕ). IsNumber 10 w n) e (let numeral = decimal_is_IsNumeral n small in (numeral.0, numeral.1))
-
   are_sized : (octets : List ℕ) (own : Words) → IsBytes octets → length octets < 65536 → texts own ≡ decimal (length octets) ∷ word_of_any (encode_of standard) octets → AreSized own octets
   are_sized [] [] bytes few e = absurd (cc e)
-  are_sized [] (number ∷ []) bytes few e = let same : decimal 0 ≡ number.now = cc e in (number_is 0 number.now (omega arith) same, refl)
+  are_sized [] (number ∷ []) bytes few e = let same : decimal 0 ≡ number.now = cc e in (number_back 0 number.now (omega arith) same, refl)
   are_sized [] (number ∷ word ∷ own) bytes few e = absurd (cc e)
   are_sized (o ∷ octets) [] bytes few e = absurd (cc e)
   are_sized (o ∷ octets) (number ∷ []) bytes few e = absurd (cc e)
   are_sized (o ∷ octets) (number ∷ word ∷ []) bytes few e =
       let first : decimal (length (o ∷ octets)) ≡ number.now = cc e in
       let second : encode_of standard (o ∷ octets) ≡ word.now = cc e in (
-        number_is (length (o ∷ octets)) number.now (omega (arith, few)) first,
+        number_back (length (o ∷ octets)) number.now (omega (arith, few)) first,
         (subst (λ (w : List ℕ). IsBase64 w (o ∷ octets)) second (laws.reading.base64 (o ∷ octets) bytes), omega arith, few),
       )
   are_sized (o ∷ octets) (number ∷ word ∷ next ∷ own) bytes few e = absurd (cc e)
@@ -167,8 +165,8 @@ module _ (laws : PrintedLaws) where
         λ i. bytes (suc (suc i)),
         omega arith,
         λ i. first i ∷ second i ∷ octets,
-        laws.words.unique has.0 (texts own) (decimal (length octets) ∷ word_of_any (encode_of standard) octets) has.2
-            (subst (λ (t : List ℕ). AreWordsOf t (decimal (length octets) ∷ word_of_any (encode_of standard) octets)) text (laws.words.sized octets (omega arith))),
+        one_list has.0 (texts own) (decimal (length octets) ∷ word_of_any (encode_of standard) octets) has.2
+            (subst (λ (t : List ℕ). AreWordsOf t (decimal (length octets) ∷ word_of_any (encode_of standard) octets)) text (laws.lists.sized octets (omega arith))),
       ))
       part is.0 is.2 has
 
@@ -181,7 +179,7 @@ module _ (laws : PrintedLaws) where
   sized_unmarked part own is has =
       let own_part = sized_part part own is has in
       let few = own_part.2 in
-      first_unmarked own (decimal (length own_part.0)) (word_of_any (encode_of standard) own_part.0) own_part.4 (number_differs (decimal (length own_part.0)) (length own_part.0) (number_is (length own_part.0) (decimal (length own_part.0)) (omega (arith, few)) refl))
+      first_unmarked own (decimal (length own_part.0)) (word_of_any (encode_of standard) own_part.0) own_part.4 (number_differs (decimal (length own_part.0)) (length own_part.0) (number_back (length own_part.0) (decimal (length own_part.0)) (omega (arith, few)) refl))
 
   -- character strings
   abbrev StringsPart : Words → Part → Type 0
@@ -195,8 +193,8 @@ module _ (laws : PrintedLaws) where
       (λ octets are bytes has.
       let text = some_same (strings_text octets) has.0 has.1 in (
         are,
-        laws.words.unique has.0 (texts own) (map quoted (strings_of octets)) has.2
-            (subst (λ (t : List ℕ). AreWordsOf t (map quoted (strings_of octets))) text (laws.words.string_lists octets)),
+        one_list has.0 (texts own) (map quoted (strings_of octets)) has.2
+            (subst (λ (t : List ℕ). AreWordsOf t (map quoted (strings_of octets))) text (laws.lists.strings octets)),
       ))
       part is.0 is.2 has
 

@@ -7,9 +7,7 @@ ghost use Rattle.dns_data_read.specs.RecordWords.{IsRecordText};
 
 use dns_fields_read::laws::printed_fields_read_back;
 use dns_fields_text::laws::fields_are_all;
-use dns_line_words::laws::{
-    printed_fields_split, printed_lists_split, printed_values_are_words, words_are_unique,
-};
+use dns_line_words::laws::{printed_fields_split, printed_lists_split, printed_values_are_words};
 use dns_value_text::laws::printed_values_read_back;
 
 /// The octets of RDATA that is read of octets are octets.
@@ -23,7 +21,6 @@ pub fn printed_data_reads_back()
     ensures rdata { DataReadsBack }
     ensures records { RecordsReadBack }
 {
-    words_are_unique();
     printed_values_are_words();
     printed_lists_split();
     printed_fields_split();

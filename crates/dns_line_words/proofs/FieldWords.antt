@@ -136,13 +136,13 @@ blocks_below (block ∷ blocks) all =
     All-append (λ n. n < 2 ^ 16) (octet_types block.first block.octets) (flat_map (λ block. octet_types block.first block.octets) blocks)
     (octets_below block.octets block.first (2 ^ 16) (All-head IsBlock block blocks all)) (blocks_below blocks (All-tail IsBlock block blocks all))
 
-map_below : (octets : List ℕ) → IsBytes octets → All (λ n. n < 2 ^ 16) (map_types octets)
+pub map_below : (octets : List ℕ) → IsBytes octets → All (λ n. n < 2 ^ 16) (map_types octets)
 map_below octets bytes = blocks_below (items_of block_at octets) (items_all IsBlock IsBytes block_at block_steps (length octets) octets bytes)
 
 types_has : (types : List ℕ) → All (λ n. n < 2 ^ 16) types → HasText true (types_text types)
 types_has types all = (map type_word types, types_split types all, items_end type_word types)
 
-small_below : (octets : List ℕ) → is_small_map octets ≡ true → All (λ n. n < 2 ^ 16) (octet_types 0 octets)
+pub small_below : (octets : List ℕ) → is_small_map octets ≡ true → All (λ n. n < 2 ^ 16) (octet_types 0 octets)
 small_below [] h = All-nil (λ n. n < 2 ^ 16)
 small_below (octet ∷ octets) h = octets_below (octet ∷ octets) 0 (2 ^ 16) (few (nat_lt octet 128) (nat_lt (length octets) 16) _ refl h) where
   few : (a b c : Bool) → nat_lt (length octets) 16 ≡ b → a && b && c ≡ true → 0 + 8 * length (octet ∷ octets) ≤ 2 ^ 16

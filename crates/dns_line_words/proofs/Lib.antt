@@ -1,8 +1,8 @@
 mod DataWords
-mod FieldWords
+pub mod FieldWords
 mod GatewayTexts
 mod Ipv6Texts
-mod LineLemmas
+pub mod LineLemmas
 mod ListTexts
 mod LocationTexts
 mod ParameterTexts
