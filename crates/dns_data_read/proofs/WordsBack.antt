@@ -19,7 +19,7 @@ use Rattle.dns_fields_text.specs.Strings.{strings_of}
 use Rattle.dns_fields_read.specs.JoinedWords.{joined}
 use Rattle.dns_fields_read.specs.SizedWords.{AreSized, IsSizedWords, sized}
 use Rattle.dns_line_words.specs.LineWords.{AreWordsOf, IsWord, texts}
-use Rattle.dns_line_words.specs.LineWords.AreWordsOf.{none, more}
+use Rattle.dns_line_words.specs.LineWords.AreWordsWithin.{none, more}
 use Rattle.dns_line_words.specs.ListLaws.{word_of_any}
 use Rattle.dns_line_words.proofs.LineLemmas.{one_list}
 use Rattle.dns_data_read.specs.DataWords.{IsMarked}
