@@ -304,12 +304,3 @@ skip_comment left after some is e =
       shorter = short;
       fits = omega (arith, short);
     }
-
--- nothing is left to skip
-pub no_blank : (depth : ℕ) (text : List ℕ) → ends_word (get_or text 0 0) ≡ false → BeginsNoBlank depth text
-no_blank depth [] h = tt
-no_blank depth (c ∷ text) h = inl h
-
-pub nothing_to_close : (depth : ℕ) (text : List ℕ) → get_or text 0 0 ≡ right_parenthesis → depth ≡ 0 → BeginsNoBlank depth text
-nothing_to_close depth [] h shut = tt
-nothing_to_close depth (c ∷ text) h shut = inr (h, shut)

@@ -119,7 +119,8 @@ pub fn split_words<'a>(alloc: Global, line: &'a str) -> Result<Vec<&'a str>, Tex
         });
     }
     if left.depth > 0 {
-        return Err(TextError::BadWord);
+        Err(TextError::BadWord)
+    } else {
+        Ok(words)
     }
-    Ok(words)
 }
