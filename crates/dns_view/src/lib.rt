@@ -8,6 +8,7 @@
 //! prints all rows of the message in its input. The words for what a row means are only tested.
 #![tactic(auto)]
 
+mod brief;
 mod codes;
 mod html;
 mod joined;
@@ -20,6 +21,7 @@ mod rdata;
 mod request;
 mod summary;
 mod text;
+mod words;
 
 pub use dns_rows::{Fault, Field, Kind, NameOf, Part, Row, rows};
 pub use html::print_page;
