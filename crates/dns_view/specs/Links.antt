@@ -30,6 +30,6 @@ JoinedRowsKeepOctets = (large : Bool) (message : List ℕ) (rows : List Row) →
 abbrev pub JoinedRowsTile : Type 0
 JoinedRowsTile = (large : Bool) (rows : List Row) (start end : ℕ) → Tiles rows start end → Tiles (joined large rows) start end
 
--- on the page of a large message, the words for a row take at most 32 octets, and ten for each octet of the row
+-- on the page of a large message, the words for a row take at most 27 octets, and nine for each octet of the row
 abbrev pub WordsAreBounded : Type 0
 WordsAreBounded = (message : List ℕ) (row : Row) (words : List ℕ) → is_large message ≡ true → length (words_text message row words) ≤ words_limit (row_octets message row)

@@ -133,9 +133,9 @@ heading_row_text row words = (if is_item row.kind then codes "<b>" else codes "<
 abbrev pub field_link_text : Row → List ℕ
 field_link_text row = codes "<a id=" ++ row_id row ++ codes " href=#" ++ cell_id row ++ codes ">"
 
--- how many octets the words for some octets of a large message may take: 32, and ten for each octet
+-- how many octets the words for some octets of a large message may take: 27, and nine for each octet
 abbrev pub words_limit : List ℕ → ℕ
-words_limit octets = 10 * length octets + 32
+words_limit octets = 9 * length octets + 27
 
 -- the words for a row of the list, which are cut off on the page of a large message if they are long
 abbrev pub words_text : List ℕ → Row → List ℕ → List ℕ

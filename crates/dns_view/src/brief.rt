@@ -6,15 +6,15 @@ ghost use Rattle.dns_view.specs.Pages.{escaped_octet, front_within, words_limit}
 pub(crate) const ELLIPSIS_LEN: u128 = 3;
 
 /// The octets that the words for a row of a large message may always take.
-const LIMIT: u128 = 32;
+const LIMIT: u128 = 27;
 
 /// The octets that they may also take for each octet of the row.
-const LIMIT_PER_OCTET: u128 = 10;
+const LIMIT_PER_OCTET: u128 = 9;
 
 /// How many octets the words for some octets of a large message may take.
 ///
-/// With ten for each octet, and as all rows of a question share a line, the page of a message of
-/// 64 KiB has at most forty times its octets.
+/// Questions for pointers after two labels of one octet need most octets of a page for theirs: with
+/// these limits 39.5 for each.
 pub(crate) fn words_limit(octets: &[u8]) -> u128
     ensures { result ≡ words_limit octets.now }
 {

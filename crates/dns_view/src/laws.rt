@@ -14,7 +14,7 @@ pub fn joined_rows_are_all()
     ensures tiles { JoinedRowsTile }
 {}
 
-/// On the page of a large message, the words for a row take at most 32 octets, and ten for each
+/// On the page of a large message, the words for a row take at most 27 octets, and nine for each
 /// octet of the row.
 pub fn words_are_bounded()
     ensures { WordsAreBounded }

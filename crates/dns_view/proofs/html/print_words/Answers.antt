@@ -1,4 +1,4 @@
-use Rattle.std.proofs.Common.{◌∙◌, Bool, ℕ, List, ap, sym}
+use Rattle.std.proofs.Common.{◌∙◌, Bool, ℕ, ap, sym}
 use Rattle.std.specs.Prelude.{if◌then◌else◌}
 use Rattle.dns_rows.specs.Rows.{row_octets}
 use Rattle.dns_view.specs.Pages.{escaped, escaped_within, words_limit}
