@@ -2,8 +2,7 @@
 use Rattle.std.proofs.Common.{◌≡◌, ℕ, ◌+◌, ◌-◌, ◌≤◌, Bool, true, false, List, [], ◌∷◌, length, nat_lt, ap, refl, arith, length-append}
 use Rattle.std.specs.Prelude.{if◌then◌else◌}
 use Rattle.std.proofs.lemmas.Bool.{ltb-false}
-use Rattle.dns_view.specs.Joined.{is_large}
-use Rattle.dns_view.specs.Pages.{ellipsis_text, escaped, escaped_octet, escaped_within, front_within, words_limit, words_text}
+use Rattle.dns_view.specs.Pages.{ellipsis_text, escaped, escaped_octet, escaped_within, front_within, limits_words, words_limit, words_text}
 use Rattle.dns_rows.specs.Rows.{row_octets}
 use Rattle.dns_rows.specs.declared.row.Row.{Row}
 
@@ -31,8 +30,8 @@ within_limit limit text some =
     let cut = nat_lt (length front) (length text) in
     omega (arith, length-append (escaped front) (ellipsis_text cut), front_small limit text some, ellipsis_small cut)
 
-pub words_bounded : (message : List ℕ) (row : Row) (words : List ℕ) → is_large message ≡ true → length (words_text message row words) ≤ words_limit (row_octets message row)
-words_bounded message row words large =
+pub words_bounded : (message : List ℕ) (row : Row) (words : List ℕ) → limits_words message row ≡ true → length (words_text message row words) ≤ words_limit (row_octets message row)
+words_bounded message row words limited =
     let limit = words_limit (row_octets message row) in
-    let text : words_text message row words ≡ escaped_within limit words = ap (λ (b : Bool). if b then escaped_within limit words else escaped words) large in
+    let text : words_text message row words ≡ escaped_within limit words = ap (λ (b : Bool). if b then escaped_within limit words else escaped words) limited in
     omega (arith, within_limit limit words (omega arith), ap length text)

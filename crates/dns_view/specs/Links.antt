@@ -4,7 +4,7 @@ use Rattle.dns_rows.specs.Rows.{row_octets}
 use Rattle.dns_rows.specs.Tiles.{Tiles}
 use Rattle.dns_rows.specs.declared.row.Row.{Row}
 use Rattle.dns_view.specs.Joined.{is_large, joined}
-use Rattle.dns_view.specs.Pages.{cell_id, row_id, words_limit, words_text}
+use Rattle.dns_view.specs.Pages.{cell_id, limits_words, row_id, words_limit, words_text}
 
 -- whether a row has octets in a message
 abbrev pub has_octets : List ℕ → Row → Bool
@@ -30,6 +30,6 @@ JoinedRowsKeepOctets = (large : Bool) (message : List ℕ) (rows : List Row) →
 abbrev pub JoinedRowsTile : Type 0
 JoinedRowsTile = (large : Bool) (rows : List Row) (start end : ℕ) → Tiles rows start end → Tiles (joined large rows) start end
 
--- on the page of a large message, the words for a row take at most 27 octets, and nine for each octet of the row
+-- the words for a row of a large message, after its header section, take at most 27 octets and nine for each octet of the row, or 60
 abbrev pub WordsAreBounded : Type 0
-WordsAreBounded = (message : List ℕ) (row : Row) (words : List ℕ) → is_large message ≡ true → length (words_text message row words) ≤ words_limit (row_octets message row)
+WordsAreBounded = (message : List ℕ) (row : Row) (words : List ℕ) → limits_words message row ≡ true → length (words_text message row words) ≤ words_limit (row_octets message row)

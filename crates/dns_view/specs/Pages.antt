@@ -1,6 +1,7 @@
 -- What `print_page` prints for rows. The words for their meanings, and those of the title, are left open.
-use Rattle.std.specs.Prelude.{◌≡◌, ℕ, ◌+◌, ◌-◌, ◌*◌, ◌/◌, ◌%◌, ◌==◌, nat_lt, take, Bool, if◌then◌else◌, List, [], ◌∷◌, ◌++◌, length, count_by, codes, decimal}
+use Rattle.std.specs.Prelude.{◌≡◌, ℕ, ◌+◌, ◌-◌, ◌*◌, ◌/◌, ◌%◌, ◌==◌, ◌&&◌, nat_le, nat_lt, max, take, Bool, if◌then◌else◌, List, [], ◌∷◌, ◌++◌, length, count_by, codes, decimal}
 use Rattle.std.specs.List.{concat, enumerate_from, flat_map, AllZip}
+use Rattle.dns_message.specs.Headers.{header_size}
 use Rattle.dns_rows.specs.Rows.{is_item, is_pointer, row_octets, target_in}
 use Rattle.dns_view.specs.Digits.{hexadecimal, octet_text}
 use Rattle.dns_view.specs.Joined.{is_large, joined}
@@ -133,13 +134,17 @@ heading_row_text row words = (if is_item row.kind then codes "<b>" else codes "<
 abbrev pub field_link_text : Row → List ℕ
 field_link_text row = codes "<a id=" ++ row_id row ++ codes " href=#" ++ cell_id row ++ codes ">"
 
--- how many octets the words for some octets of a large message may take: 27, and nine for each octet
-abbrev pub words_limit : List ℕ → ℕ
-words_limit octets = 9 * length octets + 27
+-- whether the words for a row are cut off if they are long: after the header section of a large message
+abbrev pub limits_words : List ℕ → Row → Bool
+limits_words message row = is_large message && nat_le header_size row.start
 
--- the words for a row of the list, which are cut off on the page of a large message if they are long
+-- how many octets the words for some octets may take: 27, and nine for each octet, but at least 60
+abbrev pub words_limit : List ℕ → ℕ
+words_limit octets = max 60 (9 * length octets + 27)
+
+-- the words for a row of the list
 abbrev pub words_text : List ℕ → Row → List ℕ → List ℕ
-words_text message row words = if is_large message then escaped_within (words_limit (row_octets message row)) words else escaped words
+words_text message row words = if limits_words message row then escaped_within (words_limit (row_octets message row)) words else escaped words
 
 -- any other row of the list: the link, with its octets and words
 abbrev pub field_row_text : List ℕ → Row → List ℕ → List ℕ

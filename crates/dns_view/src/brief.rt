@@ -1,24 +1,41 @@
 //! How much of a text fits into a number of octets with its markup characters escaped.
 ghost use Rattle.std.specs.Prelude.{◌≡◌, ◌≤◌, length};
-ghost use Rattle.dns_view.specs.Pages.{escaped_octet, front_within, words_limit};
+ghost use Rattle.dns_view.specs.Pages.{escaped_octet, front_within, limits_words, words_limit};
+
+use crate::joined::is_large;
+use dns_rows::Row;
 
 /// The octets of `...`, which stands for what is left out.
 pub(crate) const ELLIPSIS_LEN: u128 = 3;
 
-/// The octets that the words for a row of a large message may always take.
+/// The octets of a header section.
+const HEADER_SECTION_LEN: usize = 12;
+
+/// The octets that the words for a row may take at least, if they are limited.
+const LEAST: u128 = 60;
+
+/// The octets that they may take besides those for each octet of the row.
 const LIMIT: u128 = 27;
 
-/// The octets that they may also take for each octet of the row.
+/// The octets that they may take for each octet of the row.
 const LIMIT_PER_OCTET: u128 = 9;
 
-/// How many octets the words for some octets of a large message may take.
+/// Whether the words for a row are cut off if they are long: after the header section of a large
+/// message.
+pub(crate) fn limits_words(message: &[u8], row: &Row) -> bool
+    ensures { result ≡ limits_words message.now row.now }
+{
+    is_large(message) && row.start >= HEADER_SECTION_LEN
+}
+
+/// How many octets the words for some octets may take.
 ///
-/// Questions for pointers after two labels of one octet need most octets of a page for theirs: with
-/// these limits 39.5 for each.
+/// Questions for pointers after one or two labels of one octet need most octets of a page for
+/// theirs: with these limits 39.6 for each.
 pub(crate) fn words_limit(octets: &[u8]) -> u128
     ensures { result ≡ words_limit octets.now }
 {
-    LIMIT_PER_OCTET * octets.len() as u128 + LIMIT
+    LEAST.max(LIMIT_PER_OCTET * octets.len() as u128 + LIMIT)
 }
 
 /// As much of a text as takes at most `limit` octets with its markup characters escaped and `...`

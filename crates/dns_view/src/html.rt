@@ -7,7 +7,7 @@ ghost use Rattle.dns_view.specs.Joined.{is_large, joined};
 ghost use Rattle.dns_view.specs.Pages.{arrow_text, cell_id, cell_start, cell_text, digits, ellipsis_text, escaped, escaped_octet, escaped_within, field_letter, field_link_text, field_row_text, first_link, heading_row_text, letter_of, line_start, link_text, mark_text, next_link, octet_cells, opening_text, part_start, pointer_count, row_cells, row_text, top_text, words_text, IsListRow, IsPage};
 ghost use Rattle.dns_view.specs.Printed.{Prints, PrintsEach};
 
-use crate::brief::{front_within, words_limit};
+use crate::brief::{front_within, limits_words, words_limit};
 use crate::joined::{OCTETS, is_large, joined};
 use crate::summary::Summary;
 use crate::text::print_octet;
@@ -498,12 +498,12 @@ fn print_field_row<W: Write>(
     writer.write_all(b"</a>")
 }
 
-/// Prints the words for a row, which are cut off on the page of a large message if they are long.
+/// Prints the words for a row, which are cut off if they are long and limited.
 fn print_words<W: Write>(writer: &mut W, message: &[u8], row: &Row, words: &[u8]) -> io::Result<()>
     ensures { OnOk result (Appends (W.contents writer.old) (W.contents writer.new)
         (words_text message.now row.now words.now)) }
 {
-    if is_large(message) {
+    if limits_words(message, row) {
         return print_within(writer, words, words_limit(octets_of(message, row)));
     }
     print_escaped(writer, words)

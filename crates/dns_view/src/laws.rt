@@ -14,8 +14,8 @@ pub fn joined_rows_are_all()
     ensures tiles { JoinedRowsTile }
 {}
 
-/// On the page of a large message, the words for a row take at most 27 octets, and nine for each
-/// octet of the row.
+/// The words for a row of a large message, after its header section, take at most 27 octets and
+/// nine for each octet of the row, or 60.
 pub fn words_are_bounded()
     ensures { WordsAreBounded }
 {}

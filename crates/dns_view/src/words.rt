@@ -1,6 +1,6 @@
 //! The words for a row of a page's list.
-use crate::brief::{ELLIPSIS_LEN, escaped_size, front_within, words_limit};
-use crate::joined::{are_alike, is_large};
+use crate::brief::{ELLIPSIS_LEN, escaped_size, front_within, limits_words, words_limit};
+use crate::joined::are_alike;
 use crate::meaning::Meaning;
 use dns_rows::{Row, octets_of};
 use std::alloc::{AllocError, Global};
@@ -15,7 +15,7 @@ pub(crate) fn words_of(
     line: &Row,
     rows: &[Row],
 ) -> Result<Vec<u8>, AllocError> {
-    if is_large(message) {
+    if limits_words(message, line) {
         return line_words(alloc, message, line, rows);
     }
     meaning_of(alloc, message, line)

@@ -8,49 +8,58 @@ use std::test::Fail;
 
 /// A message that begins with some octets and goes on with others, again and again, and a line of
 /// the list of its page.
-struct Repeated {
+struct Large {
     name: &'static str,
     front: &'static [u8],
     item: &'static [u8],
     line: &'static str,
 }
 
-/// A header with 65,535 questions, and a question for a name of 66 octets, all of which are `&`.
+/// A header with 65,535 questions.
+const QUESTIONS: &[u8] = b"\0\x01\0\0\xff\xff\0\0\0\0\0\0";
+
+/// A question for the root.
+const ROOT: &[u8] = b"\0\0\x01\0\x01";
+
+/// A header with 65,535 questions, and a question for a name of 66 octets, most of which are `&`.
 const LONG_NAME: &[u8] = b"\0\x01\0\0\xff\xff\0\0\0\0\0\0\x20&&&&&&&&&&&&&&&&&&&&&&&&&&&&&&&&\
 \x20&&&&&&&&&&&&&&&&&&&&&&&&&&&&&&&&\0\0\x01\0\x01";
 
-const REPEATED: &[Repeated] = &[
-    Repeated {
+const LARGE: &[Large] = &[
+    Large {
         name: "questions for the root",
-        front: b"\0\x01\0\0\xff\xff\0\0\0\0\0\0",
-        item: b"\0\0\x01\0\x01",
+        front: QUESTIONS,
+        item: ROOT,
         line: "<a id=12 href=#nc>0000010001\tname, root label: ., type A, class IN</a>",
     },
-    Repeated {
+    Large {
         name: "questions that point to a long name",
         front: LONG_NAME,
         item: b"\xc0\x0c\xff\xff\xff\xff",
-        line: "<a id=83 href=#p53>c00cffffffff\tname, pointer to 12: ",
+        line: "<a id=83 href=#p53>c00cffffffff\tname, pointer to 12: \
+&amp;&amp;&amp;&amp;..., type TYPE65535, class CLASS65535</a>",
     },
-    Repeated {
+    Large {
         name: "options without data",
-        front: b"\0\x01\0\0\0\0\0\0\0\0\0\x01\0\0\x29\x04\xd0\0\0\0\0\x4e\x20",
+        front: b"\0\x01\0\0\0\0\0\0\0\0\0\x01\0\0\x29\x04\xd0\0\0\0\0\x3f\xfc",
         item: b"\xff\xff\0\0",
-        line: "",
+        line: "<a id=23 href=#o17>ffff0000\t\
+OPTION65535, option code 65535, OPTION65535, option length 0</a>",
     },
-    Repeated {
+    Large {
         name: "records of labels and pointers",
         front: b"\0\x01\0\0\0\x01\xff\xff\0\0\0\0\x01x\0\0\x06\0\x01",
-        item: b"\xc0\x0c\0\x0e\xff\xff\xff\xff\xff\xff\0\x08\x01&\xc0\x0c\x01&\xc0\x0c",
-        line: "",
+        item: b"\xc0\x0c\0\x0e\0\x01\0\0\0\x3c\0\x08\x01&\xc0\x0c\x01&\xc0\x0c",
+        line: "<a id=33 href=#p21>c00c0126\t\
+responsible mailbox, pointer to 12: ..., error mailbox, labe...</a><a id=37 ",
     },
 ];
 
-/// A message of at least 20,000 octets.
+/// A message of at least 16,400 octets.
 fn repeated(alloc: Global, front: &[u8], item: &[u8]) -> Result<Vec<u8>, Fail> {
     let mut octets = Vec::from_slice(alloc, front)?;
-    for _ in 0..20_000 {
-        if octets.len() >= 20_000 {
+    for _ in 0..16_400 {
+        if octets.len() >= 16_400 {
             break;
         }
         octets.extend_from_slice(item)?;
@@ -58,44 +67,48 @@ fn repeated(alloc: Global, front: &[u8], item: &[u8]) -> Result<Vec<u8>, Fail> {
     Ok(octets)
 }
 
-/// Fails unless the page of a message has the line once, and at most forty times the octets of the
-/// message.
-fn assert_small(rt: &impl Abort, alloc: Global, name: &str, octets: &[u8], line: &str) -> Result<(), Fail> {
+/// The page of a message. Fails unless it has at most forty times the octets of the message.
+fn small_page(rt: &impl Abort, alloc: Global, name: &str, octets: &[u8]) -> Result<String, Fail> {
     let page = page(alloc, octets)?;
-    assert_count(rt, name, &page, line, 1);
     assert_holds(rt, name, page.len() as u128 <= 40 * octets.len() as u128);
-    Ok(())
+    Ok(page)
 }
 
 #[test]
 fn stays_small(rt: HostRuntime) -> Result<(), Fail> {
-    for case in REPEATED {
+    for case in LARGE {
         let octets = repeated(rt.alloc(), case.front, case.item)?;
-        assert_small(&rt, rt.alloc(), case.name, &octets, case.line)?;
+        let page = small_page(&rt, rt.alloc(), case.name, &octets)?;
+        assert_count(&rt, case.name, &page, case.line, 1);
     }
     Ok(())
 }
 
-/// A header with two answers.
-const TWO_ANSWERS: &[u8] = b"\0\x01\x84\0\0\0\0\x02\0\0\0\0";
-
 /// An NSEC record for the root up to its types, which have 8,704 octets.
-const ALL_TYPES: &[u8] = b"\0\0\x2f\0\x01\0\0\0\x3c\x22\x01\0";
+const NSEC: &[u8] = b"\0\0\x2f\0\x01\0\0\0\x3c\x22\x01\0";
 
-/// The line of an NSEC record with all types.
-const TYPES_LINE: &str = "";
+/// The words for the record, where its types begin and where they are cut off.
+const TYPES: &[&str] = &[
+    "\towner, root label: ., type TYPE47, class IN, TTL 60 seconds, data length 8705, \
+next, root label: ., types: TYPE0 A NS ",
+    " TYPE8844 TYPE8845 TY...</a>",
+];
 
 #[test]
 fn cuts_off_types(rt: HostRuntime) -> Result<(), Fail> {
-    let mut octets = Vec::from_slice(rt.alloc(), TWO_ANSWERS)?;
+    let mut octets = Vec::from_slice(rt.alloc(), b"\0\x01\x84\0\0\0\0\x02\0\0\0\0")?;
     for _ in 0..2 {
-        octets.extend_from_slice(ALL_TYPES)?;
+        octets.extend_from_slice(NSEC)?;
         for window in 0..=255 {
             octets.extend_from_slice(&[window, 32])?;
             octets.extend_from_slice(&[255; 32])?;
         }
     }
-    assert_small(&rt, rt.alloc(), "all types", &octets, TYPES_LINE)
+    let page = small_page(&rt, rt.alloc(), "all types", &octets)?;
+    for words in TYPES {
+        assert_count(&rt, words, &page, words, 2);
+    }
+    Ok(())
 }
 
 /// A message of 16,384 octets isn't large.
@@ -103,7 +116,7 @@ fn cuts_off_types(rt: HostRuntime) -> Result<(), Fail> {
 fn is_large_above_16_384_octets(rt: HostRuntime) -> Result<(), Fail> {
     let row = "\tname, root label: .</a><a id=13 ";
     let line = "\tname, root label: ., type A, class IN</a>";
-    let octets = repeated(rt.alloc(), REPEATED[0].front, REPEATED[0].item)?;
+    let octets = repeated(rt.alloc(), QUESTIONS, ROOT)?;
     let small = page(rt.alloc(), octets.get(..16_384).unwrap_or(&[]))?;
     assert_count(&rt, row, &small, row, 1);
     assert_count(&rt, line, &small, line, 0);

@@ -5,19 +5,19 @@ use Rattle.dns_view.specs.Pages.{escaped, escaped_within, words_limit}
 use Rattle.dns_view.proofs.Appended.{printed_same}
 use Rattle.dns_view.proofs.html.print_words.Goals as goal
 
-pub returns-then-is_large : goal.returns-then-is_large
-returns-then-is_large g c =
+pub returns-then-limits_words : goal.returns-then-limits_words
+returns-then-limits_words g c =
     let words = c.args.words.now in
     let octets = row_octets c.args.message.now c.args.row.now in
     let limit = c.words_limit.ensures ∙ ap words_limit c.octets_of.ensures in
-    let large = sym c.if-is_large.true ∙ c.is_large.ensures in
+    let limited = sym c.if-limits_words.true ∙ c.limits_words.ensures in
     printed_same _ _ _ _ c.print_within.result
-    (ap (λ (n : ℕ). escaped_within n words) limit ∙ ap (λ (b : Bool). if b then escaped_within (words_limit octets) words else escaped words) large)
+    (ap (λ (n : ℕ). escaped_within n words) limit ∙ ap (λ (b : Bool). if b then escaped_within (words_limit octets) words else escaped words) limited)
     c.print_within.ensures
 
 pub returns : goal.returns
 returns g c =
     let words = c.args.words.now in
     let octets = row_octets c.args.message.now c.args.row.now in
-    let large = sym c.if-is_large.false ∙ c.is_large.ensures in
-    printed_same _ _ _ _ c.print_escaped.result (ap (λ (b : Bool). if b then escaped_within (words_limit octets) words else escaped words) large) c.print_escaped.ensures
+    let limited = sym c.if-limits_words.false ∙ c.limits_words.ensures in
+    printed_same _ _ _ _ c.print_escaped.result (ap (λ (b : Bool). if b then escaped_within (words_limit octets) words else escaped words) limited) c.print_escaped.ensures
