@@ -118,7 +118,7 @@ fn shows_a_message(rt: HostRuntime) -> Result<(), Fail> {
 }
 
 /// Fails unless the page has the text this number of times.
-pub(crate) fn assert_count(rt: &impl Abort, row: &str, page: &str, text: &str, count: usize) {
+fn assert_count(rt: &impl Abort, row: &str, page: &str, text: &str, count: usize) {
     assert_holds(rt, row, page.split(text).skip(1).count() == count);
 }
 
