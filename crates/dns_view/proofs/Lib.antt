@@ -1,4 +1,5 @@
 mod Appended
+mod Fronts
 mod JoinedOctets
 mod PageIds
 mod PageTexts

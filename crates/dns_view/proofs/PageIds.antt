@@ -15,22 +15,23 @@ use Rattle.dns_rows.specs.declared.row.Row.{Row}
 use Rattle.dns_rows.specs.declared.row.Kind.TheVariants as kinds
 use Rattle.dns_rows.specs.declared.row.Field.TheVariants as fields
 use Rattle.dns_view.specs.Digits.{hexadecimal}
-use Rattle.dns_view.specs.Joined.{joined, joined_from, shares_line}
+use Rattle.dns_view.specs.Joined.{is_large, joined, joined_from, shares_line}
 use Rattle.dns_view.specs.Links.{has_octets, linked_rows, page_ids}
 use Rattle.dns_view.specs.Pages.{cell_id, field_letter, letter_of, row_id}
 
--- a row that begins at `start`, and the rows after it, where those that share a line are one row
-joined_from_tiles : (start end : ℕ) (row : Row) (rows : List Row) → start ≤ row.end → Tiles rows row.end end → Tiles (joined_from start row rows) start end
-joined_from_tiles start end row [] order h = (refl, order, h)
-joined_from_tiles start end row (next ∷ rows) order h =
-    elim (shares_line row next) as (λ (shares : Bool). Tiles (if shares then joined_from start next rows else record row { start = start } ∷ joined_from next.start next rows) start end) [
-      | true ↦ joined_from_tiles start end next rows (omega (arith, order, h.1)) h.2
-      | false ↦ (refl, order, subst (λ n. Tiles (joined_from next.start next rows) n end) h.0 (joined_from_tiles next.start end next rows (omega (arith, h.0, h.1)) h.2))
+-- a line from the row `first` to the row `last`, and the rows after it, where those that share a line are one row
+joined_from_tiles : (large : Bool) (end : ℕ) (first last : Row) (rows : List Row) → first.start ≤ last.end → Tiles rows last.end end → Tiles (joined_from large first last rows) first.start end
+joined_from_tiles large end first last [] order h = (refl, order, h)
+joined_from_tiles large end first last (next ∷ rows) order h =
+    elim (shares_line large last next) as (λ (shares : Bool).
+    Tiles (if shares then joined_from large first next rows else record first { end = last.end } ∷ joined_from large next next rows) first.start end) [
+      | true ↦ joined_from_tiles large end first next rows (omega (arith, order, h.1)) h.2
+      | false ↦ (refl, order, subst (λ n. Tiles (joined_from large next next rows) n end) h.0 (joined_from_tiles large end next next rows (omega (arith, h.0, h.1)) h.2))
     ]
 
-pub joined_tiles : (rows : List Row) (start end : ℕ) → Tiles rows start end → Tiles (joined rows) start end
-joined_tiles [] start end h = h
-joined_tiles (row ∷ rows) start end h = subst (λ n. Tiles (joined_from row.start row rows) n end) h.0 (joined_from_tiles row.start end row rows (omega (arith, h.0, h.1)) h.2)
+pub joined_tiles : (large : Bool) (rows : List Row) (start end : ℕ) → Tiles rows start end → Tiles (joined large rows) start end
+joined_tiles large [] start end h = h
+joined_tiles large (row ∷ rows) start end h = subst (λ n. Tiles (joined_from large row row rows) n end) h.0 (joined_from_tiles large end row row rows (omega (arith, h.0, h.1)) h.2)
 
 -- a text of one letter that is no digit
 abbrev IsLetter : List ℕ → Type 0
@@ -154,8 +155,8 @@ module _ (message : List ℕ) (text_of : Row → List ℕ) (others : List (List 
 
 pub ids_differ : (message : List ℕ) (rows : List Row) → length message < 2 ^ 64 → Tiles rows 0 (length message) → AreDifferent (page_ids message rows)
 ids_differ message rows small h =
-    let lines = joined rows in
-    let tiles = joined_tiles rows 0 (length message) h in
+    let lines = joined (is_large message) rows in
+    let tiles = joined_tiles (is_large message) rows 0 (length message) h in
     let kept = linked_rows message rows in
     let in_list : AreDifferent (map row_id kept) =
     subst AreDifferent (append-nil (map row_id kept)) (texts_differ message row_id [] same_rows (λ row bound. All-nil _) none_differ lines 0 (length message) small tiles) in

@@ -8,7 +8,7 @@ use Rattle.std.specs.Io.KnownBytes.{Appends}
 use Rattle.dns_view.specs.Printed.{Prints, PrintsEach}
 use Rattle.dns_rows.specs.declared.row.Row.{Row}
 use Rattle.dns_view.proofs.Appended.{appends_both, on_ok}
-use Rattle.dns_view.specs.Joined.{joined}
+use Rattle.dns_view.specs.Joined.{is_large, joined}
 use Rattle.dns_view.specs.Pages.{arrow_text, cell_text, octet_cells, opening_text, part_start, row_cells, row_text, top_text, IsListRow, IsPage}
 
 -- one element more, with its index
@@ -41,12 +41,12 @@ pub list_row_printed : {X E : Type 0} (r : Result X E) (a b c : Option (List ℕ
 list_row_printed r a b c message row words before printed = on_ok r (λ ends. (_, (words, refl), appends_both a b c _ _ before ends)) printed
 
 module _ {X E : Type 0} (r : Result X E) (a b c d e f g : Option (List ℕ)) where
-  pub page_printed : (message : List ℕ) (rows lines : List Row) (title : List ℕ) → lines ≡ joined rows → Appends a b (top_text title) → Appends b c (opening_text rows)
+  pub page_printed : (message : List ℕ) (rows lines : List Row) (title : List ℕ) → lines ≡ joined (is_large message) rows → Appends a b (top_text title) → Appends b c (opening_text rows)
       → Appends c d (flat_map (row_cells message) lines) → Appends d e (codes "\n</div>\n<div class=list>\n<p>") → PrintsEach (IsListRow message) lines e f
       → OnOk r (Appends f g (codes "\n</div>\n</main>\n</body>\n</html>\n")) → OnOk r (Prints (IsPage message rows) a g)
   page_printed message rows lines title are top opened printed closed listed ended =
-      let cells : Appends c d (flat_map (row_cells message) (joined rows)) = subst (λ (l : List Row). Appends c d (flat_map (row_cells message) l)) are printed in
-      let list : PrintsEach (IsListRow message) (joined rows) e f = subst (λ (l : List Row). PrintsEach (IsListRow message) l e f) are listed in
+      let cells : Appends c d (flat_map (row_cells message) (joined (is_large message) rows)) = subst (λ (l : List Row). Appends c d (flat_map (row_cells message) l)) are printed in
+      let list : PrintsEach (IsListRow message) (joined (is_large message) rows) e f = subst (λ (l : List Row). PrintsEach (IsListRow message) l e f) are listed in
       on_ok r
       (λ ends. (
         _,

@@ -1,9 +1,22 @@
 -- Which rows share a line of a page's list, and a link of its grid.
-use Rattle.std.specs.Prelude.{ℕ, ◌+◌, ◌/◌, ◌==◌, ◌&&◌, Bool, true, false, nat_le, if◌then◌else◌, List, [], ◌∷◌}
+use Rattle.std.specs.Prelude.{ℕ, ◌+◌, ◌/◌, ◌==◌, ◌&&◌, ◌||◌, not, Bool, true, false, nat_le, nat_lt, if◌then◌else◌, List, [], ◌∷◌, length}
 use Rattle.dns_rows.specs.declared.row.Row.{Row}
+use Rattle.dns_rows.specs.declared.row.Field.{Field}
 use Rattle.dns_rows.specs.declared.row.Kind.{Kind}
 use Rattle.dns_rows.specs.declared.row.Kind.TheVariants as kinds
 use Rattle.dns_rows.specs.declared.row.Field.TheVariants as fields
+
+-- whether a message is large: more rows share a line on its page
+abbrev pub is_large : List ℕ → Bool
+is_large message = nat_lt 16384 (length message)
+
+-- whether a row has octets, and another begins where it ends
+abbrev pub are_consecutive : Row → Row → Bool
+are_consecutive before row = nat_lt before.start before.end && before.end == row.start && nat_le row.start row.end
+
+-- whether two rows begin on the same line of the grid
+abbrev pub begin_on_one_line : Row → Row → Bool
+begin_on_one_line before row = before.start / 16 == row.start / 16
 
 -- whether two kinds are both that of a label, or of a character string
 abbrev pub are_alike : Kind → Kind → Bool
@@ -15,16 +28,39 @@ are_alike _ _ = false
 abbrev pub is_tiny : Row → Bool
 is_tiny row = nat_le row.start row.end && nat_le row.end (row.start + 2)
 
--- whether a row shares the line of the row before it: both are tiny labels or character strings, it begins where the one before ends, and both begin on the same line of the grid
-abbrev pub shares_line : Row → Row → Bool
-shares_line before row = are_alike before.kind row.kind && is_tiny before && is_tiny row && before.end == row.start && before.start / 16 == row.start / 16
+-- whether a row shares a line of any page: it and the row before it are tiny labels or character strings, and begin on the same line of the grid
+abbrev pub shares_tiny_line : Row → Row → Bool
+shares_tiny_line before row = are_alike before.kind row.kind && is_tiny before && is_tiny row && begin_on_one_line before row
 
--- a row and the rows after it, where those that share a line are one row; the first line begins at `start`
-abbrev pub joined_from : ℕ → Row → List Row → List Row
-joined_from start row [] = record row { start = start } ∷ []
-joined_from start row (next ∷ rows) = if shares_line row next then joined_from start next rows else record row { start = start } ∷ joined_from next.start next rows
+-- whether a field begins a line: one of the header section, an item, a pointer, which has an arrow, or an option
+abbrev pub field_begins_line : Field → Bool
+field_begins_line fields.Id = true
+field_begins_line fields.Flags = true
+field_begins_line (fields.Count _) = true
+field_begins_line (fields.Item _ _) = true
+field_begins_line (fields.Pointer _ _) = true
+field_begins_line fields.OptionCode = true
+field_begins_line _ = false
+
+-- whether a row begins a line: one of these fields, or no field
+abbrev pub begins_line : Kind → Bool
+begins_line (kinds.Field field) = field_begins_line field
+begins_line _ = true
+
+-- whether a row shares a line of a large message's page: with all fields that begin no line; of labels, or character strings, those that begin on the same line of the grid
+abbrev pub shares_long_line : Row → Row → Bool
+shares_long_line before row = not (begins_line row.kind) && (not (are_alike before.kind row.kind) || begin_on_one_line before row)
+
+-- whether a row shares the line of the row before it on the page of a message, which may be large
+abbrev pub shares_line : Bool → Row → Row → Bool
+shares_line large before row = are_consecutive before row && (if large then shares_long_line before row else shares_tiny_line before row)
+
+-- Rows, where those that share a line are one row of the first one's kind. The line so far is from the row `first` to the row `last`.
+abbrev pub joined_from : Bool → Row → Row → List Row → List Row
+joined_from large first last [] = record first { end = last.end } ∷ []
+joined_from large first last (next ∷ rows) = if shares_line large last next then joined_from large first next rows else record first { end = last.end } ∷ joined_from large next next rows
 
 -- rows, where those that share a line are one row
-abbrev pub joined : List Row → List Row
-joined [] = []
-joined (row ∷ rows) = joined_from row.start row rows
+abbrev pub joined : Bool → List Row → List Row
+joined large [] = []
+joined large (row ∷ rows) = joined_from large row row rows

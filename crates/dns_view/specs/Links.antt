@@ -1,10 +1,10 @@
 -- The `id`s of a page, where its links lead (`link_text` and `field_link_text` of Pages.antt), and the rows that share a line.
-use Rattle.std.specs.Prelude.{◌≡◌, ◌≢◌, ℕ, ◌^◌, ◌<◌, ◌≤◌, ◌==◌, not, Bool, List, ◌++◌, length, map, filter, flat_map, All, AllPairs}
+use Rattle.std.specs.Prelude.{◌≡◌, ◌≢◌, ℕ, ◌^◌, ◌<◌, ◌≤◌, ◌==◌, not, Bool, true, List, ◌++◌, length, map, filter, flat_map, All, AllPairs}
 use Rattle.dns_rows.specs.Rows.{row_octets}
 use Rattle.dns_rows.specs.Tiles.{Tiles}
 use Rattle.dns_rows.specs.declared.row.Row.{Row}
-use Rattle.dns_view.specs.Joined.{joined}
-use Rattle.dns_view.specs.Pages.{cell_id, row_id}
+use Rattle.dns_view.specs.Joined.{is_large, joined}
+use Rattle.dns_view.specs.Pages.{cell_id, limits_words, row_id, words_limit, words_text}
 
 -- whether a row has octets in a message
 abbrev pub has_octets : List ℕ → Row → Bool
@@ -12,7 +12,7 @@ has_octets message row = not (length (row_octets message row) == 0)
 
 -- the rows of a page that have octets: each has cells and a link of the list
 abbrev pub linked_rows : List ℕ → List Row → List Row
-linked_rows message rows = filter (has_octets message) (joined rows)
+linked_rows message rows = filter (has_octets message) (joined (is_large message) rows)
 
 -- the `id`s of a page: those of the rows' cells, and those of the rows in the list
 abbrev pub page_ids : List ℕ → List Row → List (List ℕ)
@@ -24,8 +24,12 @@ IdsAreUnique = (message : List ℕ) (rows : List Row) → length message < 2 ^ 6
 
 -- rows within a message have the same octets if those that share a line are one row
 abbrev pub JoinedRowsKeepOctets : Type 0
-JoinedRowsKeepOctets = (message : List ℕ) (rows : List Row) → All (λ row. row.end ≤ length message) rows → flat_map (row_octets message) (joined rows) ≡ flat_map (row_octets message) rows
+JoinedRowsKeepOctets = (large : Bool) (message : List ℕ) (rows : List Row) → All (λ row. row.end ≤ length message) rows → flat_map (row_octets message) (joined large rows) ≡ flat_map (row_octets message) rows
 
 -- consecutive rows are consecutive also if those that share a line are one row
 abbrev pub JoinedRowsTile : Type 0
-JoinedRowsTile = (rows : List Row) (start end : ℕ) → Tiles rows start end → Tiles (joined rows) start end
+JoinedRowsTile = (large : Bool) (rows : List Row) (start end : ℕ) → Tiles rows start end → Tiles (joined large rows) start end
+
+-- the words for a row of a large message, after its header section, take at most 27 octets and nine for each octet of the row, or 60
+abbrev pub WordsAreBounded : Type 0
+WordsAreBounded = (message : List ℕ) (row : Row) (words : List ℕ) → limits_words message row ≡ true → length (words_text message row words) ≤ words_limit (row_octets message row)

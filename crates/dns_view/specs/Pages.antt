@@ -1,9 +1,10 @@
 -- What `print_page` prints for rows. The words for their meanings, and those of the title, are left open.
-use Rattle.std.specs.Prelude.{◌≡◌, ℕ, ◌/◌, ◌%◌, ◌==◌, nat_lt, if◌then◌else◌, List, [], ◌∷◌, ◌++◌, length, count_by, codes, decimal}
+use Rattle.std.specs.Prelude.{◌≡◌, ℕ, ◌+◌, ◌-◌, ◌*◌, ◌/◌, ◌%◌, ◌==◌, ◌&&◌, nat_le, nat_lt, max, take, Bool, if◌then◌else◌, List, [], ◌∷◌, ◌++◌, length, count_by, codes, decimal}
 use Rattle.std.specs.List.{concat, enumerate_from, flat_map, AllZip}
+use Rattle.dns_message.specs.Headers.{header_size}
 use Rattle.dns_rows.specs.Rows.{is_item, is_pointer, row_octets, target_in}
 use Rattle.dns_view.specs.Digits.{hexadecimal, octet_text}
-use Rattle.dns_view.specs.Joined.{joined}
+use Rattle.dns_view.specs.Joined.{is_large, joined}
 use Rattle.dns_rows.specs.declared.row.Row.{Row}
 use Rattle.dns_rows.specs.declared.row.Kind.{Kind}
 use Rattle.dns_rows.specs.declared.row.Field.{Field}
@@ -18,6 +19,19 @@ escaped_octet octet = if octet == 60 then codes "&lt;" else (if octet == 62 then
 -- a text with its markup characters escaped
 abbrev pub escaped : List ℕ → List ℕ
 escaped text = flat_map escaped_octet text
+
+-- As much of a text as takes at most `room` octets with its markup characters escaped and three octets after it. An escape is never cut.
+abbrev pub front_within : ℕ → List ℕ → List ℕ
+front_within room [] = []
+front_within room (octet ∷ text) = if nat_lt room (length (escaped_octet octet) + 3) then [] else octet ∷ front_within (room - length (escaped_octet octet)) text
+
+-- what stands for the end of a text that is cut off
+abbrev pub ellipsis_text : Bool → List ℕ
+ellipsis_text cut = if cut then codes "..." else []
+
+-- a text in at most `limit` octets, with its markup characters escaped
+abbrev pub escaped_within : ℕ → List ℕ → List ℕ
+escaped_within limit text = escaped (front_within limit text) ++ ellipsis_text (nat_lt (length (front_within limit text)) (length text))
 
 -- all before the grid, with some words as the title and the first line
 abbrev pub top_text : List ℕ → List ℕ
@@ -69,9 +83,9 @@ row_id row = decimal row.start
 abbrev pub arrow_text : ℕ → ℕ → List ℕ
 arrow_text from target = codes " style=--p:" ++ decimal from ++ codes "," ++ decimal target
 
--- the attribute of a row that is a pointer; nothing for other rows
+-- the attribute of a row that begins with a pointer; nothing for other rows
 abbrev pub mark_text : List ℕ → Row → List ℕ
-mark_text message row = if is_pointer row.kind then arrow_text row.start (target_in (row_octets message row)) else []
+mark_text message row = if is_pointer row.kind then arrow_text row.start (target_in (take 2 (row_octets message row))) else []
 
 -- what begins at an offset before its octet: a part of the grid, whose octets are 256; else a line with the offset, whose octets are sixteen; else nothing
 abbrev pub line_start : ℕ → List ℕ
@@ -120,9 +134,21 @@ heading_row_text row words = (if is_item row.kind then codes "<b>" else codes "<
 abbrev pub field_link_text : Row → List ℕ
 field_link_text row = codes "<a id=" ++ row_id row ++ codes " href=#" ++ cell_id row ++ codes ">"
 
+-- whether the words for a row are cut off if they are long: after the header section of a large message
+abbrev pub limits_words : List ℕ → Row → Bool
+limits_words message row = is_large message && nat_le header_size row.start
+
+-- how many octets the words for some octets may take: 27, and nine for each octet, but at least 60
+abbrev pub words_limit : List ℕ → ℕ
+words_limit octets = max 60 (9 * length octets + 27)
+
+-- the words for a row of the list
+abbrev pub words_text : List ℕ → Row → List ℕ → List ℕ
+words_text message row words = if limits_words message row then escaped_within (words_limit (row_octets message row)) words else escaped words
+
 -- any other row of the list: the link, with its octets and words
 abbrev pub field_row_text : List ℕ → Row → List ℕ → List ℕ
-field_row_text message row words = field_link_text row ++ digits (row_octets message row) ++ codes "\t" ++ escaped words ++ codes "</a>"
+field_row_text message row words = field_link_text row ++ digits (row_octets message row) ++ codes "\t" ++ words_text message row words ++ codes "</a>"
 
 -- what precedes a row of the list: the start of a part, if a multiple of 64 is past the row's start and up to its end; else nothing
 abbrev pub part_start : Row → List ℕ
@@ -140,5 +166,5 @@ IsListRow message row text = (words : List ℕ) × (text ≡ part_start row ++ r
 pub record IsPage (message : List ℕ) (rows : List Row) (text : List ℕ) : Type 0 where
   pub title : List ℕ
   pub list : List (List ℕ)
-  pub are_rows : AllZip (IsListRow message) (joined rows) list
-  pub is : text ≡ top_text title ++ opening_text rows ++ flat_map (row_cells message) (joined rows) ++ codes "\n</div>\n<div class=list>\n<p>" ++ concat list ++ codes "\n</div>\n</main>\n</body>\n</html>\n"
+  pub are_rows : AllZip (IsListRow message) (joined (is_large message) rows) list
+  pub is : text ≡ top_text title ++ opening_text rows ++ flat_map (row_cells message) (joined (is_large message) rows) ++ codes "\n</div>\n<div class=list>\n<p>" ++ concat list ++ codes "\n</div>\n</main>\n</body>\n</html>\n"

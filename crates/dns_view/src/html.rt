@@ -1,16 +1,17 @@
 //! Rows printed as a page of HTML: the octets in a grid, and the rows as a list. A field's cell and
 //! its row lead to each other. The cell of a pointer draws its arrow.
-ghost use Rattle.std.specs.Prelude.{◌≡◌, ◌+◌, ◌^◌, ◌<◌, length, OnOk};
+ghost use Rattle.std.specs.Prelude.{◌≡◌, ◌+◌, ◌^◌, ◌<◌, ◌≤◌, length, take, OnOk};
 ghost use Rattle.std.specs.Io.KnownBytes.{Appends};
 ghost use Rattle.std.specs.List.{flat_map};
-ghost use Rattle.dns_view.specs.Joined.{joined};
-ghost use Rattle.dns_view.specs.Pages.{arrow_text, cell_id, cell_start, cell_text, digits, escaped, escaped_octet, field_letter, field_link_text, field_row_text, first_link, heading_row_text, letter_of, line_start, link_text, mark_text, next_link, octet_cells, opening_text, part_start, pointer_count, row_cells, row_text, top_text, IsListRow, IsPage};
+ghost use Rattle.dns_view.specs.Joined.{is_large, joined};
+ghost use Rattle.dns_view.specs.Pages.{arrow_text, cell_id, cell_start, cell_text, digits, ellipsis_text, escaped, escaped_octet, escaped_within, field_letter, field_link_text, field_row_text, first_link, heading_row_text, letter_of, line_start, link_text, mark_text, next_link, octet_cells, opening_text, part_start, pointer_count, row_cells, row_text, top_text, words_text, IsListRow, IsPage};
 ghost use Rattle.dns_view.specs.Printed.{Prints, PrintsEach};
 
-use crate::joined::{OCTETS, joined};
-use crate::meaning::Meaning;
+use crate::brief::{front_within, limits_words, words_limit};
+use crate::joined::{OCTETS, is_large, joined};
 use crate::summary::Summary;
 use crate::text::print_octet;
+use crate::words::words_of;
 use dns_rows::{Field, Kind, Row, octets_of, target_of};
 use std::alloc::Global;
 use std::io;
@@ -101,7 +102,9 @@ const LEGEND: &str = "</h1>
 /// Prints rows of a message as one page of HTML, which needs no network and no script.
 ///
 /// Consecutive labels, or character strings, of at most one octet share a link of the grid and a
-/// line of the list, if they begin on one line of the grid.
+/// line of the list, if they begin on one line of the grid. If the message has more than 16,384
+/// octets, most fields of an item share them, and words that are long for their octets are cut off:
+/// so the page of a message of 64 KiB has at most forty times its octets.
 ///
 /// Returns an error if `writer` or an allocation fails.
 pub fn print_page<W: Write>(
@@ -115,13 +118,13 @@ pub fn print_page<W: Write>(
 {
     let summary = Summary { message, rows };
     let words = format!(in alloc; "{summary}")?;
-    let joined = joined(alloc, rows)?;
+    let joined = joined(alloc, is_large(message), rows)?;
     let lines = joined.as_slice();
     print_top(writer, words.as_bytes())?;
     print_opening(writer, rows)?;
     print_cells(writer, message, lines)?;
     writer.write_all(b"\n</div>\n<div class=list>\n<p>")?;
-    print_list(alloc, writer, message, lines)?;
+    print_list(alloc, writer, message, lines, rows)?;
     writer.write_all(b"\n</div>\n</main>\n</body>\n</html>\n")
 }
 
@@ -190,16 +193,27 @@ fn print_cell_id<W: Write>(writer: &mut W, row: &Row) -> io::Result<()>
     write!(writer, "{start:x}")
 }
 
-/// Prints the attribute of a pointer that draws its arrow: its offset, and where it leads. Other
-/// rows have none.
+/// Prints the attribute of a row that begins with a pointer, which draws its arrow: its offset, and
+/// where it leads. Other rows have none.
 fn print_mark<W: Write>(writer: &mut W, message: &[u8], row: &Row) -> io::Result<()>
     ensures { OnOk result (Appends (W.contents writer.old) (W.contents writer.new)
         (mark_text message.now row.now)) }
 {
     if row.kind.is_pointer() {
-        return print_arrow(writer, row.start, target_of(octets_of(message, row)));
+        return print_arrow(
+            writer,
+            row.start,
+            target_of(first_two(octets_of(message, row))),
+        );
     }
     Ok(())
+}
+
+/// The first two octets, or all if there are fewer.
+fn first_two(octets: &[u8]) -> &[u8]
+    ensures { result.now ≡ take 2 octets.now }
+{
+    octets.get(..2).unwrap_or(octets)
 }
 
 /// Prints the attribute of a pointer at an offset.
@@ -219,6 +233,25 @@ fn print_escaped<W: Write>(writer: &mut W, text: &[u8]) -> io::Result<()>
         print_escaped_octet(writer, *octet)?;
     }
     Ok(())
+}
+
+/// Prints a text in at most `limit` octets, with its markup characters escaped. `...` stands for
+/// what is left out.
+fn print_within<W: Write>(writer: &mut W, text: &[u8], limit: u128) -> io::Result<()>
+    ensures { OnOk result (Appends (W.contents writer.old) (W.contents writer.new)
+        (escaped_within limit text.now)) }
+{
+    let front = front_within(text, limit);
+    print_escaped(writer, front)?;
+    print_ellipsis(writer, front.len() < text.len())
+}
+
+/// Prints what stands for the end of a text that is cut off.
+fn print_ellipsis<W: Write>(writer: &mut W, is_cut: bool) -> io::Result<()>
+    ensures { OnOk result (Appends (W.contents writer.old) (W.contents writer.new)
+        (ellipsis_text is_cut)) }
+{
+    writer.write_all(if is_cut { b"..." } else { b"" })
 }
 
 /// Prints an octet of a text, escaped if it is a markup character.
@@ -366,36 +399,48 @@ fn print_line_start<W: Write>(writer: &mut W, offset: usize) -> io::Result<()>
     Ok(())
 }
 
-/// Prints the rows of the list.
+/// Prints the rows of the list, into which `rows` are joined.
 fn print_list<W: Write>(
     alloc: Global,
     writer: &mut W,
     message: &[u8],
+    lines: &[Row],
     rows: &[Row],
 ) -> io::Result<()>
-    ensures { OnOk result (PrintsEach (IsListRow message.now) rows.now
+    ensures { OnOk result (PrintsEach (IsListRow message.now) lines.now
         (W.contents writer.old) (W.contents writer.new)) }
 {
-    for row in rows {
-        print_list_row(alloc, writer, message, row)?;
+    let mut left = rows;
+    for line in lines {
+        let (rows, after) = left.split_at(rows_in(left, line));
+        print_list_row(alloc, writer, message, line, rows)?;
+        left = after;
     }
     Ok(())
 }
 
-/// Prints a row of the list, and what precedes it.
+/// How many of the first rows are joined into a row of the list.
+fn rows_in(rows: &[Row], line: &Row) -> usize
+    ensures { result ≤ length rows.now }
+{
+    let count = rows.iter().take_while(|row| row.start < line.end).count();
+    count.max(1).min(rows.len())
+}
+
+/// Prints a row of the list, into which `rows` are joined, and what precedes it.
 fn print_list_row<W: Write>(
     alloc: Global,
     writer: &mut W,
     message: &[u8],
     row: &Row,
+    rows: &[Row],
 ) -> io::Result<()>
     ensures { OnOk result (Prints (IsListRow message.now row.now)
         (W.contents writer.old) (W.contents writer.new)) }
 {
-    let meaning = Meaning { message, row: *row };
-    let words = format!(in alloc; "{meaning}")?;
+    let words = words_of(alloc, message, row, rows)?;
     print_part_start(writer, row)?;
-    print_row(writer, message, row, words.as_bytes())
+    print_row(writer, message, row, words.as_slice())
 }
 
 /// Prints the start of a part of the list, if a row is the first in one.
@@ -449,8 +494,19 @@ fn print_field_row<W: Write>(
     print_field_link(writer, row)?;
     print_digits(writer, octets_of(message, row))?;
     writer.write_all(b"\t")?;
-    print_escaped(writer, words)?;
+    print_words(writer, message, row, words)?;
     writer.write_all(b"</a>")
+}
+
+/// Prints the words for a row, which are cut off if they are long and limited.
+fn print_words<W: Write>(writer: &mut W, message: &[u8], row: &Row, words: &[u8]) -> io::Result<()>
+    ensures { OnOk result (Appends (W.contents writer.old) (W.contents writer.new)
+        (words_text message.now row.now words.now)) }
+{
+    if limits_words(message, row) {
+        return print_within(writer, words, words_limit(octets_of(message, row)));
+    }
+    print_escaped(writer, words)
 }
 
 /// Prints the start of a row's link to its cells.

@@ -1,5 +1,5 @@
 //! Theorems on pages. The functions do nothing: the contract of each is a theorem.
-ghost use Rattle.dns_view.specs.Links.{IdsAreUnique, JoinedRowsKeepOctets, JoinedRowsTile};
+ghost use Rattle.dns_view.specs.Links.{IdsAreUnique, JoinedRowsKeepOctets, JoinedRowsTile, WordsAreBounded};
 
 /// The `id`s of a page of consecutive rows are all different: a row's cells and its line in the
 /// list each have their own. So each link leads to one element.
@@ -12,4 +12,10 @@ pub fn page_ids_are_unique()
 pub fn joined_rows_are_all()
     ensures octets { JoinedRowsKeepOctets }
     ensures tiles { JoinedRowsTile }
+{}
+
+/// The words for a row of a large message, after its header section, take at most 27 octets and
+/// nine for each octet of the row, or 60.
+pub fn words_are_bounded()
+    ensures { WordsAreBounded }
 {}

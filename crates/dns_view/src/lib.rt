@@ -3,11 +3,14 @@
 //!
 //! Each row is printed once and in order, with its offset and all of its octets in digits. A page
 //! also has a cell for each octet at its offset, and an arrow from each pointer to its target;
-//! consecutive labels or character strings of at most one octet are one row there. A row's cells and
-//! its line in the list link to each other, and `laws` says that their `id`s are unique. The program
-//! prints all rows of the message in its input. The words for what a row means are only tested.
+//! consecutive labels or character strings of at most one octet are one row there, and on the page
+//! of a message of more than 16,384 octets most fields of an item are, so that the page stays small.
+//! A row's cells and its line in the list link to each other, and `laws` says that their `id`s are
+//! unique. The program prints all rows of the message in its input. The words for what a row means
+//! are only tested.
 #![tactic(auto)]
 
+mod brief;
 mod codes;
 mod html;
 mod joined;
@@ -20,6 +23,7 @@ mod rdata;
 mod request;
 mod summary;
 mod text;
+mod words;
 
 pub use dns_rows::{Fault, Field, Kind, NameOf, Part, Row, rows};
 pub use html::print_page;

@@ -17,6 +17,8 @@ mod faults;
 #[cfg(test)]
 mod fields;
 #[cfg(test)]
+mod large;
+#[cfg(test)]
 mod names;
 #[cfg(test)]
 mod older;

@@ -10,5 +10,5 @@ returns g c =
     (appends_both _ _ _ _ _
     (appends_both _ _ _ _ _ c.in_ok-print_field_link.ensures (appends_same _ _ _ _ (ap digits c.octets_of.ensures) c.in_ok-print_digits.ensures))
     c.in_ok-write_all.ensures.bytes)
-    c.in_ok-print_escaped.ensures)
+    c.in_ok-print_words.ensures)
     c.write_all-2.ensures.bytes

@@ -3,5 +3,5 @@ use Rattle.dns_view.proofs.html.print_list_row.Goals as goal
 
 pub returns : goal.returns
 returns g c =
-    list_row_printed c.print_row.result _ _ _ c.args.message.now c.args.row.now c.as_bytes.result.now c.in_ok-print_part_start.ensures
+    list_row_printed c.print_row.result _ _ _ c.args.message.now c.args.row.now c.as_slice.result.now c.in_ok-print_part_start.ensures
     c.print_row.ensures

@@ -1,0 +1,92 @@
+//! The words for a row of a page's list.
+use crate::brief::{ELLIPSIS_LEN, escaped_size, front_within, limits_words, words_limit};
+use crate::joined::are_alike;
+use crate::meaning::Meaning;
+use dns_rows::{Row, octets_of};
+use std::alloc::{AllocError, Global};
+
+/// The octets that the words for the first row of a line may always take.
+const SHORTEST: u128 = 40;
+
+/// The words for a row of a page's list, into which `rows` are joined.
+pub(crate) fn words_of(
+    alloc: Global,
+    message: &[u8],
+    line: &Row,
+    rows: &[Row],
+) -> Result<Vec<u8>, AllocError> {
+    if limits_words(message, line) {
+        return line_words(alloc, message, line, rows);
+    }
+    meaning_of(alloc, message, line)
+}
+
+/// The words for the rows of a line, after each other. The first is often a name: if all have more
+/// octets than the line may have, it is cut off.
+fn line_words(
+    alloc: Global,
+    message: &[u8],
+    line: &Row,
+    rows: &[Row],
+) -> Result<Vec<u8>, AllocError> {
+    let runs = runs(alloc, rows)?;
+    let Some((first, others)) = runs.split_first() else {
+        return Ok(Vec::new(alloc));
+    };
+    let after = words_after(alloc, message, others)?;
+    let limit = words_limit(octets_of(message, line)).saturating_sub(escaped_size(&after));
+    let mut words = brief(
+        alloc,
+        &meaning_of(alloc, message, first)?,
+        limit.max(SHORTEST),
+    )?;
+    words.extend_from_slice(&after)?;
+    Ok(words)
+}
+
+/// The words for rows, each after a comma.
+fn words_after(alloc: Global, message: &[u8], rows: &[Row]) -> Result<Vec<u8>, AllocError> {
+    let mut words = Vec::new(alloc);
+    for row in rows {
+        words.extend_from_slice(b", ")?;
+        words.extend_from_slice(&meaning_of(alloc, message, row)?)?;
+    }
+    Ok(words)
+}
+
+/// Rows, where consecutive labels, or character strings, are one row.
+fn runs(alloc: Global, rows: &[Row]) -> Result<Vec<Row>, AllocError> {
+    let mut runs = Vec::new(alloc);
+    let Some((first, others)) = rows.split_first() else {
+        return Ok(runs);
+    };
+    let mut run = *first;
+    for row in others {
+        if are_alike(run.kind, row.kind) {
+            run.end = row.end;
+        } else {
+            runs.push(run)?;
+            run = *row;
+        }
+    }
+    runs.push(run)?;
+    Ok(runs)
+}
+
+/// What a row means.
+fn meaning_of(alloc: Global, message: &[u8], row: &Row) -> Result<Vec<u8>, AllocError> {
+    let meaning = Meaning { message, row: *row };
+    let words = format!(in alloc; "{meaning}")?;
+    Ok(words.into_bytes())
+}
+
+/// Words, of which `...` stands for the end if they take more than `limit` octets when they are
+/// escaped.
+fn brief(alloc: Global, words: &[u8], limit: u128) -> Result<Vec<u8>, AllocError> {
+    let front = front_within(words, limit);
+    let mut brief = Vec::from_slice(alloc, front)?;
+    if front.len() < words.len() {
+        brief.extend_from_slice(b"...")?;
+    }
+    Ok(brief)
+}
