@@ -14,8 +14,8 @@ use dns_message::tool;
 use dns_read::Message;
 use std::alloc::Global;
 use std::process::Abort;
-use std::str;
 use std::test::Fail;
+use std::{slice, str};
 
 /// The hexadecimal digits.
 const DIGITS: &[u8; 16] = b"0123456789abcdef";
@@ -32,10 +32,15 @@ fn digits_of(octets: &[u8]) -> ArrayVec<u8, 1024> {
 
 /// Fails unless `dnsmsg show` prints the expected number of lines.
 fn assert_shows(rt: &impl Abort, alloc: Global, row: &str, octets: &[u8]) -> Result<(), Fail> {
-    let words = [String::from_str(alloc, "show")?];
+    let word = String::from_str(alloc, "show")?;
     let digits = digits_of(octets);
     let mut output = Vec::new(alloc);
-    let status = tool(alloc, &words, digits.as_slice(), &mut output);
+    let status = tool(
+        alloc,
+        slice::from_ref(&word),
+        digits.as_slice(),
+        &mut output,
+    );
     let lines = str::from_utf8(&output)?.lines().count();
     assert_same(
         rt,

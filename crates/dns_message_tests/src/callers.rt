@@ -24,10 +24,10 @@ use dns_message::name::{Name, ParsedName};
 use dns_message::question::ComposeQuestion;
 use dns_message::record::{ComposeRecord, Record, Ttl};
 use dns_message::script::{Call, Stage, run};
-use dns_message::target::HashCompressor;
+use dns_message::target::{Composer, HashCompressor};
 use dns_message::wire::{AppendError, Octets};
 use std::alloc::{AllocError, Global};
-use std::test::Fail;
+use std::process::Abort;
 
 /// The header of a reply to a query: its ID and RD, and QR.
 fn reply_header(query: Header) -> Header
@@ -60,11 +60,10 @@ fn opaque(rtype: Rtype, octets: &[u8]) -> Option<UnknownRecordData<&[u8]>>
 }
 
 #[test]
-fn takes_opaque_data(rt: HostRuntime) -> Result<(), Fail> {
-    let long = vec![in rt.alloc(); 0; 65536]?;
+fn takes_opaque_data(rt: HostRuntime) {
+    let long = vec![in rt.alloc(); 0; 65536].expect(&rt, "memory");
     assert_holds(&rt, "65,536 octets", opaque(Rtype::TXT, &long).is_none());
     assert_holds(&rt, "two octets", opaque(Rtype::TXT, b"\x01a").is_some());
-    Ok(())
 }
 
 /// How long a record is cached: at most a week, but never less than `least`.
@@ -83,6 +82,11 @@ fn keeps_for_a_week(rt: HostRuntime) {
     assert_holds(&rt, "more than a week", kept == Ttl::CAP);
 }
 
+/// The message in these octets.
+fn message_of(rt: &impl Abort, octets: &'static [u8]) -> Message<&'static [u8]> {
+    Message::from_octets(octets).expect(rt, "a message")
+}
+
 /// Where the answers of a message begin, if each question can be skipped.
 fn answers_start<Octs: Octets>(message: &Message<Octs>) -> Option<usize>
     ensures { IfSome result (λ start. AnswersStart (message_octets message.now) start) }
@@ -94,12 +98,11 @@ fn answers_start<Octs: Octets>(message: &Message<Octs>) -> Option<usize>
 }
 
 #[test]
-fn finds_the_answers(rt: HostRuntime) -> Result<(), Fail> {
+fn finds_the_answers(rt: HostRuntime) {
     let octets = b"\x00\x00\x00\x00\x00\x01\x00\x00\x00\x00\x00\x00\x01a\x00\x00\x01\x00\x01";
-    let message = Message::from_octets(octets.as_slice())?;
+    let message = message_of(&rt, octets);
     let start = answers_start(&message);
     assert_holds(&rt, "after the question", start == Some(19));
-    Ok(())
 }
 
 /// The first record of the answer section, if it can be read and its RDATA is of type `D`.
@@ -118,14 +121,13 @@ fn first_answer<'a, Octs: Octets, D: ParseRecordData<'a> + Drop>(
 }
 
 #[test]
-fn reads_the_first_answer(rt: HostRuntime) -> Result<(), Fail> {
+fn reads_the_first_answer(rt: HostRuntime) {
     let octets =
         b"\x00\x00\x81\xA0\x00\x00\x00\x01\x00\x00\x00\x00\x01a\x00\x00\x01\x00\x01\x00\x00\x0E\x10\x00\x04\xCB\x00\x71\x01";
-    let message = Message::from_octets(octets.as_slice())?;
-    let address = first_answer::<_, A>(&message).ok_or("address")?;
+    let message = message_of(&rt, octets);
+    let address = first_answer::<_, A>(&message).expect(&rt, "an address");
     let octets = address.data().octets();
     assert_octets(&rt, "the address", &octets, &[203, 0, 113, 1]);
-    Ok(())
 }
 
 /// The RDATA of the records that can be read, in order.
@@ -161,14 +163,14 @@ fn data_of_answers<'a, Octs: Octets, D: ParseRecordData<'a> + Drop>(
 }
 
 #[test]
-fn collects_the_addresses(rt: HostRuntime) -> Result<(), Fail> {
+fn collects_the_addresses(rt: HostRuntime) {
     let octets =
         b"\x00\x00\x81\xA0\x00\x00\x00\x01\x00\x00\x00\x00\x01a\x00\x00\x01\x00\x01\x00\x00\x0E\x10\x00\x04\xCB\x00\x71\x01";
-    let message = Message::from_octets(octets.as_slice())?;
-    let addresses = data_of_answers::<_, A>(rt.alloc(), &message).ok_or("addresses")?;
+    let message = message_of(&rt, octets);
+    let addresses = data_of_answers::<_, A>(rt.alloc(), &message);
+    let addresses = addresses.expect(&rt, "addresses");
     let is_one = addresses.len() == 1 && addresses[0].octets() == [203, 0, 113, 1];
     assert_holds(&rt, "the address", is_one);
-    Ok(())
 }
 
 /// The sections of the consecutive readable records, in order.
@@ -196,16 +198,15 @@ fn has_address<Octs: Octets>(message: &Message<Octs>) -> bool
 }
 
 #[test]
-fn knows_the_sections(rt: HostRuntime) -> Result<(), Fail> {
+fn knows_the_sections(rt: HostRuntime) {
     let octets =
         b"\x00\x00\x81\xA0\x00\x00\x00\x01\x00\x00\x00\x01\x00\x00\x01\x00\x01\x00\x00\x00\x00\x00\x04\xCB\x00\x71\x01\x00\x00\x02\x00\x01\x00\x00\x00\x00\x00\x01\x00";
-    let message = Message::from_octets(octets.as_slice())?;
-    let sections = sections_of(rt.alloc(), &message)?;
-    let expected = [Section::Answer, Section::Additional];
+    let message = message_of(&rt, octets);
     assert_holds(&rt, "an address", has_address(&message));
+    let sections = sections_of(rt.alloc(), &message).expect(&rt, "memory");
+    let expected = [Section::Answer, Section::Additional];
     let are_known = sections.as_slice() == expected.as_slice();
     assert_holds(&rt, "the sections", are_known);
-    Ok(())
 }
 
 /// Makes the calls on a new builder over a hash compressor. Returns the stage after them.
@@ -238,19 +239,17 @@ fn address_calls(alloc: Global, name: Name<[u8; 13]>) -> Result<Vec<AddressCall>
     Ok(calls)
 }
 
-/// The number of octets after the calls that push a question and an answer.
-fn len_of_answer(alloc: Global, name: Name<[u8; 13]>) -> Result<usize, Fail> {
-    let calls = address_calls(alloc, name)?;
-    let stage = compressed(alloc, &calls).ok_or("memory")?;
-    Ok(stage.as_slice().len())
+/// Fails unless the message of the stage has this number of octets.
+fn assert_len<T: Composer>(rt: &impl Abort, stage: Stage<T>, len: usize) {
+    assert_holds(rt, "one pointer", stage.as_slice().len() == len);
 }
 
 #[test]
-fn spells_a_name_once(rt: HostRuntime) -> Result<(), Fail> {
-    let name = Name::from_octets(*b"\x07example\x03com\x00")?;
-    let len = 12 + 13 + 4 + 2 + 10 + 4;
-    assert_holds(&rt, "one pointer", len_of_answer(rt.alloc(), name)? == len);
-    Ok(())
+fn spells_a_name_once(rt: HostRuntime) {
+    let name = Name::from_octets(*b"\x07example\x03com\x00").expect(&rt, "a name");
+    let calls = address_calls(rt.alloc(), name).expect(&rt, "memory");
+    let stage = compressed(rt.alloc(), &calls).expect(&rt, "memory");
+    assert_len(&rt, stage, 12 + 13 + 4 + 2 + 10 + 4);
 }
 
 /// The message with one OPT record, which a closure gathers.
@@ -269,20 +268,25 @@ fn opt_message<F: FnOnce(&mut OptBuilder) -> Result<(), AppendError>>(
 }
 
 #[test]
-fn reads_what_was_gathered(rt: HostRuntime) -> Result<(), Fail> {
-    let rcode = OptRcode::checked_from_int(23).ok_or("no rcode")?;
+fn reads_what_was_gathered(rt: HostRuntime) {
+    let rcode = OptRcode::checked_from_int(23).expect(&rt, "an rcode");
     let message = opt_message(rt.alloc(), |opt| {
         opt.set_udp_payload_size(1232);
         opt.set_rcode(rcode);
         opt.set_dnssec_ok(true);
         opt.push_raw_option(OptionCode::from_int(3), b"")
-    })?;
-    let opt = message.opt().ok_or("no record")?;
+    });
+    let message = message.expect(&rt, "memory");
     assert_holds(&rt, "the rcode", message.opt_rcode() == rcode);
+    assert_gathered(&rt, &message);
+}
+
+/// Fails unless the message has an OPT record with these fields and one option.
+fn assert_gathered(rt: &impl Abort, message: &Message<Vec<u8>>) {
+    let opt = message.opt().expect(rt, "a record");
     let is_gathered = opt.udp_payload_size() == 1232 && opt.version() == 0 && opt.dnssec_ok();
-    assert_holds(&rt, "the fields", is_gathered);
+    assert_holds(rt, "the fields", is_gathered);
     let mut options = opt.opt().iter();
     let is_one = options.next().is_some() && options.next().is_none();
-    assert_holds(&rt, "one option", is_one);
-    Ok(())
+    assert_holds(rt, "one option", is_one);
 }

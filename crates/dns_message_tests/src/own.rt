@@ -6,14 +6,15 @@ ghost use Rattle.dns_message.specs.Fields.{own_parts_of};
 ghost use Rattle.dns_message_tests.specs.Hosts.{host_layout};
 ghost use Rattle.dns_message_tests.specs.declared.own.TheConstants.{FIELDS};
 
-use dns_message::builder::MessageBuilder;
+use crate::asserts::assert_holds;
+use dns_message::builder::{AnswerBuilder, MessageBuilder};
 use dns_message::code::Rtype;
 use dns_message::data::{ParseRecordData, UnknownRecordData};
 use dns_message::fields::{DataOf, Kind, RecordFields, Value};
 use dns_message::message::Message;
 use dns_message::name::Name;
 use dns_message::wire::{Octets, ParseError, Parser};
-use std::test::Fail;
+use std::process::Abort;
 
 const FIELDS: &[(&str, Kind)] = &[("weight", Kind::Number16), ("host", Kind::PlainName)];
 
@@ -74,22 +75,30 @@ const HOSTS: &[&[u8]] = &[
 ];
 
 #[test]
-fn reads_its_own_type_alone(rt: HostRuntime) -> Result<(), Fail> {
+fn reads_its_own_type_alone(rt: HostRuntime) {
     let mut parser = Parser::new(b"\x00\x02\x01a\x00");
-    assert!(rt; read_host(Rtype::A, &mut parser)?.is_none());
-    assert!(rt; read_host(Rtype::from_int(65280), &mut parser)?.is_some());
-    assert_eq!(rt; parser.remaining(), 0);
-    Ok(())
+    let other = read_host(Rtype::A, &mut parser).expect(&rt, "no host");
+    assert_holds(&rt, "another type", other.is_none());
+    let host = read_host(Rtype::from_int(65280), &mut parser).expect(&rt, "a host");
+    assert_holds(&rt, "its own type", host.is_some());
+    assert_holds(&rt, "octets left over", parser.remaining() == 0);
+}
+
+/// Pushes a host with this RDATA.
+fn push_host(rt: &impl Abort, builder: &mut AnswerBuilder<Vec<u8>>, octets: &[u8]) {
+    let data = UnknownRecordData::from_octets(Rtype::from_int(65280), octets);
+    let data = data.expect(rt, "data");
+    let owner = Name::from_octets(*b"\x07example\x00").expect(rt, "a name");
+    builder.push((owner, 60u32, data)).expect(rt, "memory");
 }
 
 #[test]
-fn finds_the_greatest_weight(rt: HostRuntime) -> Result<(), Fail> {
-    let owner = Name::from_octets(*b"\x07example\x00")?;
-    let mut builder = MessageBuilder::new_vec(rt.alloc())?.answer();
+fn finds_the_greatest_weight(rt: HostRuntime) {
+    let builder = MessageBuilder::new_vec(rt.alloc()).expect(&rt, "memory");
+    let mut builder = builder.answer();
     for octets in HOSTS {
-        let data = UnknownRecordData::from_octets(Rtype::from_int(65280), *octets)?;
-        builder.push((owner, 60u32, data))?;
+        push_host(&rt, &mut builder, octets);
     }
-    assert_eq!(rt; greatest_weight(&builder.into_message()), 5);
-    Ok(())
+    let greatest = greatest_weight(&builder.into_message());
+    assert_holds(&rt, "the greatest weight", greatest == 5);
 }

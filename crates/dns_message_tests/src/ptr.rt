@@ -2,14 +2,16 @@
 ghost use Rattle.std.specs.Prelude.{[], ◌∷◌, refl};
 ghost use Rattle.dns_message.specs.Data.{CompressibleName, DomainName, End, only};
 
+use crate::asserts::assert_holds;
 use dns_message::builder::MessageBuilder;
 use dns_message::code::Rtype;
 use dns_message::data::laws::{names_are_bounded, parts_compose};
 use dns_message::data::{ComposeRecordData, ParseRecordData, RecordData};
+use dns_message::message::RecordIter;
 use dns_message::name::{Name, ParsedName, ToName, ToNameExt};
 use dns_message::target::{Composer, TreeCompressor};
 use dns_message::wire::{AppendError, ParseError, Parser};
-use std::test::Fail;
+use std::process::Abort;
 
 /// The RDATA of a PTR record: a name (RFC 1035 section 3.3.12).
 #[derive(Clone, Copy, Debug, Drop)]
@@ -52,17 +54,27 @@ impl<'a> ParseRecordData<'a> for Ptr<ParsedName<'a>> {
 }
 
 #[test]
-fn reads_its_own_data_back(rt: HostRuntime) -> Result<(), Fail> {
-    let name = Name::from_octets(*b"\x07example\x03com\x00")?;
+fn reads_its_own_data_back(rt: HostRuntime) {
+    let name = Name::from_octets(*b"\x07example\x03com\x00").expect(&rt, "a name");
     let target = TreeCompressor::new(rt.alloc(), Vec::new(rt.alloc()));
-    let mut builder = MessageBuilder::from_target(target)?.answer();
-    builder.push((name, 60u32, Ptr(name)))?;
+    let builder = MessageBuilder::from_target(target).expect(&rt, "memory");
+    let mut builder = builder.answer();
+    let pushed = builder.push((name, 60u32, Ptr(name)));
+    pushed.expect(&rt, "memory");
     let message = builder.into_message();
-    assert_eq!(rt; message.as_slice().len(), 12 + 13 + 10 + 2);
-    let mut found = message.answer()?.limit_to::<Ptr<ParsedName<'_>>>();
-    let Some(Ok(record)) = found.next() else {
-        panic!(rt; "no PTR record");
-    };
-    assert!(rt; record.data().0.octets_eq(&name) && found.next().is_none());
-    Ok(())
+    let is_short = message.as_slice().len() == 12 + 13 + 10 + 2;
+    assert_holds(&rt, "one pointer", is_short);
+    let answers = message.answer().expect(&rt, "answers");
+    assert_one_pointer(&rt, answers.limit_to(), &name);
+}
+
+/// Fails unless one PTR record remains, whose RDATA is this name.
+fn assert_one_pointer<'a, N: ToName>(
+    rt: &impl Abort,
+    mut records: RecordIter<'a, Ptr<ParsedName<'a>>>,
+    name: &N,
+) {
+    let record = records.next().expect(rt, "a record").expect(rt, "PTR data");
+    assert_holds(rt, "the name", record.data().0.octets_eq(name));
+    assert_holds(rt, "no further record", records.next().is_none());
 }

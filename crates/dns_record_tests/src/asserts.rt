@@ -13,7 +13,6 @@ use std::cmp::Ordering;
 use std::fmt::Display;
 use std::hash::{DefaultHasher, Hash, Hasher};
 use std::process::Abort;
-use std::test::Fail;
 
 /// A name over static octets.
 pub(crate) type SliceName = Name<&'static [u8]>;
@@ -134,12 +133,12 @@ pub(crate) fn assert_answer<R: ComposeRecord + Drop>(
     row: &str,
     record: R,
     expected: &[u8],
-) -> Result<(), Fail> {
+) {
     let target = StaticCompressor::new(Vec::new(alloc));
-    let mut builder = MessageBuilder::from_target(target)?.answer();
-    builder.push(record)?;
+    let builder = MessageBuilder::from_target(target).expect(rt, row);
+    let mut builder = builder.answer();
+    builder.push(record).expect(rt, row);
     assert_octets(rt, row, builder.as_slice(), expected);
-    Ok(())
 }
 
 /// The message in these octets.

@@ -11,7 +11,6 @@ use dns_message::target::{
 };
 use dns_wire::{AppendError, Composer};
 use std::process::Abort;
-use std::test::Fail;
 
 /// Composes Example.COM. NS NS.Example.COM. in canonical form on an empty target.
 fn assert_canonical<T: Composer>(rt: &impl Abort, row: &str, mut target: T) {
@@ -30,11 +29,12 @@ fn assert_canonical<T: Composer>(rt: &impl Abort, row: &str, mut target: T) {
 
 /// Canonical record: in lower case and without a pointer, on each empty target.
 #[test]
-fn composes_a_canonical_record(rt: HostRuntime) -> Result<(), Fail> {
+fn composes_a_canonical_record(rt: HostRuntime) {
     let alloc = rt.alloc();
     assert_canonical(&rt, "a vector", Vec::new(alloc));
     assert_canonical(&rt, "an array vector", ArrayVec::<u8, 39>::new());
-    assert_canonical(&rt, "a stream target", StreamTarget::new_vec(alloc)?);
+    let target = StreamTarget::new_vec(alloc).expect(&rt, "memory");
+    assert_canonical(&rt, "a stream target", target);
     let target = StaticCompressor::new(Vec::new(alloc));
     assert_canonical(&rt, "a static compressor", target);
     let target = TreeCompressor::new(alloc, Vec::new(alloc));
@@ -43,7 +43,6 @@ fn composes_a_canonical_record(rt: HostRuntime) -> Result<(), Fail> {
     assert_canonical(&rt, "a hash compressor", target);
     let target = FingerprintCompressor::new(alloc, Vec::new(alloc));
     assert_canonical(&rt, "a fingerprint compressor", target);
-    Ok(())
 }
 
 /// Composes a header as it is and in canonical form, RDATA in canonical form, RDATA with its length

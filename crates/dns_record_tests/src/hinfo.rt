@@ -11,7 +11,6 @@ use dns_message::data::{ComposeRecordData, ParseRecordData, RecordData};
 use dns_message::record::{Record, Ttl};
 use dns_message::target::Composer;
 use dns_message::wire::{AppendError, ParseError, Parser};
-use std::test::Fail;
 
 /// The CPU type and the operating system of a host (RFC 1035 section 3.3.2).
 #[derive(Clone, Copy)]
@@ -62,14 +61,14 @@ const MESSAGE: &[u8; 52] =
     b"\x00\x00\x00\x00\x00\x00\x00\x01\x00\x00\x00\x00\x04host\x07example\x00\x00\x0D\x00\x01\x00\x00\x0E\x10\x00\x10\x08DEC-2060\x06TOPS20";
 
 #[test]
-fn composes_its_strings(rt: HostRuntime) -> Result<(), Fail> {
+fn composes_its_strings(rt: HostRuntime) {
     let hinfo = Hinfo {
         cpu: string(&rt, b"\x08DEC-2060"),
         os: string(&rt, b"\x06TOPS20"),
     };
     let owner = name_of(&rt, b"\x04host\x07example\x00");
     let record = Record::new(owner, Class::IN, Ttl::HOUR, hinfo);
-    assert_answer(&rt, rt.alloc(), "an answer", record, MESSAGE)
+    assert_answer(&rt, rt.alloc(), "an answer", record, MESSAGE);
 }
 
 #[test]

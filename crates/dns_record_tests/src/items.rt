@@ -5,7 +5,6 @@ use dns_data::{A, UnknownRecordData};
 use dns_item::{ParsedRecord, Question, Record, RecordHeader, Ttl};
 use dns_wire::{Name, ParseError, ParsedName, Parser, ToName, ToNameExt};
 use std::process::Abort;
-use std::test::Fail;
 
 /// a. 3600 IN A 203.0.113.1, with its RDATA at offsets 13 to 16.
 const ADDRESS: &[u8; 17] = b"\x01a\x00\x00\x01\x00\x01\x00\x00\x0E\x10\x00\x04\xCB\x00\x71\x01";
@@ -56,34 +55,37 @@ fn address_in(parser: &mut Parser<'_>) -> Result<Option<[u8; 4]>, ParseError> {
 }
 
 #[test]
-fn reads_data_after_a_header(rt: HostRuntime) -> Result<(), Fail> {
+fn reads_an_address_after_a_header(rt: HostRuntime) {
     let address = address_in(&mut Parser::new(ADDRESS));
     assert_holds(&rt, "address", address == Ok(Some([203, 0, 113, 1])));
     let mut parser = Parser::new(&ADDRESS[..16]);
     let is_short = address_in(&mut parser) == Err(ParseError::ShortInput);
     assert_holds(&rt, "data that is cut", is_short && parser.pos() == 13);
-    let mut parser = Parser::new(ADDRESS);
-    let header = RecordHeader::parse(&mut parser)?;
-    let record = header.parse_into_any_record::<UnknownRecordData<&[u8]>>(&mut parser)?;
-    assert_octets(&rt, "opaque", record.data().data(), &[203, 0, 113, 1]);
-    assert_holds(&rt, "opaque data is passed", parser.pos() == 17);
-    Ok(())
 }
 
 #[test]
-fn reads_data_of_any_type(rt: HostRuntime) -> Result<(), Fail> {
-    let record = ParsedRecord::parse(&mut Parser::new(ADDRESS))?;
-    let record = record.into_any_record::<UnknownRecordData<&[u8]>>()?;
-    assert_record(&rt, "record", &record, ADDRESS);
-    Ok(())
+fn reads_opaque_data_after_a_header(rt: HostRuntime) {
+    let mut parser = Parser::new(ADDRESS);
+    let header = RecordHeader::parse(&mut parser).expect(&rt, "a header");
+    let record = header.parse_into_any_record::<UnknownRecordData<&[u8]>>(&mut parser);
+    let record = record.expect(&rt, "a record");
+    assert_octets(&rt, "opaque", record.data().data(), &[203, 0, 113, 1]);
+    assert_holds(&rt, "opaque data is passed", parser.pos() == 17);
+}
+
+#[test]
+fn reads_data_of_any_type(rt: HostRuntime) {
+    let record = ParsedRecord::parse(&mut Parser::new(ADDRESS)).expect(&rt, "a record");
+    let record = record.into_any_record::<UnknownRecordData<&[u8]>>();
+    assert_record(&rt, "record", &record.expect(&rt, "data"), ADDRESS);
 }
 
 /// a. 60 CH A 203.0.113.1.
 const CHAOS: &[u8] = b"\x01a\x00\x00\x01\x00\x03\x00\x00\x00\x3C\x00\x04\xCB\x00\x71\x01";
 
 #[test]
-fn takes_items_apart(rt: HostRuntime) -> Result<(), Fail> {
-    let owner = Name::from_octets(*b"\x01a\x00")?;
+fn takes_items_apart(rt: HostRuntime) {
+    let owner = Name::from_octets(*b"\x01a\x00").expect(&rt, "a name");
     let record = Record::new(owner, Class::CH, Ttl::MINUTE, A::from_octets(1, 2, 3, 4));
     assert_octets(
         &rt,
@@ -96,7 +98,6 @@ fn takes_items_apart(rt: HostRuntime) -> Result<(), Fail> {
     assert_octets(&rt, "data", &data.octets(), &[1, 2, 3, 4]);
     let question = Question::new(owner, Rtype::NS, Class::CH);
     assert_octets(&rt, "qname", question.into_qname().as_slice(), b"\x01a\x00");
-    Ok(())
 }
 
 /// Fails unless tuples of these fields have the octets of records.

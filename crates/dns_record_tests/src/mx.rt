@@ -11,7 +11,6 @@ use dns_message::fields::{DataOf, Kind, RecordFields, Value};
 use dns_message::name::{ParsedName, ToNameExt};
 use dns_message::record::{Record, Ttl};
 use dns_message::wire::Parser;
-use std::test::Fail;
 
 const FIELDS: &[(&str, Kind)] = &[
     ("preference", Kind::Number16),
@@ -55,14 +54,13 @@ const MESSAGE: &[u8; 40] =
     b"\x00\x00\x00\x00\x00\x00\x00\x01\x00\x00\x00\x00\x04mail\x07example\x00\x00\x0F\x00\x01\x00\x00\x0E\x10\x00\x04\x00\x0A\xC0\x0C";
 
 #[test]
-fn compresses_its_exchange(rt: HostRuntime) -> Result<(), Fail> {
+fn compresses_its_exchange(rt: HostRuntime) {
     let mut parser = Parser::new(b"\x00\x0A\x04mail\x07example\x00");
-    let Some(mx) = DataOf::<'_, Mx>::parse_rdata(Rtype::MX, &mut parser)? else {
-        panic!(rt; "no data");
-    };
+    let mx = DataOf::<'_, Mx>::parse_rdata(Rtype::MX, &mut parser);
+    let mx = mx.expect(&rt, "data").expect(&rt, "data");
     let owner = name_of(&rt, b"\x04mail\x07example\x00");
     let record = Record::new(owner, Class::IN, Ttl::HOUR, mx);
-    assert_answer(&rt, rt.alloc(), "an answer", record, MESSAGE)
+    assert_answer(&rt, rt.alloc(), "an answer", record, MESSAGE);
 }
 
 #[test]

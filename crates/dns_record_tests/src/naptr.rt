@@ -16,11 +16,10 @@ use dns_message::code::{Class, Rtype};
 use dns_message::data::laws::names_are_bounded;
 use dns_message::data::{ComposeRecordData, Ns, ParseRecordData, RecordData};
 use dns_message::name::{ParsedName, ToName, ToNameExt};
-use dns_message::record::{Record, Ttl};
+use dns_message::record::{ComposeRecord, Record, Ttl};
 use dns_message::target::{Composer, TreeCompressor};
 use dns_message::wire::{AppendError, ParseError, Parser};
 use std::process::Abort;
-use std::test::Fail;
 
 /// A naming authority pointer (RFC 3403 section 4.1).
 ///
@@ -163,29 +162,41 @@ fn pointer_to<N>(rt: &impl Abort, replacement: N) -> Naptr<'static, N> {
 }
 
 #[test]
-fn never_compresses_its_replacement(rt: HostRuntime) -> Result<(), Fail> {
+fn never_compresses_its_replacement(rt: HostRuntime) {
     let naptr = pointer_to(&rt, name_of(&rt, b"\x05z3950\x07example\x00"));
     let owner = name_of(&rt, b"\x07example\x00");
     let record = Record::new(owner, Class::IN, Ttl::HOUR, naptr);
-    assert_answer(&rt, rt.alloc(), "an answer", record, MESSAGE)
+    assert_answer(&rt, rt.alloc(), "an answer", record, MESSAGE);
 }
 
 /// The first message with a second answer: an NS record whose owner and server are the replacement.
 const SECOND: &[u8; 87] =
     b"\x00\x00\x00\x00\x00\x00\x00\x02\x00\x00\x00\x00\x07example\x00\x00\x23\x00\x01\x00\x00\x0E\x10\x00\x24\x00\x64\x00\x32\x01s\x0Dz3950+N2L+N2C\x00\x05z3950\x07example\x00\x05z3950\xC0\x0C\x00\x02\x00\x01\x00\x00\x0E\x10\x00\x02\xC0\x43";
 
+/// Fails unless the message with these two answers has these octets.
+fn assert_answers<T: Composer, R: ComposeRecord + Drop, S: ComposeRecord + Drop>(
+    rt: &impl Abort,
+    target: T,
+    first: R,
+    second: S,
+    expected: &[u8],
+) {
+    let builder = MessageBuilder::from_target(target).expect(rt, "a capacity");
+    let mut builder = builder.answer();
+    builder.push(first).expect(rt, "the first answer");
+    builder.push(second).expect(rt, "the second answer");
+    assert_octets(rt, "two answers", builder.as_slice(), expected);
+}
+
 /// The owner of the second answer shares a suffix with the first owner, not with the replacement.
 #[test]
-fn shares_no_suffix_of_its_replacement(rt: HostRuntime) -> Result<(), Fail> {
-    let alloc = rt.alloc();
-    let target = TreeCompressor::new(alloc, Vec::new(alloc));
-    let mut builder = MessageBuilder::from_target(target)?.answer();
+fn shares_no_suffix_of_its_replacement(rt: HostRuntime) {
     let zone = name_of(&rt, b"\x07example\x00");
     let host = name_of(&rt, b"\x05z3950\x07example\x00");
-    builder.push(Record::new(zone, Class::IN, Ttl::HOUR, pointer_to(&rt, host)))?;
-    builder.push(Record::new(host, Class::IN, Ttl::HOUR, Ns::new(host)))?;
-    assert_octets(&rt, "two answers", builder.as_slice(), SECOND);
-    Ok(())
+    let first = Record::new(zone, Class::IN, Ttl::HOUR, pointer_to(&rt, host));
+    let second = Record::new(host, Class::IN, Ttl::HOUR, Ns::new(host));
+    let target = TreeCompressor::new(rt.alloc(), Vec::new(rt.alloc()));
+    assert_answers(&rt, target, first, second, SECOND);
 }
 
 /// Only the name is lowercased.

@@ -163,13 +163,18 @@ fn assert_faulty(rt: &impl Abort, alloc: Global, case: &Faulty, error: Option<Fr
     assert_prints(rt, alloc, case.name, &error, case.printed);
 }
 
+/// Fails unless both ways to read each text give its error.
+fn assert_all_faulty(rt: &impl Abort, alloc: Global, cases: &[Faulty]) {
+    for case in cases {
+        let read = Question::vec_from_str(alloc, case.text);
+        assert_faulty(rt, alloc, case, read.err());
+        assert_faulty(rt, alloc, case, buffered(case.text).err());
+    }
+}
+
 #[test]
 fn refuses_texts(rt: HostRuntime) {
-    for case in FAULTY {
-        let read = Question::vec_from_str(rt.alloc(), case.text);
-        assert_faulty(&rt, rt.alloc(), case, read.err());
-        assert_faulty(&rt, rt.alloc(), case, buffered(case.text).err());
-    }
+    assert_all_faulty(&rt, rt.alloc(), FAULTY);
 }
 
 /// Fails unless both ways to read the text give the question example.com. A IN.

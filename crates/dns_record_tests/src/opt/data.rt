@@ -5,10 +5,9 @@ use dns_data::{Opt, ParseRecordData};
 use dns_opt::{OptionIter, are_options};
 use dns_wire::{ParseError, Parser};
 use std::process::Abort;
-use std::test::Fail;
 
 /// NSID, DAU with the algorithms 8 and 13, EXPIRE, and a keepalive timeout of 30 seconds.
-const OPTIONS: [u8; 20] =
+static OPTIONS: [u8; 20] =
     *b"\x00\x03\x00\x00\x00\x05\x00\x02\x08\x0D\x00\x09\x00\x00\x00\x0B\x00\x02\x01\x2C";
 
 /// The code of an option, and its octets.
@@ -89,11 +88,9 @@ fn refuses_a_torn_option_and_another_type(rt: HostRuntime) {
 }
 
 #[test]
-fn clones(rt: HostRuntime) -> Result<(), Fail> {
-    let mut octets = Vec::new(rt.alloc());
-    octets.extend_from_slice(&OPTIONS)?;
-    let opt = Opt::from_octets(octets)?;
-    let clone = opt.clone()?;
+fn clones(rt: HostRuntime) {
+    let octets = OPTIONS.to_vec(rt.alloc()).expect(&rt, "memory");
+    let opt = Opt::from_octets(octets).expect(&rt, "options");
+    let clone = opt.clone().expect(&rt, "memory");
     assert_octets(&rt, "clone", clone.data().as_slice(), &OPTIONS);
-    Ok(())
 }

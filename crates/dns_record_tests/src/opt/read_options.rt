@@ -6,14 +6,14 @@ use dns_opt::{
     BadOptData, ClientSubnet, Cookie, Expire, ExtendedError, KnownOptData, SubnetAddr, TcpKeepalive,
 };
 use dns_opt_builder::OptBuilder;
+use dns_wire::AppendError;
 use std::process::Abort;
-use std::test::Fail;
 
 /// A client cookie of eight octets.
 const CLIENT: [u8; 8] = [1, 2, 3, 4, 5, 6, 7, 8];
 
 /// The octets of an option of 41 octets, of which a row takes some.
-const OCTETS: [u8; 41] = [
+static OCTETS: [u8; 41] = [
     1, 2, 3, 4, 5, 6, 7, 8, 9, 10, 11, 12, 13, 14, 15, 16, 17, 18, 19, 20, 21, 22, 23, 24, 25, 26,
     27, 28, 29, 30, 31, 32, 33, 34, 35, 36, 37, 38, 39, 40, 41,
 ];
@@ -35,22 +35,29 @@ fn reads_cookies_of_allowed_lengths(rt: HostRuntime) {
     }
 }
 
+/// Fails unless an option was read as this value.
+fn assert_read<T: PartialEq + Drop>(
+    rt: &impl Abort,
+    row: &str,
+    read: Result<T, BadOptData>,
+    value: T,
+) {
+    assert_holds(rt, row, read == Ok(value));
+}
+
+/// RFC 9018 appendix A.1: the client's cookie, and then with that of the server.
 #[test]
-fn reads_the_cookies_of_rfc_9018(rt: HostRuntime) -> Result<(), Fail> {
-    // RFC 9018 appendix A.1: the client's cookie, and then with that of the server.
-    let query = Cookie::parse(b"\x24\x64\xC4\xAB\xCF\x10\xC9\x57")?;
-    assert_holds(&rt, "no server cookie", query.server.is_none());
+fn reads_the_cookies_of_rfc_9018(rt: HostRuntime) {
+    let client = *b"\x24\x64\xC4\xAB\xCF\x10\xC9\x57";
+    let server = None;
+    let query = Cookie::parse(b"\x24\x64\xC4\xAB\xCF\x10\xC9\x57");
+    assert_read(&rt, "no server cookie", query, Cookie { client, server });
     let response = Cookie::parse(
         b"\x24\x64\xC4\xAB\xCF\x10\xC9\x57\x01\x00\x00\x00\x5C\xF7\x9F\x11\x1F\x81\x30\xC3\xEE\xE2\x94\x80",
-    )?;
-    assert_octets(&rt, "client", &response.client, &query.client);
-    assert_octets(
-        &rt,
-        "server",
-        response.server.unwrap_or(&[]),
-        b"\x01\x00\x00\x00\x5C\xF7\x9F\x11\x1F\x81\x30\xC3\xEE\xE2\x94\x80",
     );
-    Ok(())
+    let octets = b"\x01\x00\x00\x00\x5C\xF7\x9F\x11\x1F\x81\x30\xC3\xEE\xE2\x94\x80";
+    let server = Some(octets.as_slice());
+    assert_read(&rt, "a server cookie", response, Cookie { client, server });
 }
 
 /// The octets of a client subnet, and what they are read as.
@@ -105,12 +112,12 @@ const SUBNETS: &[Subnet] = &[
 #[test]
 fn reads_client_subnets(rt: HostRuntime) {
     for case in SUBNETS {
-        let Ok(subnet) = ClientSubnet::parse(case.octets) else {
-            panic!(rt; "{}: malformed", case.name)
+        let subnet = ClientSubnet {
+            source: case.source,
+            scope: case.scope,
+            address: case.address,
         };
-        assert_holds(&rt, case.name, subnet.source == case.source);
-        assert_holds(&rt, case.name, subnet.scope == case.scope);
-        assert_holds(&rt, case.name, subnet.address == case.address);
+        assert_read(&rt, case.name, ClientSubnet::parse(case.octets), subnet);
     }
 }
 
@@ -218,118 +225,112 @@ fn refuses_malformed_options(rt: HostRuntime) {
 }
 
 #[test]
-fn reads_numbers_and_texts(rt: HostRuntime) -> Result<(), Fail> {
-    let query = Expire::parse(b"")?;
-    assert_holds(&rt, "EXPIRE in a query", query.0.is_none());
-    let week = Expire::parse(b"\x00\x09\x3A\x80")?;
-    assert_holds(&rt, "EXPIRE after a week", week.0 == Some(604_800));
-    let query = TcpKeepalive::parse(b"")?;
-    assert_holds(&rt, "keepalive in a query", query.0.is_none());
-    let half_minute = TcpKeepalive::parse(b"\x01\x2C")?;
-    assert_holds(&rt, "keepalive of 30 seconds", half_minute.0 == Some(300));
-    let bare = ExtendedError::parse(b"\x00\x12")?;
-    assert_holds(
-        &rt,
-        "Prohibited",
-        bare.code == 18 && bare.text() == Some(""),
-    );
-    let error = ExtendedError::parse(b"\x00\x06no key \xE2\x98\x83")?;
-    assert_holds(&rt, "DNSSEC Bogus", error.code == 6);
-    assert_holds(&rt, "its text", error.text() == Some("no key \u{2603}"));
-    let other = ExtendedError::parse(b"\x00\x00\xFF")?;
-    assert_holds(&rt, "not UTF-8", other.text().is_none());
-    assert_octets(&rt, "its octets", other.text_octets, b"\xFF");
-    Ok(())
+fn reads_numbers(rt: HostRuntime) {
+    let query = Expire::parse(b"");
+    assert_read(&rt, "EXPIRE in a query", query, Expire(None));
+    let week = Expire::parse(b"\x00\x09\x3A\x80");
+    assert_read(&rt, "EXPIRE after a week", week, Expire(Some(604_800)));
+    let query = TcpKeepalive::parse(b"");
+    assert_read(&rt, "keepalive in a query", query, TcpKeepalive(None));
+    let half_minute = TcpKeepalive(Some(300));
+    let read = TcpKeepalive::parse(b"\x01\x2C");
+    assert_read(&rt, "keepalive of 30 seconds", read, half_minute);
+}
+
+/// Fails unless the octets are read as an extended error with this code and text.
+fn assert_error(rt: &impl Abort, row: &str, octets: &[u8], code: u16, text: Option<&str>) {
+    let error = ExtendedError::parse(octets).expect(rt, row);
+    assert_holds(rt, row, error.code == code && error.text() == text);
+}
+
+#[test]
+fn reads_texts(rt: HostRuntime) {
+    assert_error(&rt, "Prohibited", b"\x00\x12", 18, Some(""));
+    let octets = b"\x00\x06no key \xE2\x98\x83";
+    let text = "no key \u{2603}";
+    assert_error(&rt, "DNSSEC Bogus, with a text", octets, 6, Some(text));
+    assert_error(&rt, "not UTF-8", b"\x00\x00\xFF", 0, None);
+    let other = ExtendedError::parse(b"\x00\x00\xFF").expect(&rt, "an error");
+    assert_octets(&rt, "octets that aren't UTF-8", other.text_octets, b"\xFF");
 }
 
 #[test]
 fn reads_each_kind_by_its_code(rt: HostRuntime) {
-    if let Ok(Some(KnownOptData::Nsid(identifier))) = KnownOptData::parse(
-        OptionCode::NSID,
-        b"gpdns",
-    ) {
-        assert_octets(&rt, "NSID", identifier, b"gpdns");
-    } else {
-        panic!(rt; "no NSID");
-    }
-    if let Ok(Some(KnownOptData::Padding(octets))) = KnownOptData::parse(
-        OptionCode::PADDING,
-        b"\0\0",
-    ) {
-        assert_octets(&rt, "padding", octets, b"\0\0");
-    } else {
-        panic!(rt; "no padding");
-    }
-    if let Ok(Some(KnownOptData::Cookie(cookie))) = KnownOptData::parse(
-        OptionCode::COOKIE,
-        &CLIENT,
-    ) {
-        assert_holds(&rt, "cookie", cookie.client == CLIENT);
-    } else {
-        panic!(rt; "no cookie");
-    }
+    let nsid = KnownOptData::parse(OptionCode::NSID, b"gpdns");
+    assert_read(&rt, "NSID", nsid, Some(KnownOptData::Nsid(b"gpdns")));
+    let padding = KnownOptData::parse(OptionCode::PADDING, b"\0\0");
+    let zeros = KnownOptData::Padding(b"\0\0");
+    assert_read(&rt, "padding", padding, Some(zeros));
+    let cookie = KnownOptData::parse(OptionCode::COOKIE, b"\x01\x02\x03\x04\x05\x06\x07\x08");
+    let server = None;
+    let client = KnownOptData::Cookie(Cookie {
+        client: CLIENT,
+        server,
+    });
+    assert_read(&rt, "cookie", cookie, Some(client));
     let dau = KnownOptData::parse(OptionCode::DAU, b"\x08");
-    assert_holds(&rt, "DAU isn't among them", dau == Ok(None));
+    assert_read(&rt, "DAU isn't among them", dau, None);
 }
 
 #[test]
-fn finds_the_first_of_a_kind(rt: HostRuntime) -> Result<(), Fail> {
+fn finds_the_first_of_a_kind(rt: HostRuntime) {
     // A keepalive of 30 seconds, DAU, a keepalive of a malformed length, and a malformed cookie.
     let opt = options(
         &rt,
         b"\x00\x0B\x00\x02\x01\x2C\x00\x05\x00\x01\x08\x00\x0B\x00\x01\x00\x00\x0A\x00\x01\x00",
     );
-    let keepalive = opt.tcp_keepalive()?;
-    assert_holds(
-        &rt,
-        "the first keepalive",
-        keepalive == Some(TcpKeepalive(Some(300))),
-    );
+    let half_minute = Some(TcpKeepalive(Some(300)));
+    assert_read(&rt, "the first keepalive", opt.tcp_keepalive(), half_minute);
     assert_holds(&rt, "cookie", opt.cookie().err() == Some(BadOptData));
-    assert_holds(&rt, "no EXPIRE", opt.expire()? == None);
+    assert_read(&rt, "no EXPIRE", opt.expire(), None);
     assert_holds(&rt, "no NSID", opt.nsid().is_none());
     let dau = opt.first(OptionCode::DAU);
     assert_octets(&rt, "DAU", dau.unwrap_or(&[]), b"\x08");
-    Ok(())
 }
 
-/// A builder with an option of each kind.
-fn builder(rt: &HostRuntime) -> Result<OptBuilder, Fail> {
-    let mut opt = OptBuilder::new(rt.alloc(), Header::new());
+/// Adds an option of each kind.
+fn add_each(opt: &mut OptBuilder) -> Result<(), AppendError> {
     opt.nsid(b"ns1")?;
     opt.client_subnet(20, 40, SubnetAddr::V4([192, 0, 255, 1]))?;
     opt.expire(Some(258))?;
     opt.cookie(CLIENT, Some(&OCTETS[..16]))?;
     opt.tcp_keepalive(None)?;
     opt.padding(3)?;
-    opt.extended_error(18, Some("no"))?;
-    Ok(opt)
+    opt.extended_error(18, Some("no"))
 }
 
-#[test]
-fn reads_back_what_a_builder_wrote(rt: HostRuntime) -> Result<(), Fail> {
-    let builder = builder(&rt)?;
-    let opt = Opt::from_octets(builder.option_octets())?;
-    assert_octets(&rt, "NSID", opt.nsid().unwrap_or(&[]), b"ns1");
-    assert_octets(&rt, "padding", opt.padding().unwrap_or(&[]), b"\0\0\0");
+/// Fails unless the numbers and octets are those that `add_each` added.
+fn assert_numbers_and_octets(rt: &impl Abort, opt: &Opt<&[u8]>) {
+    assert_octets(rt, "NSID", opt.nsid().unwrap_or(&[]), b"ns1");
+    assert_octets(rt, "padding", opt.padding().unwrap_or(&[]), b"\0\0\0");
+    assert_read(rt, "EXPIRE", opt.expire(), Some(Expire(Some(258))));
+    let keepalive = TcpKeepalive(None);
+    assert_read(rt, "keepalive", opt.tcp_keepalive(), Some(keepalive));
+}
+
+/// Fails unless the subnet, the cookie and the extended error are those that `add_each` added.
+fn assert_parts(rt: &impl Abort, opt: &Opt<&[u8]>) {
     let subnet = ClientSubnet {
         source: 20,
         scope: 32,
         address: SubnetAddr::V4([192, 0, 240, 0]),
     };
-    assert_holds(&rt, "subnet", opt.client_subnet()? == Some(subnet));
-    assert_holds(&rt, "EXPIRE", opt.expire()? == Some(Expire(Some(258))));
-    let keepalive = opt.tcp_keepalive()?;
-    assert_holds(&rt, "keepalive", keepalive == Some(TcpKeepalive(None)));
-    let Some(cookie) = opt.cookie()? else {
-        panic!(rt; "no cookie")
+    assert_read(rt, "subnet", opt.client_subnet(), Some(subnet));
+    let cookie = Cookie {
+        client: CLIENT,
+        server: Some(&OCTETS[..16]),
     };
-    assert_holds(&rt, "client cookie", cookie.client == CLIENT);
-    let server = cookie.server.unwrap_or(&[]);
-    assert_octets(&rt, "server cookie", server, &OCTETS[..16]);
-    let Some(error) = opt.extended_error()? else {
-        panic!(rt; "no extended error")
-    };
-    assert_holds(&rt, "error", error.code == 18 && error.text() == Some("no"));
-    Ok(())
+    assert_read(rt, "cookie", opt.cookie(), Some(cookie));
+    let error = opt.extended_error().expect(rt, "an extended error");
+    let error = error.expect(rt, "an extended error");
+    assert_holds(rt, "error", error.code == 18 && error.text() == Some("no"));
+}
+
+#[test]
+fn reads_back_what_a_builder_wrote(rt: HostRuntime) {
+    let mut builder = OptBuilder::new(rt.alloc(), Header::new());
+    add_each(&mut builder).expect(&rt, "memory");
+    let opt = Opt::from_octets(builder.option_octets()).expect(&rt, "options");
+    assert_numbers_and_octets(&rt, &opt);
+    assert_parts(&rt, &opt);
 }
