@@ -21,12 +21,12 @@ use Rattle.dns_fields.specs.declared.shape.Shape.{Shape}
 use Rattle.dns_fields.specs.declared.shape.Shape.TheVariants.{Octets, Counted, Sized, Name, UncompressedName, Rest}
 use Rattle.dns_line_words.specs.FieldLaws.{AreWordsOfFields}
 use Rattle.dns_line_words.specs.LineWords.{AreWordsOf, texts}
+use Rattle.dns_fields_read.proofs.ByteLemmas.{bytes_front, bytes_back}
 use Rattle.dns_data_read.specs.Extents.{extent_of}
 use Rattle.dns_data_read.specs.FieldWords.{Words}
 use Rattle.dns_data_read.specs.declared.extent.Extent.{Extent}
 use Rattle.dns_data_read.specs.declared.extent.Extent.TheVariants.{All}
 use Rattle.dns_data_read.proofs.FieldPart.{HasWords, IsFieldPart}
-use Rattle.dns_data_read.proofs.OctetLemmas.{bytes_left, bytes_right}
 
 abbrev is_all : Extent → Bool
 is_all All = true
@@ -127,8 +127,8 @@ parts_split : (kind : Kind) (others : Layout) (part : Part) (left : List Part) �
 parts_split kind others part left is are names bytes small =
     let own = names_split part left names in
     let size = length-append (part_octets part) (octets_of_parts left) in (
-      (is, own.0, bytes_left (part_octets part) (octets_of_parts left) bytes, omega (arith, size, small)),
-      (are, own.1, bytes_right (part_octets part) (octets_of_parts left) bytes, omega (arith, size, small)),
+      (is, own.0, bytes_front (part_octets part) (octets_of_parts left) bytes, omega (arith, size, small)),
+      (are, own.1, bytes_back (part_octets part) (octets_of_parts left) bytes, omega (arith, size, small)),
     )
 
 pub no_texts : (words : Words) → texts words ≡ [] → words ≡ []

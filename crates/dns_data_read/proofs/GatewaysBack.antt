@@ -22,9 +22,9 @@ use Rattle.dns_fields_read.specs.GatewayWords.{IsGateway, IsRelay}
 use Rattle.dns_fields_read.specs.IdentityWords.{IsHostIdentity}
 use Rattle.dns_fields_read.specs.Laws.{GatewaysReadBack, IdentitiesReadBack, Ipv4ReadsBack, Ipv6ReadsBack, RelaysReadBack}
 use Rattle.dns_fields_read.specs.PrintedWords.{HasNoSpace}
+use Rattle.dns_fields_read.proofs.ByteLemmas.{bytes_take}
+use Rattle.dns_fields_read.proofs.SpaceLemmas.{base64_clear, colon_hex_clear, decimal_clear, dot_clear, dotted_clear, hex_clear, name_clear}
 use Rattle.dns_data_read.specs.FieldWords.{Words}
-use Rattle.dns_data_read.proofs.ClearWords.{base64_clear, colon_hex_clear, decimal_clear, dot_clear, dotted_clear, hex_clear, name_clear}
-use Rattle.dns_data_read.proofs.OctetLemmas.{bytes_take}
 use Rattle.dns_data_read.proofs.PrintedTexts.{after_spaces, are_printed, some_same}
 
 -- a value and the octets after it

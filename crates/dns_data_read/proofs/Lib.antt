@@ -1,5 +1,4 @@
 mod AppendLemmas
-mod ClearWords
 mod CountLemmas
 mod DataBack
 mod FieldPart
@@ -11,7 +10,6 @@ mod ListsBack
 mod LocationBack
 mod MarkedWords
 mod NumberOctets
-mod OctetLemmas
 mod OneData
 mod OneRecord
 mod OpaqueBack

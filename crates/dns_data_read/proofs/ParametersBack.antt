@@ -13,8 +13,8 @@ use Rattle.dns_line_words.specs.LineWords.{texts}
 use Rattle.dns_fields_read.specs.AnyOrder.{AreIncreasing, InAnyOrder}
 use Rattle.dns_fields_read.specs.Laws.{ParametersReadBack}
 use Rattle.dns_fields_read.specs.ParameterWords.{AreParameterWords, IsParameterWord, key_of, parameter_octets}
+use Rattle.dns_fields_read.proofs.ByteLemmas.{bytes_drop, bytes_take}
 use Rattle.dns_data_read.specs.FieldWords.{Words}
-use Rattle.dns_data_read.proofs.OctetLemmas.{bytes_drop, bytes_take}
 
 -- two octets are the key of a parameter, and two count its value
 abbrev Fits : ParameterItem → Type 0

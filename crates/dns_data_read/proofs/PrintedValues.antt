@@ -21,11 +21,11 @@ use Rattle.dns_fields_read.specs.Addresses.{IsIpv6Word}
 use Rattle.dns_fields_read.specs.EuiWords.{IsEuiWord}
 use Rattle.dns_fields_read.specs.LocatorWords.{IsLocatorWord}
 use Rattle.dns_fields_read.specs.NameWords.{IsNameWord}
+use Rattle.dns_fields_read.proofs.ByteLemmas.{labels_of_octets}
 use Rattle.dns_line_words.specs.LineWords.{IsWord}
 use Rattle.dns_data_read.specs.FieldWords.{IsHash, IsNumberIn, IsSalt, IsString, IsTagWord, IsTime, IsType, counted}
 use Rattle.dns_data_read.proofs.MarkedWords.{number_differs, type_differs}
 use Rattle.dns_data_read.proofs.NumberOctets.{number_octets, number_small}
-use Rattle.dns_data_read.proofs.OctetLemmas.{labels_of_octets}
 use Rattle.dns_data_read.proofs.PrintedLaws.{PrintedLaws}
 use Rattle.dns_data_read.proofs.PrintedTexts.{some_same}
 use Rattle.dns_data_read.proofs.Unmarked.{Unmarked, colon_hex_unmarked, dotted_unmarked, eui_unmarked, hash_unmarked, locator_unmarked, name_unmarked, quoted_unmarked, salt_unmarked, tag_unmarked, time_unmarked}

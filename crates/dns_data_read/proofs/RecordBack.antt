@@ -12,6 +12,7 @@ use Rattle.dns_fields.specs.declared.field_data.FieldData.{FieldData}
 use Rattle.dns_fields_read.specs.Laws.{NamesReadBack, TypesReadBack}
 use Rattle.dns_fields_read.specs.NameWords.{IsNameText}
 use Rattle.dns_fields_read.specs.TypeWords.{IsTypeWord}
+use Rattle.dns_fields_read.proofs.ByteLemmas.{labels_of_octets}
 use Rattle.dns_fields_text.specs.DataTexts.{data_line}
 use Rattle.dns_fields_text.specs.RecordLines.{record_text}
 use Rattle.dns_fields_text.specs.TypeNames.{type_word}
@@ -22,7 +23,6 @@ use Rattle.dns_line_words.proofs.LineLemmas.{one_list}
 use Rattle.dns_data_read.specs.FieldWords.{Words}
 use Rattle.dns_data_read.specs.Laws.{DataReadsBack, HasOctets, RecordsReadBack}
 use Rattle.dns_data_read.specs.RecordWords.{AreHeadWords}
-use Rattle.dns_data_read.proofs.OctetLemmas.{labels_of_octets}
 use Rattle.dns_data_read.proofs.OpaqueBack.{number_back}
 
 -- the owner

@@ -1,13 +1,14 @@
 -- The uncompressed name at the start of octets.
-use Rattle.std.proofs.Common.{◌≡◌, ◌∙◌, ℕ, zero, suc, ◌+◌, ◌<◌, ◌≤◌, ◌==◌, Bool, true, false, List, [], ◌∷◌, ◌++◌, length, take, drop, append_assoc, refl, sym, ap, subst, arith}
+use Rattle.std.proofs.Common.{◌≡◌, ◌∙◌, ℕ, zero, suc, ◌+◌, ◌≤◌, ◌==◌, Bool, true, false, List, [], ◌∷◌, ◌++◌, length, take, drop, append_assoc, refl, sym, ap, subst, arith}
 use Rattle.std.specs.Prelude.{All, Option, Some, None, option_map, nat_le, ◌&&◌, if◌then◌else◌}
 use Rattle.std.proofs.lemmas.Bool.{leb-true, and_parts, eqb-true, eqb-false}
 use Rattle.std.proofs.lemmas.List.{length-take-le, take-append-drop}
-use Rattle.std.proofs.lemmas.List.Elements.{All-cons, All-from_get_or, All-nil}
+use Rattle.std.proofs.lemmas.List.Elements.{All-cons, All-nil}
 use Rattle.hex.specs.Hex.{IsBytes}
 use Rattle.dns_name.specs.Names.{Labels, IsLabel, IsName, name_size, uncompressed}
 use Rattle.dns_fields.specs.PlainNames.{can_follow}
 use Rattle.dns_fields_text.specs.GatewayTexts.{labels_at, name_at}
+use Rattle.dns_fields_read.proofs.ByteLemmas.{OfOctets, bytes_back, bytes_front, labels_of_octets}
 
 -- values that are there are the same
 pub some_same : {A : Type 0} (x y : A) → Some x ≡ Some y → x ≡ y
@@ -72,28 +73,6 @@ found_at zero size octets after name small e = absurd (cc)
 found_at (suc count) size [] after name small e = absurd (cc)
 found_at (suc count) size (n ∷ octets) after name small e = at_first count (found_at count) size n octets after name small (n == 0) refl e
 
--- octets of both parts
-pub front_bytes : (xs ys : List ℕ) → IsBytes (xs ++ ys) → IsBytes xs
-front_bytes [] ys bytes i = omega arith
-front_bytes (x ∷ xs) ys bytes zero = bytes 0
-front_bytes (x ∷ xs) ys bytes (suc i) = front_bytes xs ys (λ j. bytes (suc j)) i
-
-pub back_bytes : (xs ys : List ℕ) → IsBytes (xs ++ ys) → IsBytes ys
-back_bytes [] ys bytes = bytes
-back_bytes (x ∷ xs) ys bytes = back_bytes xs ys (λ i. bytes (suc i))
-
-abbrev OfOctets : List ℕ → Type 0
-OfOctets label = All (λ octet. octet < 256) label
-
-label_octets : (label : List ℕ) → IsBytes label → OfOctets label
-label_octets label bytes = All-from_get_or (λ octet. octet < 256) label 0 (λ i h. bytes i)
-
-name_octets : (name : Labels) → IsBytes (uncompressed name) → All OfOctets name
-name_octets [] bytes = All-nil OfOctets
-name_octets (label ∷ name) bytes =
-    let own : IsBytes (label ++ uncompressed name) = λ i. bytes (suc i) in
-    All-cons OfOctets label name (label_octets label (front_bytes label (uncompressed name) own)) (name_octets name (back_bytes label (uncompressed name) own))
-
 -- the name that is found, and the octets after it
 pub record NameFirst (octets after : List ℕ) (name : Labels) : Type 0 where
   pub whole : octets ≡ uncompressed name ++ after
@@ -108,6 +87,6 @@ name_first octets after name bytes e =
     record {
       whole = found.whole;
       is_name = record { labels = found.labels; short = omega (arith, found.short) };
-      of_octets = name_octets name (front_bytes (uncompressed name) after all);
-      bytes = back_bytes (uncompressed name) after all;
+      of_octets = labels_of_octets name (bytes_front (uncompressed name) after all);
+      bytes = bytes_back (uncompressed name) after all;
     }

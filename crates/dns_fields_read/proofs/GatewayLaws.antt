@@ -19,7 +19,8 @@ use Rattle.dns_fields_read.specs.Addresses.{IsIpv6Word}
 use Rattle.dns_fields_read.specs.GatewayWords.{IsGateway, IsGatewayAndKey, IsGatewayOf, IsRelay, IsRelayOf}
 use Rattle.dns_fields_read.specs.PrintedWords.{AreWords, HasNoSpace}
 use Rattle.dns_fields_read.proofs.AddressLaws.{ipv6_reads_back}
-use Rattle.dns_fields_read.proofs.FoundNames.{back_bytes, front_bytes, name_first, pair_same, some_same}
+use Rattle.dns_fields_read.proofs.ByteLemmas.{bytes_back, bytes_front}
+use Rattle.dns_fields_read.proofs.FoundNames.{name_first, pair_same, some_same}
 use Rattle.dns_fields_read.proofs.NameLaws.{names_read_back}
 use Rattle.dns_fields_read.proofs.SizedLaws.{key_begins, key_read, number_read}
 use Rattle.dns_fields_read.proofs.SpaceLemmas.{Taken, colon_hex_clear, decimal_clear, dot_clear, dotted_clear, name_clear, no_words, taken}
@@ -57,9 +58,9 @@ split_at size octets after bytes enough e =
     let all : IsBytes (take size octets ++ drop size octets) = subst IsBytes whole bytes in
     record {
       sized = length-take-le size octets enough;
-      front = front_bytes (take size octets) (drop size octets) all;
+      front = bytes_front (take size octets) (drop size octets) all;
       whole = whole ∙ ap (λ (xs : List ℕ). take size octets ++ xs) e;
-      back = subst IsBytes e (back_bytes (take size octets) (drop size octets) all);
+      back = subst IsBytes e (bytes_back (take size octets) (drop size octets) all);
     }
 
 word_first : (size : ℕ) (text : List ℕ → List ℕ) (octets word after : List ℕ) → IsBytes octets → word_at size text octets ≡ found_word word after → Split size octets after × (text (take size octets) ≡ word)

@@ -19,7 +19,8 @@ use Rattle.dns_fields_text.specs.HostIdentities.{identity_parts, identity_text, 
 use Rattle.dns_fields_text.specs.ZoneNames.{zone_name_text}
 use Rattle.dns_fields_read.specs.IdentityWords.{AreNames, IsHostIdentity, IsIdentity, identity_octets}
 use Rattle.dns_fields_read.specs.PrintedWords.{AreWords}
-use Rattle.dns_fields_read.proofs.FoundNames.{back_bytes, front_bytes, name_first, some_same}
+use Rattle.dns_fields_read.proofs.ByteLemmas.{bytes_back, bytes_front}
+use Rattle.dns_fields_read.proofs.FoundNames.{name_first, some_same}
 use Rattle.dns_fields_read.proofs.NameLaws.{names_read_back}
 use Rattle.dns_fields_read.proofs.SizedLaws.{number_read}
 use Rattle.dns_fields_read.proofs.SpaceLemmas.{BeginsWithSpace, Separate, Taken, base64_clear, decimal_clear, hex_clear, name_clear, no_words, taken, texts}
@@ -168,14 +169,14 @@ module _ (hex : HexReadsBack) (base64 : Base64ReadsBack) (size algorithm high lo
       let first : octets ≡ tag ++ drop size octets = sym (take-append-drop size octets) in
       let second : drop size octets ≡ key ++ servers = sym (take-append-drop key_size (drop size octets)) in
       let first_bytes : IsBytes (tag ++ drop size octets) = subst IsBytes first (λ i. bytes (suc (suc (suc (suc i))))) in
-      let second_bytes : IsBytes (key ++ servers) = subst IsBytes second (back_bytes tag (drop size octets) first_bytes) in
+      let second_bytes : IsBytes (key ++ servers) = subst IsBytes second (bytes_back tag (drop size octets) first_bytes) in
       let high_is : high ≡ length key / 256 = omega (arith, key_count, low_small) in
       let low_is : low ≡ length key % 256 = omega (arith, key_count, low_small) in
       record {
         small = bytes 1;
-        tag_bytes = front_bytes tag (drop size octets) first_bytes;
-        key_bytes = front_bytes key servers second_bytes;
-        server_bytes = back_bytes key servers second_bytes;
+        tag_bytes = bytes_front tag (drop size octets) first_bytes;
+        key_bytes = bytes_front key servers second_bytes;
+        server_bytes = bytes_back key servers second_bytes;
         short = omega (arith, tag_size, size_small);
         few = omega (arith, key_count, high_small, low_small);
         whole =

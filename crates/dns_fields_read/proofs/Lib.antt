@@ -3,7 +3,7 @@ mod AnyOrderLemmas
 mod AppendLemmas
 mod Base32Lemmas
 mod BlockLemmas
-mod ByteLemmas
+pub mod ByteLemmas
 mod Calendar
 mod CommaLemmas
 mod EuiLemmas
@@ -32,7 +32,7 @@ mod SaltLaws
 mod SaltLemmas
 mod SizedLaws
 mod SmallMapLemmas
-mod SpaceLemmas
+pub mod SpaceLemmas
 mod SpacedWords
 mod StringLaws
 pub mod StringLemmas

@@ -35,6 +35,7 @@ use Rattle.dns_fields_read.specs.ParameterValues.{AreJoined, AreMandatory, ArePr
 use Rattle.dns_fields_read.specs.ParameterWords.{IsKeyAndValue, IsParameterWord, equals}
 use Rattle.dns_fields_read.specs.Salts.{IsCounted}
 use Rattle.dns_fields_read.proofs.AddressLaws.{ipv6_reads_back, segments_fit}
+use Rattle.dns_fields_read.proofs.ByteLemmas.{bytes_drop, bytes_take}
 use Rattle.dns_fields_read.proofs.CommaLemmas.{NoComma, first_text, text_alone}
 use Rattle.dns_fields_read.proofs.KeyLemmas.{by_name}
 use Rattle.dns_fields_read.proofs.StringLaws.{string_reads_back, within_is}
@@ -162,17 +163,6 @@ groups_more : (size : ℕ) (octets : List ℕ) → 0 < size → size ≤ length 
 groups_more size octets positive enough =
     items_of_first (group_at size) (group_shrinks size positive) octets (drop size octets) (take size octets) (group_first size octets enough)
 
-bytes_front : (n : ℕ) (octets : List ℕ) → IsBytes octets → IsBytes (take n octets)
-bytes_front zero octets bytes i = omega arith
-bytes_front (suc n) [] bytes i = omega arith
-bytes_front (suc n) (o ∷ octets) bytes zero = bytes 0
-bytes_front (suc n) (o ∷ octets) bytes (suc i) = bytes_front n octets (λ j. bytes (suc j)) i
-
-bytes_back : (n : ℕ) (octets : List ℕ) → IsBytes octets → IsBytes (drop n octets)
-bytes_back zero octets bytes i = bytes i
-bytes_back (suc n) [] bytes i = omega arith
-bytes_back (suc n) (o ∷ octets) bytes i = bytes_back n octets (λ j. bytes (suc j)) i
-
 -- addresses
 module _ (Is : List ℕ → List ℕ → Type 0) (text_of : List ℕ → List ℕ) (size : ℕ) (positive : 0 < size)
     (each : (octets : List ℕ) → length octets ≡ size → IsBytes octets → Is (text_of octets) octets × (are_clean (text_of octets) ≡ true)) where
@@ -181,8 +171,8 @@ module _ (Is : List ℕ → List ℕ → Type 0) (text_of : List ℕ → List �
   hints zero (o ∷ value) e bytes = absurd (omega arith)
   hints (suc count) value e bytes =
       let enough : size ≤ length value = omega arith in
-      let first = each (take size value) (length-take-le size value enough) (bytes_front size value bytes) in
-      let rest = hints count (drop size value) (omega (arith, length-drop size value)) (bytes_back size value bytes) in
+      let first = each (take size value) (length-take-le size value enough) (bytes_take size value bytes) in
+      let rest = hints count (drop size value) (omega (arith, length-drop size value)) (bytes_drop size value bytes) in
       let whole = groups_more size value positive enough in (
         subst (λ (gs : List (List ℕ)). AreJoined Is (map text_of gs) value) (sym whole) (take size value, drop size value, first.0, sym (take-append-drop size value), rest.0),
         subst (λ (gs : List (List ℕ)). all_clean (map text_of gs) ≡ true) (sym whole)
@@ -344,7 +334,7 @@ names_bare (suc n) (size ∷ octets) h bytes e =
     let fits = name.fits in
     let sized : length (take size octets) ≡ size = length-take-le size octets fits in
     let small = bytes 0 in
-    let rest = names_bare n (drop size octets) (omega (arith, length-drop size octets)) (bytes_back size octets (λ i. bytes (suc i))) name.later in
+    let rest = names_bare n (drop size octets) (omega (arith, length-drop size octets)) (bytes_drop size octets (λ i. bytes (suc i))) name.later in
     let first = strings_more size octets in
     record {
       counted = subst (AllByRecursion IsCounted) (sym first) ((omega arith, omega arith), rest.counted);

@@ -20,11 +20,11 @@ use Rattle.dns_value_text.specs.Hex.{hex_pair, hex_text}
 use Rattle.dns_fields_text.specs.ZoneNames.{dotted_label, means_something, zone_label_text, zone_name_text}
 use Rattle.dns_fields_read.specs.PrintedWords.{HasNoSpace}
 
-abbrev NotSpace : ℕ → Type 0
+abbrev pub NotSpace : ℕ → Type 0
 NotSpace octet = octet ≢ 32
 
 -- one octet, and others after it
-one_clear : (x : ℕ) → NotSpace x → HasNoSpace (x ∷ [])
+pub one_clear : (x : ℕ) → NotSpace x → HasNoSpace (x ∷ [])
 one_clear x h = All-cons NotSpace x [] h (All-nil NotSpace)
 
 pub both_clear : (xs ys : List ℕ) → HasNoSpace xs → HasNoSpace ys → HasNoSpace (xs ++ ys)
