@@ -3,7 +3,6 @@ use crate::asserts::assert_holds;
 use crate::runs::prints;
 use std::alloc::Global;
 use std::process::Abort;
-use std::test::Fail;
 
 /// A line that is bad.
 struct BadLine {
@@ -268,66 +267,43 @@ const AT_ADDITIONALS: &[BadLine] = &[
 ];
 
 /// Whether a line is bad after other lines: this is printed at the end.
-fn is_bad(alloc: Global, before: &str, line: &[u8], printed: &str) -> Result<bool, Fail> {
-    let mut script = Vec::from_slice(alloc, before.as_bytes())?;
-    script.extend_from_slice(line)?;
-    prints(
-        alloc,
-        "build plain",
-        script.as_slice(),
-        printed.as_bytes(),
-        1,
-    )
+fn is_bad(rt: &impl Abort, alloc: Global, before: &str, line: &[u8], printed: &str) -> bool {
+    let mut script = Vec::from_slice(alloc, before.as_bytes()).expect(rt, "memory");
+    script.extend_from_slice(line).expect(rt, "memory");
+    let printed = printed.as_bytes();
+    prints(rt, alloc, "build plain", script.as_slice(), printed, 1)
 }
 
 /// Fails unless each of the lines is bad after other lines.
-fn assert_bad(
-    rt: &impl Abort,
-    alloc: Global,
-    before: &str,
-    lines: &[BadLine],
-    printed: &str,
-) -> Result<(), Fail> {
+fn assert_bad(rt: &impl Abort, alloc: Global, before: &str, lines: &[BadLine], printed: &str) {
     for case in lines {
-        let is_bad = is_bad(alloc, before, case.line, printed)?;
+        let is_bad = is_bad(rt, alloc, before, case.line, printed);
         assert_holds(rt, case.name, is_bad);
     }
-    Ok(())
 }
 
 #[test]
-fn refuses_bad_lines(rt: HostRuntime) -> Result<(), Fail> {
-    assert_bad(&rt, rt.alloc(), "", AT_THE_START, "bad line 1\n")
+fn refuses_bad_lines(rt: HostRuntime) {
+    assert_bad(&rt, rt.alloc(), "", AT_THE_START, "bad line 1\n");
 }
 
 #[test]
-fn refuses_bad_pushes_of_questions(rt: HostRuntime) -> Result<(), Fail> {
+fn refuses_bad_pushes_of_questions(rt: HostRuntime) {
     let before = "\n# a\nquestion\n";
-    assert_bad(&rt, rt.alloc(), before, AT_QUESTIONS, "ok 12\nbad line 4\n")?;
+    assert_bad(&rt, rt.alloc(), before, AT_QUESTIONS, "ok 12\nbad line 4\n");
     let before = "question\npush . A\nbuilder\n";
     let printed = "ok 12\nok 17\nok 12\nbad line 4\n";
-    assert_bad(&rt, rt.alloc(), before, AT_THE_HEADER, printed)
+    assert_bad(&rt, rt.alloc(), before, AT_THE_HEADER, printed);
 }
 
 #[test]
-fn refuses_bad_pushes_of_records(rt: HostRuntime) -> Result<(), Fail> {
-    assert_bad(
-        &rt,
-        rt.alloc(),
-        "answer\n",
-        AT_ANSWERS,
-        "ok 12\nbad line 2\n",
-    )
+fn refuses_bad_pushes_of_records(rt: HostRuntime) {
+    let printed = "ok 12\nbad line 2\n";
+    assert_bad(&rt, rt.alloc(), "answer\n", AT_ANSWERS, printed);
 }
 
 #[test]
-fn refuses_bad_opt_records(rt: HostRuntime) -> Result<(), Fail> {
-    let before = "additional\n";
-    assert_bad(
-        &rt,
-        rt.alloc(),
-        before,
-        AT_ADDITIONALS,
-        "ok 12\nbad line 2\n",
-    )
+fn refuses_bad_opt_records(rt: HostRuntime) {
+    let printed = "ok 12\nbad line 2\n";
+    assert_bad(&rt, rt.alloc(), "additional\n", AT_ADDITIONALS, printed);
 }

@@ -6,7 +6,6 @@ use std::alloc::Global;
 use std::io;
 use std::io::{ErrorKind, Read, Write};
 use std::process::Abort;
-use std::test::Fail;
 
 const BUILD: Run<'_> = Run {
     name: "a built message",
@@ -92,50 +91,46 @@ impl Write for Gap {
 }
 
 /// Whether the run prints what it has to if its input is read octet by octet.
-fn is_read(alloc: Global, case: Run<'_>) -> Result<bool, Fail> {
+fn is_read(rt: &impl Abort, alloc: Global, case: Run<'_>) -> bool {
     let (octets, fails) = (case.input, false);
+    let cut = Cut { octets, fails };
     let printed = case.printed.as_bytes();
-    prints(
-        alloc,
-        case.words,
-        Cut { octets, fails },
-        printed,
-        case.status,
-    )
+    prints(rt, alloc, case.words, cut, printed, case.status)
 }
 
 /// Whether the run fails if reading fails after these octets.
-fn fails_after(alloc: Global, case: Run<'_>, octets: &[u8]) -> Result<bool, Fail> {
+fn fails_after(rt: &impl Abort, alloc: Global, case: Run<'_>, octets: &[u8]) -> bool {
     let fails = true;
-    prints(alloc, case.words, Cut { octets, fails }, b"failed\n", 3)
+    let cut = Cut { octets, fails };
+    prints(rt, alloc, case.words, cut, b"failed\n", 3)
 }
 
 /// Fails unless the run fails wherever reading fails.
-fn assert_cut_input(rt: &impl Abort, alloc: Global, case: Run<'_>) -> Result<(), Fail> {
-    assert_holds(rt, case.name, is_read(alloc, case)?);
+fn assert_cut_input(rt: &impl Abort, alloc: Global, case: Run<'_>) {
+    assert_holds(rt, case.name, is_read(rt, alloc, case));
     for len in 0..=case.input.len() {
-        let is_cut = fails_after(alloc, case, &case.input[..len])?;
+        let is_cut = fails_after(rt, alloc, case, &case.input[..len]);
         assert!(rt; is_cut, "{}: cut after {len} octets", case.name);
     }
-    Ok(())
 }
 
 /// The input is read octet by octet. Reading may fail after each of them.
 #[test]
-fn fails_where_input_is_cut(rt: HostRuntime) -> Result<(), Fail> {
-    assert_cut_input(&rt, rt.alloc(), BUILD)?;
-    assert_cut_input(&rt, rt.alloc(), SHOW)
+fn fails_where_input_is_cut(rt: HostRuntime) {
+    assert_cut_input(&rt, rt.alloc(), BUILD);
+    assert_cut_input(&rt, rt.alloc(), SHOW);
 }
 
 /// Whether the writer gets what is printed before the steps that fail, followed by `after`, and
 /// the exit status is this one.
 fn is_cut(
+    rt: &impl Abort,
     alloc: Global,
     case: Run<'_>,
     gap: (usize, usize),
     after: &[u8],
     status: u8,
-) -> Result<bool, Fail> {
+) -> bool {
     let (from, to) = gap;
     let mut writer = Gap {
         taken: Vec::new(alloc),
@@ -143,36 +138,36 @@ fn is_cut(
         from,
         to,
     };
-    let ended = status_of(alloc, case.words, case.input, &mut writer)?;
+    let ended = status_of(rt, alloc, case.words, case.input, &mut writer);
     let printed = case.printed.as_bytes();
     let before = &printed[..from.min(printed.len())];
-    Ok(writer.taken.strip_suffix(after) == Some(before) && ended == status)
+    writer.taken.strip_suffix(after) == Some(before) && ended == status
 }
 
 /// Whether the run is cut at a step: if it alone fails, and if all steps from it on fail.
-fn is_cut_at(alloc: Global, case: Run<'_>, step: usize) -> Result<bool, Fail> {
+fn is_cut_at(rt: &impl Abort, alloc: Global, case: Run<'_>, step: usize) -> bool {
     let one = (step, step.saturating_add(1));
-    let is_cut_once = is_cut(alloc, case, one, b"failed\n", 3)?;
-    Ok(is_cut_once && is_cut(alloc, case, (step, usize::MAX), b"", 3)?)
+    let all = (step, usize::MAX);
+    is_cut(rt, alloc, case, one, b"failed\n", 3) && is_cut(rt, alloc, case, all, b"", 3)
 }
 
 /// Fails unless the run is cut at each step, and written whole if no step fails.
-fn assert_cut_output(rt: &impl Abort, alloc: Global, case: Run<'_>) -> Result<(), Fail> {
+fn assert_cut_output(rt: &impl Abort, alloc: Global, case: Run<'_>) {
     let whole = (usize::MAX, usize::MAX);
-    assert_holds(rt, case.name, is_cut(alloc, case, whole, b"", case.status)?);
+    let is_whole = is_cut(rt, alloc, case, whole, b"", case.status);
+    assert_holds(rt, case.name, is_whole);
     for step in 0..=case.printed.len() {
-        let is_cut = is_cut_at(alloc, case, step)?;
+        let is_cut = is_cut_at(rt, alloc, case, step);
         assert!(rt; is_cut, "{}: from step {step}", case.name);
     }
-    Ok(())
 }
 
 /// One step fails, the write of an octet or the last flush; and then all steps from it on. The
 /// program prints `failed` if it can.
 #[test]
-fn fails_where_output_is_not_written(rt: HostRuntime) -> Result<(), Fail> {
-    assert_cut_output(&rt, rt.alloc(), BUILD)?;
-    assert_cut_output(&rt, rt.alloc(), BAD_LINE)?;
-    assert_cut_output(&rt, rt.alloc(), SHOW)?;
-    assert_cut_output(&rt, rt.alloc(), USAGE)
+fn fails_where_output_is_not_written(rt: HostRuntime) {
+    assert_cut_output(&rt, rt.alloc(), BUILD);
+    assert_cut_output(&rt, rt.alloc(), BAD_LINE);
+    assert_cut_output(&rt, rt.alloc(), SHOW);
+    assert_cut_output(&rt, rt.alloc(), USAGE);
 }

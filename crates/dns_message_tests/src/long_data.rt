@@ -3,7 +3,7 @@
 use crate::asserts::assert_holds;
 use crate::runs::prints;
 use std::alloc::Global;
-use std::test::Fail;
+use std::process::Abort;
 
 /// A script for a target, and what is printed: both have `count` octets `ab` between two texts.
 struct Filled {
@@ -84,31 +84,26 @@ const FILLED: &[Filled] = &[
 ];
 
 /// A text, `count` octets `ab` in hexadecimal, and another text.
-fn text_of(alloc: Global, texts: (&str, &str), count: usize) -> Result<String, Fail> {
-    let mut text = String::from_str(alloc, texts.0)?;
+fn text_of(rt: &impl Abort, alloc: Global, texts: (&str, &str), count: usize) -> String {
+    let mut text = String::from_str(alloc, texts.0).expect(rt, "memory");
     for _ in 0..count {
-        text.push_str("ab")?;
+        text.push_str("ab").expect(rt, "memory");
     }
-    text.push_str(texts.1)?;
-    Ok(text)
+    text.push_str(texts.1).expect(rt, "memory");
+    text
 }
 
-fn is_printed(alloc: Global, filling: &Filled) -> Result<bool, Fail> {
-    let script = text_of(alloc, filling.script, filling.count)?;
-    let printed = text_of(alloc, filling.printed, filling.count)?;
-    prints(
-        alloc,
-        filling.words,
-        script.as_bytes(),
-        printed.as_bytes(),
-        0,
-    )
+fn is_printed(rt: &impl Abort, alloc: Global, filling: &Filled) -> bool {
+    let script = text_of(rt, alloc, filling.script, filling.count);
+    let printed = text_of(rt, alloc, filling.printed, filling.count);
+    let printed = printed.as_bytes();
+    prints(rt, alloc, filling.words, script.as_bytes(), printed, 0)
 }
 
 #[test]
-fn compresses_after_long_data(rt: HostRuntime) -> Result<(), Fail> {
+fn compresses_after_long_data(rt: HostRuntime) {
     for filling in FILLED {
-        assert_holds(&rt, filling.name, is_printed(rt.alloc(), filling)?);
+        let is_printed = is_printed(&rt, rt.alloc(), filling);
+        assert_holds(&rt, filling.name, is_printed);
     }
-    Ok(())
 }

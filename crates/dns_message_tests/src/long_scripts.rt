@@ -2,8 +2,8 @@
 use crate::asserts::assert_holds;
 use crate::runs::status_of;
 use std::alloc::Global;
+use std::process::Abort;
 use std::str;
-use std::test::Fail;
 
 /// A script that fills an array, or whose options are too long together or alone, and a line that
 /// is printed.
@@ -92,28 +92,27 @@ const LONG: &[Long] = &[
     },
 ];
 
-fn script_of(alloc: Global, long: &Long) -> Result<String, Fail> {
-    let mut script = String::from_str(alloc, long.start)?;
+fn script_of(rt: &impl Abort, alloc: Global, long: &Long) -> String {
+    let mut script = String::from_str(alloc, long.start).expect(rt, "memory");
     for _ in 0..long.count {
-        script.push_str(long.repeated)?;
+        script.push_str(long.repeated).expect(rt, "memory");
     }
-    script.push_str(long.end)?;
-    Ok(script)
+    script.push_str(long.end).expect(rt, "memory");
+    script
 }
 
 /// Whether the line is printed at its index, with this exit status.
-fn is_printed(alloc: Global, long: &Long) -> Result<bool, Fail> {
-    let script = script_of(alloc, long)?;
+fn is_printed(rt: &impl Abort, alloc: Global, long: &Long) -> bool {
+    let script = script_of(rt, alloc, long);
     let mut output = Vec::new(alloc);
-    let status = status_of(alloc, "build fixed", script.as_bytes(), &mut output)?;
-    let line = str::from_utf8(&output)?.lines().nth(long.offset);
-    Ok(status == long.status && line == Some(long.line))
+    let status = status_of(rt, alloc, "build fixed", script.as_bytes(), &mut output);
+    let text = str::from_utf8(&output).expect(rt, "UTF-8");
+    status == long.status && text.lines().nth(long.offset) == Some(long.line)
 }
 
 #[test]
-fn runs_long_scripts(rt: HostRuntime) -> Result<(), Fail> {
+fn runs_long_scripts(rt: HostRuntime) {
     for long in LONG {
-        assert_holds(&rt, long.name, is_printed(rt.alloc(), long)?);
+        assert_holds(&rt, long.name, is_printed(&rt, rt.alloc(), long));
     }
-    Ok(())
 }

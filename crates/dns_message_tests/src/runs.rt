@@ -2,7 +2,7 @@
 use dns_message::tool;
 use std::alloc::Global;
 use std::io::{Read, Write};
-use std::test::Fail;
+use std::process::Abort;
 
 /// A run of a program: the arguments after its name, separated by spaces, standard input, what is
 /// printed, and the exit status.
@@ -16,33 +16,36 @@ pub(crate) struct Run<'a> {
 }
 
 /// Arguments that are separated by spaces, as a program takes them.
-fn words_of(alloc: Global, words: &str) -> Result<Vec<String>, Fail> {
+fn words_of(rt: &impl Abort, alloc: Global, words: &str) -> Vec<String> {
     let mut strings = Vec::new(alloc);
     for word in words.split_whitespace() {
-        strings.push(String::from_str(alloc, word)?)?;
+        let word = String::from_str(alloc, word).expect(rt, "memory");
+        strings.push(word).expect(rt, "memory");
     }
-    Ok(strings)
+    strings
 }
 
 /// Runs `dnsmsg` with these arguments. Returns the exit status.
 pub(crate) fn status_of<R: Read + Drop, W: Write + Drop>(
+    rt: &impl Abort,
     alloc: Global,
     words: &str,
     reader: R,
     writer: W,
-) -> Result<u8, Fail> {
-    Ok(tool(alloc, &words_of(alloc, words)?, reader, writer))
+) -> u8 {
+    tool(alloc, &words_of(rt, alloc, words), reader, writer)
 }
 
 /// Whether the program prints this, with this exit status.
 pub(crate) fn prints<R: Read + Drop>(
+    rt: &impl Abort,
     alloc: Global,
     words: &str,
     reader: R,
     printed: &[u8],
     status: u8,
-) -> Result<bool, Fail> {
+) -> bool {
     let mut output = Vec::new(alloc);
-    let ended = status_of(alloc, words, reader, &mut output)?;
-    Ok(output.as_slice() == printed && ended == status)
+    let ended = status_of(rt, alloc, words, reader, &mut output);
+    output.as_slice() == printed && ended == status
 }

@@ -16,7 +16,6 @@ use dns_message::target::{
 };
 use std::alloc::Global;
 use std::process::Abort;
-use std::test::Fail;
 
 /// A name in an array, so that the calls borrow nothing.
 type Owner = Name<ArrayVec<u8, 22>>;
@@ -151,18 +150,19 @@ const NS_WWW: &[u8] = b"\x02ns\x03www\x07example\x03com\x00";
 
 const A_NS_WWW: &[u8] = b"\x01a\x02ns\x03www\x07example\x03com\x00";
 
-fn name(octets: &[u8]) -> Result<Owner, Fail> {
-    Ok(Name::from_octets(ArrayVec::try_from(octets)?)?)
+fn name(rt: &impl Abort, octets: &[u8]) -> Owner {
+    let octets = ArrayVec::try_from(octets).expect(rt, "a capacity");
+    Name::from_octets(octets).expect(rt, "a name")
 }
 
 /// A question for the NS records of a name.
-fn question(qname: &[u8]) -> Result<ServerCall, Fail> {
-    Ok(Call::PushQuestion((name(qname)?, Rtype::NS)))
+fn question(rt: &impl Abort, qname: &[u8]) -> ServerCall {
+    Call::PushQuestion((name(rt, qname), Rtype::NS))
 }
 
 /// An NS record.
-fn server(owner: &[u8], nsdname: &[u8]) -> Result<ServerCall, Fail> {
-    Ok(Call::PushRecord((name(owner)?, 60, Ns::new(name(nsdname)?))))
+fn server(rt: &impl Abort, owner: &[u8], nsdname: &[u8]) -> ServerCall {
+    Call::PushRecord((name(rt, owner), 60, Ns::new(name(rt, nsdname))))
 }
 
 /// An OPT record with rcode 19 and DO.
@@ -184,25 +184,25 @@ fn response() -> Header {
 }
 
 /// The push that a letter means.
-fn push_of(letter: u8) -> Result<ServerCall, Fail> {
+fn push_of(rt: &impl Abort, letter: u8) -> ServerCall {
     match letter {
-        b'Q' => question(EXAMPLE),
-        b'A' => server(EXAMPLE, NS),
-        b'N' => server(WWW, NS_WWW),
-        b'D' => server(NS, A_NS_WWW),
-        b'u' => server(A_NS_WWW, NS),
-        b'v' => question(OTHER_CASE),
-        b'w' => question(NS_WWW),
-        b'x' => server(WWW, EXAMPLE),
-        b'y' => server(A_NS_WWW, COM),
-        b'z' => server(OTHER_CASE, NS),
-        _ => Err(Fail::from("no letter")),
+        b'Q' => question(rt, EXAMPLE),
+        b'A' => server(rt, EXAMPLE, NS),
+        b'N' => server(rt, WWW, NS_WWW),
+        b'D' => server(rt, NS, A_NS_WWW),
+        b'u' => server(rt, A_NS_WWW, NS),
+        b'v' => question(rt, OTHER_CASE),
+        b'w' => question(rt, NS_WWW),
+        b'x' => server(rt, WWW, EXAMPLE),
+        b'y' => server(rt, A_NS_WWW, COM),
+        b'z' => server(rt, OTHER_CASE, NS),
+        _ => panic!(rt; "no letter"),
     }
 }
 
 /// The call that a letter means.
-fn call_of(alloc: Global, letter: u8) -> Result<ServerCall, Fail> {
-    Ok(match letter {
+fn call_of(rt: &impl Abort, alloc: Global, letter: u8) -> ServerCall {
+    match letter {
         b'b' => Call::ToBuilder,
         b'q' => Call::ToQuestion,
         b'a' => Call::ToAnswer,
@@ -217,16 +217,17 @@ fn call_of(alloc: Global, letter: u8) -> Result<ServerCall, Fail> {
         b'3' => Call::SetLimit(67),
         b'c' => Call::ClearLimit,
         b'O' => opt(alloc),
-        _ => return push_of(letter),
-    })
+        _ => push_of(rt, letter),
+    }
 }
 
-fn calls_of(alloc: Global, letters: &str) -> Result<Vec<ServerCall>, Fail> {
+fn calls_of(rt: &impl Abort, alloc: Global, letters: &str) -> Vec<ServerCall> {
     let mut calls = Vec::new(alloc);
     for letter in letters.bytes() {
-        calls.push(call_of(alloc, letter)?)?;
+        let pushed = calls.push(call_of(rt, alloc, letter));
+        pushed.expect(rt, "memory");
     }
-    Ok(calls)
+    calls
 }
 
 /// The first letter of the reply: done, misplaced, or the reason for a refusal.
@@ -255,28 +256,38 @@ fn are_reported(replies: &[Reply], letters: &str) -> bool {
 }
 
 /// The stage after the calls, if the replies have the letters of the history.
-fn after<T: Composer>(alloc: Global, stage: Stage<T>, history: History) -> Result<Stage<T>, Fail> {
-    let calls = calls_of(alloc, history.calls)?;
+fn after<T: Composer>(
+    rt: &impl Abort,
+    alloc: Global,
+    stage: Stage<T>,
+    history: History,
+) -> Stage<T> {
+    let calls = calls_of(rt, alloc, history.calls);
     let mut replies = Vec::new(alloc);
     match run(alloc, stage, &calls, &mut replies) {
-        Ok(stage) if are_reported(&replies, history.replies) => Ok(stage),
-        _ => Err(Fail::from("another reply")),
+        Ok(stage) if are_reported(&replies, history.replies) => stage,
+        _ => panic!(rt; "{}: another reply", history.name),
     }
 }
 
 /// Whether a history over an empty target ends with the octets, from the stage that `others` leads
 /// to.
 fn ends<T: Composer>(
+    rt: &impl Abort,
     alloc: Global,
     target: T,
     others: History,
     history: History,
     octets: &[u8],
-) -> Result<bool, Fail> {
-    let stage = Stage::Builder(MessageBuilder::from_target(target)?);
-    let stage = after(alloc, stage, others)?;
-    let stage = after(alloc, stage, history)?;
-    Ok(stage.as_slice() == octets)
+) -> bool {
+    let builder = MessageBuilder::from_target(target).expect(rt, "a capacity");
+    let stage = after(rt, alloc, Stage::Builder(builder), others);
+    let stage = after(rt, alloc, stage, history);
+    stage.as_slice() == octets
+}
+
+fn clone_of<T: CloneTarget>(rt: &impl Abort, target: &T) -> T {
+    target.clone_target().expect(rt, "a clone")
 }
 
 /// Fails unless a history over an empty target ends with the octets, from each stage.
@@ -287,13 +298,12 @@ fn assert_history<T: CloneTarget>(
     target: &T,
     history: History,
     octets: &[u8],
-) -> Result<(), Fail> {
+) {
     for others in OTHERS {
-        let target = target.clone_target()?;
-        let is_it = ends(alloc, target, *others, history, octets)?;
+        let target = clone_of(rt, target);
+        let is_it = ends(rt, alloc, target, *others, history, octets);
         assert!(rt; is_it, "{row}: {}, after {}", history.name, others.name);
     }
-    Ok(())
 }
 
 /// Fails unless the ten histories over an empty target end with the octets. The target may be full
@@ -305,72 +315,61 @@ fn assert_ends<T: CloneTarget>(
     target: T,
     octets: &[u8],
     is_full: bool,
-) -> Result<(), Fail> {
+) {
     for history in HISTORIES {
-        assert_history(rt, alloc, row, &target, *history, octets)?;
+        assert_history(rt, alloc, row, &target, *history, octets);
     }
     let last = if is_full { OVERFULL } else { TOO_MANY };
-    assert_history(rt, alloc, row, &target, last, octets)
+    assert_history(rt, alloc, row, &target, last, octets);
 }
 
 /// Fails unless the ten histories end with the same octets over each compressor over a target.
-fn assert_compressed<T: CloneTarget>(
-    rt: &impl Abort,
-    alloc: Global,
-    target: T,
-    is_full: bool,
-) -> Result<(), Fail>
+fn assert_compressed<T: CloneTarget>(rt: &impl Abort, alloc: Global, target: T, is_full: bool)
     requires { T.rule ≡ Plain }
 {
-    let offsets = StaticCompressor::new(target.clone_target()?);
-    assert_ends(rt, alloc, "static compressor", offsets, COMPRESSED, is_full)?;
-    let tree = TreeCompressor::new(alloc, target.clone_target()?);
-    assert_ends(rt, alloc, "tree compressor", tree, COMPRESSED, is_full)?;
-    let hash = HashCompressor::new(alloc, target.clone_target()?);
-    assert_ends(rt, alloc, "hash compressor", hash, COMPRESSED, is_full)?;
+    let offsets = StaticCompressor::new(clone_of(rt, &target));
+    assert_ends(rt, alloc, "static compressor", offsets, COMPRESSED, is_full);
+    let tree = TreeCompressor::new(alloc, clone_of(rt, &target));
+    assert_ends(rt, alloc, "tree compressor", tree, COMPRESSED, is_full);
+    let hash = HashCompressor::new(alloc, clone_of(rt, &target));
+    assert_ends(rt, alloc, "hash compressor", hash, COMPRESSED, is_full);
+    let row = "fingerprint compressor";
     let fingerprints = FingerprintCompressor::new(alloc, target);
-    assert_ends(
-        rt,
-        alloc,
-        "fingerprint compressor",
-        fingerprints,
-        COMPRESSED,
-        is_full,
-    )
+    assert_ends(rt, alloc, row, fingerprints, COMPRESSED, is_full);
 }
 
 /// The ten histories end with the same octets over targets that don't compress. The arrays have the
 /// capacity for the message and no more.
 #[test]
-fn over_targets_that_compress_nothing(rt: HostRuntime) -> Result<(), Fail> {
+fn over_targets_that_compress_nothing(rt: HostRuntime) {
     let alloc = rt.alloc();
-    assert_ends(&rt, alloc, "vector", Vec::new(alloc), PLAIN, false)?;
+    assert_ends(&rt, alloc, "vector", Vec::new(alloc), PLAIN, false);
     let array = ArrayVec::<u8, 174>::new();
-    assert_ends(&rt, alloc, "array vector", array, PLAIN, true)
+    assert_ends(&rt, alloc, "array vector", array, PLAIN, true);
 }
 
 #[test]
-fn over_streams_that_compress_nothing(rt: HostRuntime) -> Result<(), Fail> {
+fn over_streams_that_compress_nothing(rt: HostRuntime) {
     let alloc = rt.alloc();
-    let stream = StreamTarget::new_vec(alloc)?;
-    assert_ends(&rt, alloc, "over a vector", stream, PLAIN, false)?;
-    let stream = StreamTarget::new(ArrayVec::<u8, 176>::new())?;
-    assert_ends(&rt, alloc, "over an array vector", stream, PLAIN, true)
+    let stream = StreamTarget::new_vec(alloc).expect(&rt, "memory");
+    assert_ends(&rt, alloc, "over a vector", stream, PLAIN, false);
+    let stream = StreamTarget::new(ArrayVec::<u8, 176>::new()).expect(&rt, "a capacity");
+    assert_ends(&rt, alloc, "over an array vector", stream, PLAIN, true);
 }
 
 #[test]
-fn over_compressors_over_a_vector(rt: HostRuntime) -> Result<(), Fail> {
-    assert_compressed(&rt, rt.alloc(), Vec::new(rt.alloc()), false)
+fn over_compressors_over_a_vector(rt: HostRuntime) {
+    assert_compressed(&rt, rt.alloc(), Vec::new(rt.alloc()), false);
 }
 
 /// The array has the capacity for the message and no more.
 #[test]
-fn over_compressors_over_an_array(rt: HostRuntime) -> Result<(), Fail> {
-    assert_compressed(&rt, rt.alloc(), ArrayVec::<u8, 94>::new(), true)
+fn over_compressors_over_an_array(rt: HostRuntime) {
+    assert_compressed(&rt, rt.alloc(), ArrayVec::<u8, 94>::new(), true);
 }
 
 #[test]
-fn over_compressors_over_a_stream(rt: HostRuntime) -> Result<(), Fail> {
-    let stream = StreamTarget::new_vec(rt.alloc())?;
-    assert_compressed(&rt, rt.alloc(), stream, false)
+fn over_compressors_over_a_stream(rt: HostRuntime) {
+    let stream = StreamTarget::new_vec(rt.alloc()).expect(&rt, "memory");
+    assert_compressed(&rt, rt.alloc(), stream, false);
 }

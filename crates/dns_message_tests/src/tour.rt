@@ -14,7 +14,7 @@ ghost use Rattle.dns_message.specs.Builders.{IsMessageOf};
 ghost use Rattle.dns_message_tests.specs.Callers.{AreAnswers};
 ghost use Rattle.dns_message_tests.specs.Tour.{HasQuestions, a_layout, address_parts, response_with};
 
-use crate::asserts::assert_octets;
+use crate::asserts::{assert_holds, assert_octets};
 use arrayvec::ArrayVec;
 use dns_message::builder::{MessageBuilder, PushError};
 use dns_message::code::{Class, Rcode, Rtype};
@@ -26,7 +26,7 @@ use dns_message::record::{ComposeRecord, Record, Ttl};
 use dns_message::target::{StaticCompressor, TreeCompressor};
 use dns_message::wire::{Octets, ParseError, Parser};
 use std::alloc::{AllocError, Global};
-use std::test::Fail;
+use std::process::Abort;
 
 /// Whether the name at the start of the octets equals this one, ignoring ASCII case.
 fn begins_with<N: ToName>(octets: &[u8], name: &N) -> bool
@@ -40,11 +40,17 @@ fn begins_with<N: ToName>(octets: &[u8], name: &N) -> bool
 }
 
 #[test]
-fn finds_a_name(rt: HostRuntime) -> Result<(), Fail> {
-    let name = Name::from_octets(*b"\x07example\x03com\x00")?;
-    assert!(rt; begins_with(b"\x07EXAMPLE\x03com\x00\x00\x01\x00\x01", &name));
-    assert!(rt; !begins_with(b"\x03com\x00", &name) && !begins_with(b"\x07example", &name));
-    Ok(())
+fn finds_a_name(rt: HostRuntime) {
+    let name = example_com(&rt);
+    let is_found = begins_with(b"\x07EXAMPLE\x03com\x00\x00\x01\x00\x01", &name);
+    assert_holds(&rt, "the name in other letter case", is_found);
+    assert_holds(&rt, "the parent", !begins_with(b"\x03com\x00", &name));
+    assert_holds(&rt, "half a name", !begins_with(b"\x07example", &name));
+}
+
+/// The name example.com.
+fn example_com(rt: &impl Abort) -> Name<[u8; 13]> {
+    Name::from_octets(*b"\x07example\x03com\x00").expect(rt, "a name")
 }
 
 /// The message that asks for the IPv4 addresses of a name.
@@ -58,16 +64,15 @@ fn address_query<N: ToName + Drop>(alloc: Global, name: N) -> Result<Message<Vec
 }
 
 #[test]
-fn asks_for_an_address(rt: HostRuntime) -> Result<(), Fail> {
-    let query = address_query(rt.alloc(), Name::from_octets(*b"\x07example\x03com\x00")?)?;
-    assert_eq!(rt; query.as_slice().len(), 29);
+fn asks_for_an_address(rt: HostRuntime) {
+    let query = address_query(rt.alloc(), example_com(&rt)).expect(&rt, "memory");
+    assert_holds(&rt, "the length", query.as_slice().len() == 29);
     let mut questions = query.question();
-    let Some(Ok(question)) = questions.next() else {
-        panic!(rt; "no question");
-    };
-    assert!(rt; begins_with(b"\x07EXAMPLE\x03com\x00", question.qname()));
-    assert!(rt; questions.next().is_none());
-    Ok(())
+    let question = questions.next().expect(&rt, "a question");
+    let question = question.expect(&rt, "a question");
+    let is_it = begins_with(b"\x07EXAMPLE\x03com\x00", question.qname());
+    assert_holds(&rt, "the name", is_it);
+    assert_holds(&rt, "one question", questions.next().is_none());
 }
 
 /// The addresses in the answer section that can be read, in order. Returns `None` if the section
@@ -102,18 +107,15 @@ fn response<Octs: Octets, R: ComposeRecord + Drop>(
 }
 
 #[test]
-fn answers_with_an_address(rt: HostRuntime) -> Result<(), Fail> {
-    let name = Name::from_octets(*b"\x07example\x03com\x00")?;
-    let query = address_query(rt.alloc(), name)?;
-    let response = response(
-        rt.alloc(),
-        &query,
-        (name, 3600u32, A::from_octets(192, 0, 2, 1)),
-    )?;
-    assert_eq!(rt; response.as_slice().len(), 29 + 16);
-    let found = addresses(rt.alloc(), &response).ok_or("no answers")?;
-    assert!(rt; found.len() == 1 && found[0].octets() == [192, 0, 2, 1]);
-    Ok(())
+fn answers_with_an_address(rt: HostRuntime) {
+    let name = example_com(&rt);
+    let query = address_query(rt.alloc(), name).expect(&rt, "memory");
+    let answer = (name, 3600u32, A::from_octets(192, 0, 2, 1));
+    let response = response(rt.alloc(), &query, answer).expect(&rt, "memory");
+    assert_holds(&rt, "the length", response.as_slice().len() == 29 + 16);
+    let found = addresses(rt.alloc(), &response).expect(&rt, "answers");
+    let is_one = found.len() == 1 && found[0].octets() == [192, 0, 2, 1];
+    assert_holds(&rt, "the address", is_one);
 }
 
 /// The query for the records of a name and a type, in a buffer of 512 octets. Nothing is allocated.
@@ -131,11 +133,10 @@ fn query_in_buffer<N: ToName + Drop>(
 }
 
 #[test]
-fn asks_in_a_buffer(rt: HostRuntime) -> Result<(), Fail> {
-    let name = Name::from_octets(*b"\x07example\x03com\x00")?;
-    let query = query_in_buffer(name, Rtype::NS)?;
-    assert!(rt; query.as_slice().len() == 29 && query.qtype() == Some(Rtype::NS));
-    Ok(())
+fn asks_in_a_buffer(rt: HostRuntime) {
+    let query = query_in_buffer(example_com(&rt), Rtype::NS).expect(&rt, "a capacity");
+    assert_holds(&rt, "the length", query.as_slice().len() == 29);
+    assert_holds(&rt, "the type", query.qtype() == Some(Rtype::NS));
 }
 
 /// The line of an address record of class IN with a TTL of an hour.
@@ -148,12 +149,12 @@ fn address_line(alloc: Global, owner: Name<Vec<u8>>, address: A) -> Result<Strin
 }
 
 #[test]
-fn prints_a_record(rt: HostRuntime) -> Result<(), Fail> {
-    let owner = Name::vec_from_str(rt.alloc(), "example.com")?;
-    let line = address_line(rt.alloc(), owner, A::from_octets(192, 0, 2, 1))?;
+fn prints_a_record(rt: HostRuntime) {
+    let owner = Name::vec_from_str(rt.alloc(), "example.com").expect(&rt, "a name");
+    let line = address_line(rt.alloc(), owner, A::from_octets(192, 0, 2, 1));
+    let line = line.expect(&rt, "memory");
     let expected = b"example.com. 3600 IN A 192.0.2.1";
     assert_octets(&rt, "the line", line.as_bytes(), expected);
-    Ok(())
 }
 
 /// The first message on a stream: the octets after its length, which has 16 bits (RFC 1035 section
@@ -168,13 +169,15 @@ fn first_message(stream: &[u8]) -> Result<&[u8], ParseError>
 }
 
 #[test]
-fn takes_a_message_off_a_stream(rt: HostRuntime) -> Result<(), Fail> {
-    assert!(rt; first_message(b"\x00\x03abcd")? == b"abc".as_slice());
-    assert_eq!(rt;
-        first_message(b"\x00\x03ab").err(),
-        Some(ParseError::ShortInput)
+fn takes_a_message_off_a_stream(rt: HostRuntime) {
+    let message = first_message(b"\x00\x03abcd").expect(&rt, "a message");
+    assert_octets(&rt, "the message", message, b"abc");
+    let cut = first_message(b"\x00\x03ab").err();
+    assert_holds(
+        &rt,
+        "a message that is cut",
+        cut == Some(ParseError::ShortInput),
     );
-    Ok(())
 }
 
 /// Whether a question asks for addresses: IPv4 or IPv6, of the class IN.
@@ -195,9 +198,12 @@ fn rcode_name(rcode: Rcode) -> &'static str
 
 #[test]
 fn names_questions_and_codes(rt: HostRuntime) {
-    let name = Name::root_slice();
-    assert!(rt; asks_for_addresses(&Question::new(name, Rtype::AAAA, Class::IN)));
-    assert!(rt; !asks_for_addresses(&Question::new(name, Rtype::A, Class::CH)));
-    assert_eq!(rt; rcode_name(Rcode::NXDOMAIN), "NXDomain");
-    assert_eq!(rt; rcode_name(Rcode::masked_from_int(15)), "unassigned");
+    let question = Question::new(Name::root_slice(), Rtype::AAAA, Class::IN);
+    assert_holds(&rt, "type AAAA", asks_for_addresses(&question));
+    let question = Question::new(Name::root_slice(), Rtype::A, Class::CH);
+    assert_holds(&rt, "class CH", !asks_for_addresses(&question));
+    let name = rcode_name(Rcode::NXDOMAIN);
+    assert_holds(&rt, "a registered rcode", name == "NXDomain");
+    let name = rcode_name(Rcode::masked_from_int(15));
+    assert_holds(&rt, "another rcode", name == "unassigned");
 }

@@ -24,7 +24,6 @@ use dns_message::target::{Composer, TreeCompressor};
 use dns_message::wire::{FlattenInto, Octets};
 use std::alloc::Global;
 use std::process::Abort;
-use std::test::Fail;
 
 /// The only answer whose type `D` accepts.
 fn one_answer<'a, Octs: Octets, D: ParseRecordData<'a> + Drop>(
@@ -109,33 +108,31 @@ fn address_reported(alloc: Global, owner: Name<Vec<u8>>, address: A) -> Result<A
 }
 
 /// Fails unless an NS record and the address of its server are read back.
-fn assert_reported(rt: &impl Abort, alloc: Global, address: A) -> Result<(), Fail> {
-    let zone = Name::vec_from_str(alloc, "example.com.")?;
-    let server = Name::vec_from_str(alloc, "ns.example.com.")?;
-    let (name, glue) = reported(alloc, zone, server, address)?;
+fn assert_reported(rt: &impl Abort, alloc: Global, address: A) {
+    let zone = Name::vec_from_str(alloc, "example.com.").expect(rt, "a name");
+    let server = Name::vec_from_str(alloc, "ns.example.com.").expect(rt, "a name");
+    let read = reported(alloc, zone, server, address);
+    let (name, glue) = read.expect(rt, "memory");
     let expected = b"\x02ns\x07example\x03com\x00";
     assert_octets(rt, "the server", name.as_slice(), expected);
     assert_octets(rt, "its address", &glue.octets(), &[192, 0, 2, 1]);
-    Ok(())
 }
 
 #[test]
-fn reads_back_by_types(rt: HostRuntime) -> Result<(), Fail> {
-    let alloc = rt.alloc();
+fn reads_back_by_types(rt: HostRuntime) {
     let address = A::from_octets(192, 0, 2, 1);
-    assert_reported(&rt, alloc, address)?;
-    let read = address_reported(alloc, Name::vec_from_str(alloc, "a.")?, address)?;
+    assert_reported(&rt, rt.alloc(), address);
+    let owner = Name::vec_from_str(rt.alloc(), "a.").expect(&rt, "a name");
+    let read = address_reported(rt.alloc(), owner, address).expect(&rt, "memory");
     assert_octets(&rt, "the first address", &read.octets(), &[192, 0, 2, 1]);
-    Ok(())
 }
 
 #[test]
-fn leaves_nothing(rt: HostRuntime) -> Result<(), Fail> {
-    let alloc = rt.alloc();
-    let mut builder = MessageBuilder::new_vec(alloc)?.answer();
-    let owner = Name::vec_from_str(alloc, "a.")?;
-    let address = A::from_octets(192, 0, 2, 1);
-    push_in_vain(&mut builder, (owner, Ttl::from_secs(60), address))?;
+fn leaves_nothing(rt: HostRuntime) {
+    let owner = Name::vec_from_str(rt.alloc(), "a.").expect(&rt, "a name");
+    let pushed = (owner, Ttl::from_secs(60), A::from_octets(192, 0, 2, 1));
+    let builder = MessageBuilder::new_vec(rt.alloc()).expect(&rt, "memory");
+    let mut builder = builder.answer();
+    push_in_vain(&mut builder, pushed).expect(&rt, "memory");
     assert_octets(&rt, "an empty message", builder.as_slice(), &[0; 12]);
-    Ok(())
 }

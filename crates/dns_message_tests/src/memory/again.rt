@@ -6,7 +6,6 @@ use dns_message::question::ComposeQuestion;
 use dns_message::record::ComposeRecord;
 use dns_message::target::Composer;
 use std::process::Abort;
-use std::test::Fail;
 
 /// An array that no message of a test fills.
 pub(crate) type Array = ArrayVec<u8, 128>;
@@ -20,13 +19,14 @@ pub(crate) struct BuilderState {
 }
 
 /// The visible state of the builder now.
-pub(crate) fn state_before<T: Composer, S: BuilderStage>(
+pub(crate) fn state_before<R: Abort, T: Composer, S: BuilderStage>(
+    rt: &R,
     builder: &Builder<T, S>,
-) -> Result<BuilderState, Fail> {
-    Ok(BuilderState {
+) -> BuilderState {
+    BuilderState {
         limit: builder.push_limit(),
-        octets: Array::try_from(builder.as_slice())?,
-    })
+        octets: Array::try_from(builder.as_slice()).expect(rt, "a capacity"),
+    }
 }
 
 /// Fails unless the builder is in the state from before a call that failed.
@@ -40,20 +40,20 @@ pub(crate) fn assert_unchanged<R: Abort, T: Composer, S: BuilderStage>(
     assert_octets(rt, "refused call", builder.as_slice(), &before.octets);
 }
 
-/// Whether a push failed with `OutOfMemory`, which is printed. Any other failure is an error.
-pub(crate) fn is_refused<R: Print>(
+/// Whether a push failed with `OutOfMemory`, which is printed. Fails if it failed otherwise.
+pub(crate) fn is_refused<R: Abort + Print>(
     rt: &R,
     answer: Result<(), PushError>,
     what: &str,
-) -> Result<bool, Fail> {
+) -> bool {
     match answer {
         Err(PushError::OutOfMemory) => {
-            println!(rt; "refused {what}")?;
-            Ok(true)
+            println!(rt; "refused {what}").expect(rt, "standard output");
+            true
         }
         answer => {
-            answer?;
-            Ok(false)
+            answer.expect(rt, what);
+            false
         }
     }
 }
@@ -63,13 +63,12 @@ pub(crate) fn push_question<R: Abort + Print, T: Composer, Q: ComposeQuestion>(
     rt: &R,
     builder: &mut QuestionBuilder<T>,
     question: &Q,
-) -> Result<(), Fail> {
-    let before = state_before(builder)?;
-    if is_refused(rt, builder.push(question), "question")? {
+) {
+    let before = state_before(rt, builder);
+    if is_refused(rt, builder.push(question), "question") {
         assert_unchanged(rt, builder, &before);
-        builder.push(question)?;
+        builder.push(question).expect(rt, "question");
     }
-    Ok(())
 }
 
 /// Pushes a record, and does so again if an allocation failed.
@@ -77,11 +76,10 @@ pub(crate) fn push_record<R: Abort + Print, T: Composer, S: RecordStage, D: Comp
     rt: &R,
     builder: &mut Builder<T, S>,
     record: &D,
-) -> Result<(), Fail> {
-    let before = state_before(builder)?;
-    if is_refused(rt, builder.push(record), "record")? {
+) {
+    let before = state_before(rt, builder);
+    if is_refused(rt, builder.push(record), "record") {
         assert_unchanged(rt, builder, &before);
-        builder.push(record)?;
+        builder.push(record).expect(rt, "record");
     }
-    Ok(())
 }

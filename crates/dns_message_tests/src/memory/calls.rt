@@ -13,7 +13,6 @@ use dns_message::script::{Call, Reply, Stage, run};
 use dns_message::target::Composer;
 use std::alloc::Global;
 use std::process::Abort;
-use std::test::Fail;
 
 /// A call with a question for example.com., or with a record whose RDATA is `D` and whose owner has
 /// `N` octets.
@@ -21,22 +20,24 @@ type CallWith<D, const N: usize> = Call<(Name<[u8; 13]>, Rtype), (Name<[u8; N]>,
 
 /// The number of calls that were done: all; all but one, for which an allocation failed; or none,
 /// if the replies couldn't be allocated.
-fn count_done<R: Abort + Print>(rt: &R, replies: &[Reply], count: usize) -> Result<usize, Fail> {
+fn count_done<R: Abort + Print>(rt: &R, replies: &[Reply], count: usize) -> usize {
     let mut done = 0_usize;
     for reply in replies {
         match *reply {
             Reply::Done => done = done.saturating_add(1),
-            Reply::Refused(PushError::OutOfMemory) => println!(rt; "refused call")?,
+            Reply::Refused(PushError::OutOfMemory) => {
+                println!(rt; "refused call").expect(rt, "standard output");
+            }
             _ => panic!(rt; "refused for another cause"),
         }
     }
     if replies.is_empty() {
-        println!(rt; "refused replies")?;
+        println!(rt; "refused replies").expect(rt, "standard output");
     } else {
         let is_done = replies.len() == count && done.saturating_add(1) >= count;
         assert_holds(rt, "all calls but one are done", is_done);
     }
-    Ok(done)
+    done
 }
 
 /// Makes calls. Returns the stage and how many were done. The run fails exactly if there is no
@@ -46,13 +47,13 @@ fn made<R: Abort + Print, T: Composer, Q: ComposeQuestion, D: ComposeRecord>(
     alloc: Global,
     stage: Stage<T>,
     calls: &[Call<Q, D>],
-) -> Result<(Stage<T>, usize), Fail> {
+) -> (Stage<T>, usize) {
     let mut replies = Vec::new(alloc);
     let answer = run(alloc, stage, calls, &mut replies);
     let is_answered = answer.is_err() == replies.is_empty();
     assert_holds(rt, "replies", is_answered);
     let (Ok(stage) | Err(stage)) = answer;
-    Ok((stage, count_done(rt, &replies, calls.len())?))
+    (stage, count_done(rt, &replies, calls.len()))
 }
 
 /// Makes calls, and does so again if an allocation failed. If none was done, the stage has to be
@@ -62,18 +63,18 @@ fn make<R: Abort + Print, T: Composer, Q: ComposeQuestion, D: ComposeRecord>(
     alloc: Global,
     stage: Stage<T>,
     calls: &[Call<Q, D>],
-) -> Result<Stage<T>, Fail> {
-    let before = Array::try_from(stage.as_slice())?;
-    let (stage, done) = made(rt, alloc, stage, calls)?;
+) -> Stage<T> {
+    let before = Array::try_from(stage.as_slice()).expect(rt, "a capacity");
+    let (stage, done) = made(rt, alloc, stage, calls);
     if done == calls.len() {
-        return Ok(stage);
+        return stage;
     }
     if done == 0 {
         assert_octets(rt, "refused call", stage.as_slice(), &before);
     }
-    let (stage, done) = made(rt, alloc, stage, calls)?;
+    let (stage, done) = made(rt, alloc, stage, calls);
     assert_holds(rt, "all calls are done again", done == calls.len());
-    Ok(stage)
+    stage
 }
 
 /// Makes calls. The message has this length after them.
@@ -83,10 +84,10 @@ fn make_until<R: Abort + Print, T: Composer, Q: ComposeQuestion, D: ComposeRecor
     stage: Stage<T>,
     calls: &[Call<Q, D>],
     length: usize,
-) -> Result<Stage<T>, Fail> {
-    let stage = make(rt, alloc, stage, calls)?;
+) -> Stage<T> {
+    let stage = make(rt, alloc, stage, calls);
     assert!(rt; stage.as_slice().len() == length, "not {length} octets");
-    Ok(stage)
+    stage
 }
 
 /// Makes the calls one by one. The message has these lengths after them.
@@ -96,50 +97,47 @@ fn make_each<R: Abort + Print, T: Composer, Q: ComposeQuestion, D: ComposeRecord
     stage: Stage<T>,
     calls: &[Call<Q, D>],
     lengths: &[usize],
-) -> Result<Stage<T>, Fail> {
+) -> Stage<T> {
     let [length, lengths @ ..] = lengths else {
-        return Ok(stage);
+        return stage;
     };
     let (call, calls) = calls.split_at(calls.len().min(1));
-    let stage = make_until(rt, alloc, stage, call, *length)?;
+    let stage = make_until(rt, alloc, stage, call, *length);
     make_each(rt, alloc, stage, calls, lengths)
 }
 
 /// An empty list with capacity for calls. It is allocated again if an allocation failed.
-fn list<R: Print, C>(rt: &R, alloc: Global, capacity: usize) -> Result<Vec<C>, Fail> {
+fn list<R: Abort + Print, C>(rt: &R, alloc: Global, capacity: usize) -> Vec<C> {
     match Vec::with_capacity(alloc, capacity) {
-        Ok(calls) => Ok(calls),
+        Ok(calls) => calls,
         Err(_) => {
-            println!(rt; "refused list")?;
-            Ok(Vec::with_capacity(alloc, capacity)?)
+            println!(rt; "refused list").expect(rt, "standard output");
+            Vec::with_capacity(alloc, capacity).expect(rt, "memory")
         }
     }
 }
 
 /// The calls that build a positive response, from any stage, by their indexes.
-fn positive_call(index: usize) -> Result<CallWith<A, 13>, Fail> {
-    let name = Name::from_octets(*EXAMPLE_COM)?;
-    Ok(match index {
+fn positive_call<R: Abort>(rt: &R, index: usize) -> CallWith<A, 13> {
+    let name = Name::from_octets(*EXAMPLE_COM).expect(rt, "a name");
+    match index {
         0 => Call::ToBuilder,
         1 => Call::SetHeader(response_header(Rcode::NOERROR, true)),
         2 => Call::ToQuestion,
         3 => Call::PushQuestion((name, Rtype::A)),
         4 => Call::ToAnswer,
         _ => Call::PushRecord((name, 3600, A::from_octets(203, 0, 113, 1))),
-    })
+    }
 }
 
 /// The calls that build a positive response, from this index on.
-fn positive_calls<R: Print>(
-    rt: &R,
-    alloc: Global,
-    from: usize,
-) -> Result<Vec<CallWith<A, 13>>, Fail> {
-    let mut calls = list(rt, alloc, 6)?;
+fn positive_calls<R: Abort + Print>(rt: &R, alloc: Global, from: usize) -> Vec<CallWith<A, 13>> {
+    let mut calls = list(rt, alloc, 6);
     for index in from..6 {
-        calls.push(positive_call(index)?)?;
+        let pushed = calls.push(positive_call(rt, index));
+        pushed.expect(rt, "a capacity");
     }
-    Ok(calls)
+    calls
 }
 
 /// Adds a question, and an answer with one address.
@@ -148,8 +146,8 @@ fn add_address<R: Abort + Print, T: Composer>(
     alloc: Global,
     stage: Stage<T>,
     lengths: [usize; 4],
-) -> Result<Stage<T>, Fail> {
-    let calls = positive_calls(rt, alloc, 2)?;
+) -> Stage<T> {
+    let calls = positive_calls(rt, alloc, 2);
     make_each(rt, alloc, stage, &calls, &lengths)
 }
 
@@ -157,23 +155,24 @@ fn add_address<R: Abort + Print, T: Composer>(
 type ServerCall = CallWith<Ns<Name<[u8; 16]>>, 1>;
 
 /// The calls that add an NS record of the root, and remove it again, by their indexes.
-fn server_call(index: usize) -> Result<ServerCall, Fail> {
-    let server = Ns::new(Name::from_octets(*NS_EXAMPLE_COM)?);
-    let root = Name::from_octets([0])?;
-    Ok(match index {
+fn server_call<R: Abort>(rt: &R, index: usize) -> ServerCall {
+    let server = Ns::new(Name::from_octets(*NS_EXAMPLE_COM).expect(rt, "a name"));
+    let root = Name::from_octets([0]).expect(rt, "a name");
+    match index {
         0 => Call::ToAuthority,
         1 => Call::PushRecord((root, 60, server)),
         2 => Call::Rewind,
         _ => Call::ToAdditional,
-    })
+    }
 }
 
-fn server_calls<R: Print>(rt: &R, alloc: Global) -> Result<Vec<ServerCall>, Fail> {
-    let mut calls = list(rt, alloc, 4)?;
+fn server_calls<R: Abort + Print>(rt: &R, alloc: Global) -> Vec<ServerCall> {
+    let mut calls = list(rt, alloc, 4);
     for index in 0..4 {
-        calls.push(server_call(index)?)?;
+        let pushed = calls.push(server_call(rt, index));
+        pushed.expect(rt, "a capacity");
     }
-    Ok(calls)
+    calls
 }
 
 /// Adds an NS record of the root, and removes it again.
@@ -182,8 +181,8 @@ fn add_server<R: Abort + Print, T: Composer>(
     alloc: Global,
     stage: Stage<T>,
     lengths: [usize; 4],
-) -> Result<Stage<T>, Fail> {
-    let calls = server_calls(rt, alloc)?;
+) -> Stage<T> {
+    let calls = server_calls(rt, alloc);
     make_each(rt, alloc, stage, &calls, &lengths)
 }
 
@@ -191,23 +190,24 @@ fn add_server<R: Abort + Print, T: Composer>(
 type TextCall = CallWith<UnknownRecordData<[u8; 0]>, 1>;
 
 /// The calls that add a record without RDATA, and remove everything again, by their indexes.
-fn text_call(index: usize) -> Result<TextCall, Fail> {
-    let text = UnknownRecordData::from_octets(Rtype::TXT, [])?;
-    let root = Name::from_octets([0])?;
-    Ok(match index {
+fn text_call<R: Abort>(rt: &R, index: usize) -> TextCall {
+    let text = UnknownRecordData::from_octets(Rtype::TXT, []).expect(rt, "data");
+    let root = Name::from_octets([0]).expect(rt, "a name");
+    match index {
         0 => Call::PushRecord((root, 0, text)),
         1 => Call::ToAnswer,
         2 => Call::TcRewind,
         _ => Call::ToBuilder,
-    })
+    }
 }
 
-fn text_calls<R: Print>(rt: &R, alloc: Global) -> Result<Vec<TextCall>, Fail> {
-    let mut calls = list(rt, alloc, 4)?;
+fn text_calls<R: Abort + Print>(rt: &R, alloc: Global) -> Vec<TextCall> {
+    let mut calls = list(rt, alloc, 4);
     for index in 0..4 {
-        calls.push(text_call(index)?)?;
+        let pushed = calls.push(text_call(rt, index));
+        pushed.expect(rt, "a capacity");
     }
-    Ok(calls)
+    calls
 }
 
 /// Adds a record without RDATA, and removes everything again.
@@ -216,22 +216,17 @@ fn add_text<R: Abort + Print, T: Composer>(
     alloc: Global,
     stage: Stage<T>,
     lengths: [usize; 4],
-) -> Result<Stage<T>, Fail> {
-    let calls = text_calls(rt, alloc)?;
+) -> Stage<T> {
+    let calls = text_calls(rt, alloc);
     make_each(rt, alloc, stage, &calls, &lengths)
 }
 
 /// Checks a positive response that is built by one list of calls.
-pub(crate) fn assert_list<R: Abort + Print, T: Fresh>(
-    rt: &R,
-    alloc: Global,
-    expected: &[u8],
-) -> Result<(), Fail> {
-    let stage: Stage<T> = Stage::Builder(started(rt, alloc)?);
-    let calls = positive_calls(rt, alloc, 0)?;
-    let stage = make(rt, alloc, stage, &calls)?;
+pub(crate) fn assert_list<R: Abort + Print, T: Fresh>(rt: &R, alloc: Global, expected: &[u8]) {
+    let calls = positive_calls(rt, alloc, 0);
+    let stage: Stage<T> = Stage::Builder(started(rt, alloc));
+    let stage = make(rt, alloc, stage, &calls);
     assert_octets(rt, "Positive response", stage.as_slice(), expected);
-    Ok(())
 }
 
 /// Checks all moves: the message has these lengths after the calls, and at the end only the bit TC
@@ -240,13 +235,12 @@ pub(crate) fn assert_moves<R: Abort + Print, T: Fresh>(
     rt: &R,
     alloc: Global,
     lengths: [[usize; 4]; 3],
-) -> Result<(), Fail> {
+) {
     let [address, server, text] = lengths;
-    let stage: Stage<T> = Stage::Builder(started(rt, alloc)?);
-    let stage = add_address(rt, alloc, stage, address)?;
-    let stage = add_server(rt, alloc, stage, server)?;
-    let stage = add_text(rt, alloc, stage, text)?;
+    let stage: Stage<T> = Stage::Builder(started(rt, alloc));
+    let stage = add_address(rt, alloc, stage, address);
+    let stage = add_server(rt, alloc, stage, server);
+    let stage = add_text(rt, alloc, stage, text);
     let expected = b"\x00\x00\x02\x00\x00\x00\x00\x00\x00\x00\x00\x00";
     assert_octets(rt, "All moves", stage.as_slice(), expected);
-    Ok(())
 }

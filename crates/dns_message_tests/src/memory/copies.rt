@@ -8,7 +8,6 @@ use dns_message::name::ParsedName;
 use dns_message::record::{ParsedRecord, Record};
 use std::alloc::Global;
 use std::process::Abort;
-use std::test::Fail;
 
 /// One answer, foo.example.com. 86000 IN CNAME baz.example.com., and one authority record,
 /// bar.example.com. 86000 IN NS baz.example.com.
@@ -23,29 +22,24 @@ fn keep_any(shown: ParsedRecord<'_>) -> Option<AnyRecord<'_>> {
 }
 
 /// Copies the records of a message into an empty one.
-fn copy<R: Print, T: Fresh>(
+fn copy<R: Abort + Print, T: Fresh>(
     rt: &R,
     alloc: Global,
     source: &Message<&[u8]>,
-) -> Result<Result<AdditionalBuilder<T>, CopyRecordsError>, Fail> {
-    Ok(copy_records(source, started(rt, alloc)?.answer(), keep_any))
+) -> Result<AdditionalBuilder<T>, CopyRecordsError> {
+    copy_records(source, started(rt, alloc).answer(), keep_any)
 }
 
 /// Fails unless the copy of all records of `SOURCE` has these octets.
-pub(crate) fn assert_copies<R: Abort + Print, T: Fresh>(
-    rt: &R,
-    alloc: Global,
-    expected: &[u8],
-) -> Result<(), Fail> {
-    let source = Message::from_slice(SOURCE)?;
-    let copied: AdditionalBuilder<T> = match copy(rt, alloc, &source)? {
+pub(crate) fn assert_copies<R: Abort + Print, T: Fresh>(rt: &R, alloc: Global, expected: &[u8]) {
+    let source = Message::from_slice(SOURCE).expect(rt, "a message");
+    let copied: AdditionalBuilder<T> = match copy(rt, alloc, &source) {
         Err(CopyRecordsError::Push(PushError::OutOfMemory)) => {
-            println!(rt; "refused copy")?;
+            println!(rt; "refused copy").expect(rt, "standard output");
             assert_octets(rt, "source", source.as_slice(), SOURCE);
-            copy(rt, alloc, &source)??
+            copy(rt, alloc, &source).expect(rt, "a copy")
         }
-        answer => answer?,
+        answer => answer.expect(rt, "a copy"),
     };
     assert_octets(rt, "Copy records", copied.as_slice(), expected);
-    Ok(())
 }

@@ -5,7 +5,7 @@ use dns_message::target::{
 };
 use dns_message::wire::AppendError;
 use std::alloc::Global;
-use std::test::Fail;
+use std::process::Abort;
 
 /// A target that can be created anew.
 pub(crate) trait Fresh: Composer {
@@ -66,15 +66,12 @@ fn start<T: Fresh>(alloc: Global) -> Result<MessageBuilder<T>, AppendError> {
 }
 
 /// A builder for an empty message. It is created again if an allocation failed.
-pub(crate) fn started<R: Print, T: Fresh>(
-    rt: &R,
-    alloc: Global,
-) -> Result<MessageBuilder<T>, Fail> {
+pub(crate) fn started<R: Abort + Print, T: Fresh>(rt: &R, alloc: Global) -> MessageBuilder<T> {
     match start(alloc) {
         Err(AppendError::OutOfMemory) => {
-            println!(rt; "refused start")?;
-            Ok(start(alloc)?)
+            println!(rt; "refused start").expect(rt, "standard output");
+            start(alloc).expect(rt, "memory")
         }
-        answer => Ok(answer?),
+        answer => answer.expect(rt, "a builder"),
     }
 }

@@ -11,7 +11,6 @@ use dns_message::record::ComposeRecord;
 use dns_message::target::Composer;
 use std::alloc::Global;
 use std::process::Abort;
-use std::test::Fail;
 
 pub(crate) const EXAMPLE_COM: &[u8; 13] = b"\x07example\x03com\x00";
 
@@ -41,11 +40,12 @@ fn asked<R: Abort + Print, T: Fresh>(
     header: Header,
     qname: &[u8],
     qtype: Rtype,
-) -> Result<AnswerBuilder<T>, Fail> {
-    let mut builder = started(rt, alloc)?.question();
+) -> AnswerBuilder<T> {
+    let question = (Name::from_octets(qname).expect(rt, "a name"), qtype);
+    let mut builder = started(rt, alloc).question();
     builder.set_header(header);
-    push_question(rt, &mut builder, &(Name::from_octets(qname)?, qtype))?;
-    Ok(builder.answer())
+    push_question(rt, &mut builder, &question);
+    builder.answer()
 }
 
 /// Fails unless the message with this further record has these octets.
@@ -55,47 +55,41 @@ fn assert_record<R: Abort + Print, T: Composer, S: RecordStage, D: ComposeRecord
     mut builder: Builder<T, S>,
     record: &D,
     expected: &[u8],
-) -> Result<(), Fail> {
-    push_record(rt, &mut builder, record)?;
+) {
+    push_record(rt, &mut builder, record);
     assert_octets(rt, row, builder.as_slice(), expected);
-    Ok(())
+}
+
+/// The name in an array.
+fn name_of<R: Abort, const N: usize>(rt: &R, octets: [u8; N]) -> Name<[u8; N]> {
+    Name::from_octets(octets).expect(rt, "a name")
 }
 
 /// Checks a response with a question for example.com. and an address of it.
-pub(crate) fn assert_positive<R: Abort + Print, T: Fresh>(
-    rt: &R,
-    alloc: Global,
-    expected: &[u8],
-) -> Result<(), Fail> {
-    let header = response_header(Rcode::NOERROR, true);
-    let builder: AnswerBuilder<T> = asked(rt, alloc, header, EXAMPLE_COM, Rtype::A)?;
+pub(crate) fn assert_positive<R: Abort + Print, T: Fresh>(rt: &R, alloc: Global, expected: &[u8]) {
     let address = A::from_octets(203, 0, 113, 1);
-    let record = (Name::from_octets(*EXAMPLE_COM)?, 3600, address);
-    assert_record(rt, "Positive response", builder, &record, expected)
+    let record = (name_of(rt, *EXAMPLE_COM), 3600, address);
+    let header = response_header(Rcode::NOERROR, true);
+    let builder: AnswerBuilder<T> = asked(rt, alloc, header, EXAMPLE_COM, Rtype::A);
+    assert_record(rt, "Positive response", builder, &record, expected);
 }
 
 /// The RDATA of the authority record of `NEGATIVE_RESPONSE`.
-fn soa() -> Result<Soa<Name<&'static [u8]>>, Fail> {
-    let mname = Name::from_octets(b"\x01a\x0Croot-servers\x03net\x00".as_slice())?;
-    let rname = Name::from_octets(b"\x05nstld\x0Cverisign-grs\x03com\x00".as_slice())?;
-    Ok(Soa::new(mname, rname, 2_020_081_701, 1800, 900, 604_800, 86_400))
+fn soa<R: Abort>(rt: &R) -> Soa<Name<&'static [u8]>> {
+    let mname = Name::from_octets(b"\x01a\x0Croot-servers\x03net\x00".as_slice());
+    let mname = mname.expect(rt, "a name");
+    let rname = Name::from_octets(b"\x05nstld\x0Cverisign-grs\x03com\x00".as_slice());
+    let rname = rname.expect(rt, "a name");
+    Soa::new(mname, rname, 2_020_081_701, 1800, 900, 604_800, 86_400)
 }
 
 /// Fails unless the message is `NEGATIVE_RESPONSE`, whose names share no suffix.
-pub(crate) fn assert_negative<R: Abort + Print, T: Fresh>(
-    rt: &R,
-    alloc: Global,
-) -> Result<(), Fail> {
+pub(crate) fn assert_negative<R: Abort + Print, T: Fresh>(rt: &R, alloc: Global) {
+    let record = (Name::root_slice(), 86_390, soa(rt));
     let header = response_header(Rcode::NXDOMAIN, false);
-    let builder: AnswerBuilder<T> = asked(rt, alloc, header, b"\x07example\x00", Rtype::NS)?;
-    let record = (Name::root_slice(), 86_390, soa()?);
-    assert_record(
-        rt,
-        "Negative response",
-        builder.authority(),
-        &record,
-        NEGATIVE_RESPONSE,
-    )
+    let builder: AnswerBuilder<T> = asked(rt, alloc, header, b"\x07example\x00", Rtype::NS);
+    let (row, builder) = ("Negative response", builder.authority());
+    assert_record(rt, row, builder, &record, NEGATIVE_RESPONSE);
 }
 
 /// Checks a response with an NS record of example.com. whose server is below example.com.
@@ -103,9 +97,9 @@ pub(crate) fn assert_name_in_data<R: Abort + Print, T: Fresh>(
     rt: &R,
     alloc: Global,
     expected: &[u8],
-) -> Result<(), Fail> {
-    let builder: AnswerBuilder<T> = asked(rt, alloc, Header::new(), EXAMPLE_COM, Rtype::NS)?;
-    let server = Ns::new(Name::from_octets(*NS_EXAMPLE_COM)?);
-    let record = (Name::from_octets(*EXAMPLE_COM)?, 60, server);
-    assert_record(rt, "Name in data", builder, &record, expected)
+) {
+    let server = Ns::new(name_of(rt, *NS_EXAMPLE_COM));
+    let record = (name_of(rt, *EXAMPLE_COM), 60, server);
+    let builder: AnswerBuilder<T> = asked(rt, alloc, Header::new(), EXAMPLE_COM, Rtype::NS);
+    assert_record(rt, "Name in data", builder, &record, expected);
 }

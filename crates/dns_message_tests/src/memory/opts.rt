@@ -8,7 +8,6 @@ use dns_message::target::Composer;
 use dns_message::wire::AppendError;
 use std::alloc::Global;
 use std::process::Abort;
-use std::test::Fail;
 
 /// An OPT record with one option.
 const ONE_OPTION: &[u8] =
@@ -25,21 +24,20 @@ fn push_option<T: Composer>(
 }
 
 /// Fails unless the message with this option is `ONE_OPTION`.
-pub(crate) fn assert_option<R: Abort + Print, T: Fresh>(rt: &R, alloc: Global) -> Result<(), Fail> {
-    let mut builder: AdditionalBuilder<T> = started(rt, alloc)?.additional();
-    let before = state_before(&builder)?;
-    if is_refused(rt, push_option(alloc, &mut builder), "option")? {
+pub(crate) fn assert_option<R: Abort + Print, T: Fresh>(rt: &R, alloc: Global) {
+    let mut builder: AdditionalBuilder<T> = started(rt, alloc).additional();
+    let before = state_before(rt, &builder);
+    if is_refused(rt, push_option(alloc, &mut builder), "option") {
         assert_unchanged(rt, &builder, &before);
-        push_option(alloc, &mut builder)?;
+        push_option(alloc, &mut builder).expect(rt, "option");
     }
     assert_octets(rt, "OPT with one option", builder.as_slice(), ONE_OPTION);
-    Ok(())
 }
 
 /// Checks that nothing changes if the closure returns an error, and that this error is returned.
-pub(crate) fn assert_error<R: Abort + Print, T: Fresh>(rt: &R, alloc: Global) -> Result<(), Fail> {
-    let mut builder: AdditionalBuilder<T> = started(rt, alloc)?.additional();
-    let before = state_before(&builder)?;
+pub(crate) fn assert_error<R: Abort + Print, T: Fresh>(rt: &R, alloc: Global) {
+    let mut builder: AdditionalBuilder<T> = started(rt, alloc).additional();
+    let before = state_before(rt, &builder);
     let answer = builder.opt(alloc, |opt| {
         opt.set_rcode(OptRcode::from(Rcode::NXDOMAIN));
         Err(AppendError::ShortBuf)
@@ -48,5 +46,4 @@ pub(crate) fn assert_error<R: Abort + Print, T: Fresh>(rt: &R, alloc: Global) ->
     assert_holds(rt, "Closure that errs: its error", is_reported);
     assert_unchanged(rt, &builder, &before);
     assert_octets(rt, "Closure that errs", builder.as_slice(), &[0; 12]);
-    Ok(())
 }
