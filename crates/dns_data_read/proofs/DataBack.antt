@@ -11,8 +11,9 @@ use Rattle.dns_fields.specs.Table.{definitions_of, kinds_of}
 use Rattle.dns_fields.specs.declared.field_data.FieldData.{FieldData}
 use Rattle.dns_fields_text.specs.DataTexts.{data_fields, data_line}
 use Rattle.dns_fields_text.specs.Laws.{FieldsAreAll}
-use Rattle.dns_line_words.specs.FieldLaws.{AreWordsOfData, DataSplits, opaque_words}
+use Rattle.dns_line_words.specs.FieldLaws.{AreWordsOfData, DataSplits}
 use Rattle.dns_line_words.specs.LineWords.{AreWordsOf, texts}
+use Rattle.dns_line_words.specs.ListLaws.{opaque_words}
 use Rattle.dns_line_words.proofs.LineLemmas.{one_list}
 use Rattle.dns_data_read.specs.DataWords.{AreDataWords}
 use Rattle.dns_data_read.specs.FieldWords.{Words}

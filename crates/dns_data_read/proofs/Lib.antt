@@ -19,6 +19,7 @@ mod PrintedTexts
 mod PrintedValues
 mod RdataBack
 mod RdataLemmas
+mod ReadAgain
 mod ReadOctets
 mod RecordBack
 mod RecordLemmas

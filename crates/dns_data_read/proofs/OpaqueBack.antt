@@ -10,9 +10,8 @@ use Rattle.hex.specs.Hex.{IsBytes, decode_of, encode_lower, encode_with, lower_d
 use Rattle.hex.proofs.HexLemmas.{decode_of-encode_lower}
 use Rattle.dns_data.specs.Printing.{hex_octet}
 use Rattle.dns_fields_read.specs.JoinedWords.{AreHex, joined}
-use Rattle.dns_line_words.specs.FieldLaws.{opaque_words}
 use Rattle.dns_line_words.specs.LineWords.{texts}
-use Rattle.dns_line_words.specs.ListLaws.{word_of_any}
+use Rattle.dns_line_words.specs.ListLaws.{opaque_words, word_of_any}
 use Rattle.dns_data_read.specs.DataWords.{AreCountedDigits, IsMarked}
 use Rattle.dns_data_read.specs.FieldWords.{Words}
 

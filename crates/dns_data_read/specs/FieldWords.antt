@@ -33,11 +33,11 @@ Words = List (Bor (List ℕ))
 abbrev pub IsNumberIn : ℕ → List ℕ → List ℕ → Type 0
 IsNumberIn size word octets = (n : ℕ) × IsNumber 10 word n × (n < 256 ^ size) × (octets ≡ last_octets size n)
 
--- a time. RFC 4034 section 3.1.5
+-- a time. RFC 4034 section 3.2
 abbrev pub IsTime : List ℕ → List ℕ → Type 0
 IsTime word octets = (n : ℕ) × IsTimeWord word n × (octets ≡ last_octets 4 n)
 
--- a record type. RFC 4034 section 3.1.1
+-- a record type. RFC 4034 section 3.2
 abbrev pub IsType : List ℕ → List ℕ → Type 0
 IsType word octets = (n : ℕ) × IsTypeWord word n × (octets ≡ last_octets 2 n)
 
@@ -53,7 +53,7 @@ IsString word octets = (string : List ℕ) × SpellsString word string × (lengt
 abbrev pub IsTagWord : List ℕ → List ℕ → Type 0
 IsTagWord word octets = (is_tag word ≡ true) × (length word ≤ 255) × (octets ≡ counted word)
 
--- a salt, and a hash. RFC 5155 section 3.2
+-- a salt, and a hash. RFC 5155 section 3.3
 abbrev pub IsSalt : List ℕ → List ℕ → Type 0
 IsSalt word octets = (salt : List ℕ) × IsSaltWord word salt × (octets ≡ counted salt)
 

@@ -1,18 +1,24 @@
 -- What is printed of RDATA, and of a record, reads back.
-use Rattle.std.specs.Prelude.{ℕ, ◌<◌, ◌^◌, List}
+use Rattle.std.specs.Prelude.{◌≡◌, ℕ, ◌<◌, ◌^◌, List, Result, MatchResult}
+use Rattle.std.specs.Borrow.{Bor}
+use Rattle.std.specs.Global.{Vec}
 use Rattle.hex.specs.Hex.{IsBytes}
-use Rattle.dns_name.specs.Names.{IsName, Labels, uncompressed}
+use Rattle.dns_name.specs.Names.{IsName, Labels, NameAt, uncompressed}
 use Rattle.dns_wire.specs.Parts.{Part}
 use Rattle.dns_data.specs.Layout.{DataAt, Layout}
 use Rattle.dns_fields.specs.Data.{parts_of, rtype_of}
 use Rattle.dns_fields.specs.DataOrders.{octets_of_parts}
+use Rattle.dns_fields.specs.OwnedData.{owned_parts_of, owned_rtype_of}
 use Rattle.dns_fields.specs.declared.field_data.FieldData.{FieldData}
+use Rattle.dns_fields.specs.declared.owned.OwnedFieldData.{OwnedFieldData}
 use Rattle.dns_fields_text.specs.DataTexts.{data_line}
 use Rattle.dns_fields_text.specs.RecordLines.{record_text}
 use Rattle.dns_fields_text.specs.ZoneNames.{zone_name_text}
 use Rattle.dns_item.specs.Items.{RecordItem}
-use Rattle.dns_line_words.specs.LineWords.{AreWordsOf, texts}
-use Rattle.dns_data_read.specs.DataWords.{IsDataText}
+use Rattle.dns_line_words.specs.LineWords.{AreWordsOf, SplitsWords, texts}
+use Rattle.dns_value_text.specs.declared.text_error.TextError.{TextError}
+use Rattle.dns_value_text.specs.declared.text_error.TextError.TheVariants.{OutOfMemory}
+use Rattle.dns_data_read.specs.DataWords.{IsDataText, ReadsData}
 use Rattle.dns_data_read.specs.FieldWords.{Words}
 use Rattle.dns_data_read.specs.RecordWords.{IsRecordText}
 
@@ -23,6 +29,10 @@ HasOctets fields = IsBytes (octets_of_parts (parts_of fields))
 -- the octets of RDATA that is read of octets are octets
 abbrev pub ReadPartsHaveOctets : Type 0
 ReadPartsHaveOctets = (b : List ℕ) (layout : Layout) (p q : ℕ) (parts : List Part) → IsBytes b → DataAt b layout p q parts → IsBytes (octets_of_parts parts)
+
+-- the octets of a name that is read of octets are octets
+abbrev pub ReadNamesHaveOctets : Type 0
+ReadNamesHaveOctets = (b : List ℕ) (p : ℕ) (name : Labels) → IsBytes b → NameAt b p name → IsBytes (uncompressed name)
 
 -- the words of the line of RDATA represent RDATA of its type with its parts
 abbrev pub DataReadsBack : Type 0
@@ -39,3 +49,25 @@ RecordsReadBack =
     → HasOctets fields
     → AreWordsOf (record_text (zone_name_text owner) ttl class (rtype_of fields) (data_line fields)) (texts words)
     → IsRecordText words (record_with owner class ttl fields)
+
+-- a result that is RDATA of this type with these parts, unless an allocation failed
+abbrev pub IsSameData : ℕ → List Part → Result OwnedFieldData TextError → Type 0
+IsSameData rtype parts result = MatchResult result (λ value. (owned_rtype_of value ≡ rtype) × (owned_parts_of value ≡ parts)) (λ error. error ≡ OutOfMemory)
+
+-- RDATA is printed, its line is split into words, and these are read: the result is the same RDATA, unless an allocation failed
+abbrev pub PrintedDataIsRead : Type 0
+PrintedDataIsRead =
+    (fields : FieldData) (split : Result (Vec (Bor (List ℕ))) TextError) (read : Result OwnedFieldData TextError) → HasOctets fields → SplitsWords (data_line fields) split
+    → MatchResult split (λ words. ReadsData (rtype_of fields) words.items read → IsSameData (rtype_of fields) (parts_of fields) read) (λ error. error ≡ OutOfMemory)
+
+-- the words represent this record, and no other
+pub record RepresentOnly (words : Words) (item : RecordItem) : Type 0 where
+  pub is : IsRecordText words item
+  pub only : (other : RecordItem) → IsRecordText words other → other ≡ item
+
+-- A record is printed, and its line is split into words: they represent this record and no other, unless an allocation failed. So reading them returns it.
+abbrev pub PrintedRecordsAreRead : Type 0
+PrintedRecordsAreRead =
+    (owner : Labels) (class ttl : ℕ) (fields : FieldData) (split : Result (Vec (Bor (List ℕ))) TextError) → IsName owner → IsBytes (uncompressed owner) → class < 2 ^ 16 → ttl < 2 ^ 32 → rtype_of fields < 2 ^ 16
+    → HasOctets fields → SplitsWords (record_text (zone_name_text owner) ttl class (rtype_of fields) (data_line fields)) split
+    → MatchResult split (λ words. RepresentOnly words.items (record_with owner class ttl fields)) (λ error. error ≡ OutOfMemory)

@@ -2,7 +2,7 @@
 ghost use Rattle.std.specs.Prelude.{ℕ};
 ghost use Rattle.dns_fields_read.specs.Laws.{RepresentsOne};
 ghost use Rattle.dns_data_read.specs.DataWords.{IsDataText};
-ghost use Rattle.dns_data_read.specs.Laws.{DataReadsBack, ReadPartsHaveOctets, RecordsReadBack};
+ghost use Rattle.dns_data_read.specs.Laws.{DataReadsBack, PrintedDataIsRead, PrintedRecordsAreRead, ReadNamesHaveOctets, ReadPartsHaveOctets, RecordsReadBack};
 ghost use Rattle.dns_data_read.specs.RecordWords.{IsRecordText};
 
 use dns_fields_read::laws::printed_fields_read_back;
@@ -10,16 +10,20 @@ use dns_fields_text::laws::fields_are_all;
 use dns_line_words::laws::{printed_fields_split, printed_lists_split, printed_values_are_words};
 use dns_value_text::laws::printed_values_read_back;
 
-/// The octets of RDATA that is read of octets are octets.
+/// The octets of RDATA, and of a name, that is read of octets are octets.
 pub fn read_parts_have_octets()
-    ensures { ReadPartsHaveOctets }
+    ensures rdata { ReadPartsHaveOctets }
+    ensures names { ReadNamesHaveOctets }
 {}
 
-/// The words of what is printed of RDATA represent RDATA of its type with its parts, and the words
-/// of what is printed of a record represent the record.
+/// The words of what is printed of RDATA, or of a record, represent it. If `split_words` splits the
+/// line and `from_text` or `read_record` reads the words, the result is the same RDATA or record,
+/// unless an allocation fails.
 pub fn printed_data_reads_back()
     ensures rdata { DataReadsBack }
     ensures records { RecordsReadBack }
+    ensures rdata_again { PrintedDataIsRead }
+    ensures records_again { PrintedRecordsAreRead }
 {
     printed_values_are_words();
     printed_lists_split();

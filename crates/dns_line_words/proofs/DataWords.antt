@@ -25,8 +25,9 @@ use Rattle.dns_fields.specs.declared.shape.Shape.TheVariants.{Octets, Counted, S
 use Rattle.dns_fields_text.specs.DataTexts.{data_fields, data_line, data_text}
 use Rattle.dns_fields_text.specs.FieldTexts.{fields_octets, fields_text}
 use Rattle.dns_fields_text.specs.Laws.{FieldsAreAll}
-use Rattle.dns_line_words.specs.FieldLaws.{AreFields, AreWordsOfData, IsPartOf, opaque_words}
+use Rattle.dns_line_words.specs.FieldLaws.{HaveParts, AreWordsOfData, IsPartOf}
 use Rattle.dns_line_words.specs.LineWords.{AreWordsOf}
+use Rattle.dns_line_words.specs.ListLaws.{opaque_words}
 use Rattle.dns_line_words.proofs.FieldWords.{fields_split}
 use Rattle.dns_line_words.proofs.ListTexts.{opaque_split}
 use Rattle.dns_line_words.proofs.SpacedTexts.{words_are}
@@ -35,12 +36,12 @@ use Rattle.dns_line_words.proofs.SpacedTexts.{words_are}
 abbrev HasWords : List NamedPart → List ℕ → Type 0
 HasWords fields text = (words : List (List ℕ)) × AreWordsOfData fields words × AreWordsOf text words
 
-text_split : (fields : List NamedPart) → AreFields fields → IsBytes (fields_octets fields) → length (fields_octets fields) < 2 ^ 64 → (o : Option (List ℕ)) → fields_text [] fields ≡ o
+text_split : (fields : List NamedPart) → HaveParts fields → IsBytes (fields_octets fields) → length (fields_octets fields) < 2 ^ 64 → (o : Option (List ℕ)) → fields_text [] fields ≡ o
     → HasWords fields (unwrap_or o (opaque_text (fields_octets fields)))
 text_split fields are bytes small None e = (opaque_words (fields_octets fields), inr (e, refl), words_are _ _ (opaque_split (fields_octets fields) bytes small))
 text_split fields are bytes small (Some text) e = let h = fields_split fields text are e in (h.0, inl h.1, h.2)
 
-data_split : (fields : List NamedPart) → AreFields fields → IsBytes (fields_octets fields) → length (fields_octets fields) < 2 ^ 64 → HasWords fields (data_text fields)
+data_split : (fields : List NamedPart) → HaveParts fields → IsBytes (fields_octets fields) → length (fields_octets fields) < 2 ^ 64 → HasWords fields (data_text fields)
 data_split fields are bytes small = text_split fields are bytes small (fields_text [] fields) refl
 
 -- the octets of parts
@@ -103,13 +104,13 @@ names_left (UncompressedPart lowered name) parts h = h.1
 abbrev IsField : NamedPart → Type 0
 IsField field = IsPartOf (shape_of field.kind) field.part
 
-no_fields : (ds : List Definition) → AreFields (named_parts ds [])
+no_fields : (ds : List Definition) → HaveParts (named_parts ds [])
 no_fields [] = All-nil IsField
 no_fields (d ∷ ds) = All-nil IsField
 
 -- parts that have the layout of fields are parts of these fields
 are_fields : (ds : List Definition) (parts : List Part) → IsLaidOut (layout_of (kinds_in ds)) parts → AreParts parts → IsBytes (octets_of parts) → length (octets_of parts) < 2 ^ 16
-    → AreFields (named_parts ds parts)
+    → HaveParts (named_parts ds parts)
 unfolding layout_of
 are_fields [] parts h names bytes small = All-nil IsField
 are_fields (d ∷ ds) parts h names bytes small =
@@ -117,14 +118,14 @@ are_fields (d ∷ ds) parts h names bytes small =
     let own = subst AreParts first.2 names in
     let octets = subst (λ (ps : List Part). IsBytes (octets_of ps)) first.2 bytes in
     let size = ap (λ (ps : List Part). length (octets_of ps)) first.2 in
-    let later : AreFields (named_parts ds first.1) =
+    let later : HaveParts (named_parts ds first.1) =
     elim first.4 [
-      | inl e ↦ subst (λ (ps : List Part). AreFields (named_parts ds ps)) (sym e) (no_fields ds)
+      | inl e ↦ subst (λ (ps : List Part). HaveParts (named_parts ds ps)) (sym e) (no_fields ds)
       | inr laid ↦
           are_fields ds first.1 laid (names_left first.0 first.1 own) (bytes_right (part_octets first.0) (octets_of first.1) octets)
           (omega (arith, size, small, length-append (part_octets first.0) (octets_of first.1)))
     ] in
-    subst (λ (ps : List Part). AreFields (named_parts (d ∷ ds) ps)) (sym first.2)
+    subst (λ (ps : List Part). HaveParts (named_parts (d ∷ ds) ps)) (sym first.2)
     (All-cons IsField (record { name = d.0; kind = d.1; part = first.0 }) (named_parts ds first.1) first.3 later)
 
 pub line_split : FieldsAreAll → (d : FieldData) → IsBytes (fields_octets (data_fields d)) → HasWords (data_fields d) (data_line d)

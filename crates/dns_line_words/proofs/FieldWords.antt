@@ -35,7 +35,7 @@ use Rattle.dns_fields_text.specs.Parameters.{parameter_word}
 use Rattle.dns_fields_text.specs.TypeMaps.{Block, bit_types, block_at, is_small_map, map_types, octet_types, types_text}
 use Rattle.dns_fields_text.specs.TypeNames.{type_word}
 use Rattle.dns_fields_text.specs.ZoneNames.{zone_name_text}
-use Rattle.dns_line_words.specs.FieldLaws.{AreFields, AreWordsOfFields, IsPartOf}
+use Rattle.dns_line_words.specs.FieldLaws.{HaveParts, AreWordsOfFields, IsPartOf}
 use Rattle.dns_line_words.specs.LineWords.{AreWordsOf, EndsWord, IsWord}
 use Rattle.dns_line_words.specs.LocationLaws.{FitsLocation}
 use Rattle.dns_line_words.proofs.GatewayTexts.{gateways_split, identities_split, relays_split}
@@ -285,7 +285,7 @@ no_fields : (opens : Bool) (text : List ℕ) → Opens opens [] → Some [] ≡ 
 no_fields opens text at e =
     let none : List ℕ = [] in subst (λ (xs : List ℕ). HasFields opens [] xs) (some_same none text e) ([], no_words, at, refl)
 
-others_have : (fields : List NamedPart) (text : List ℕ) → AreFields fields → fields_text (codes " ") fields ≡ Some text → HasFields true fields text
+others_have : (fields : List NamedPart) (text : List ℕ) → HaveParts fields → fields_text (codes " ") fields ≡ Some text → HasFields true fields text
 others_have [] text all e = no_fields true text tt e
 others_have (field ∷ fields) text all e =
     let parts = field_joined (space_before field.kind (codes " ")) (value_text field.kind (part_value field.kind field.part)) (fields_text (codes " ") fields) text e in
@@ -295,7 +295,7 @@ others_have (field ∷ fields) text all e =
     let words : AreWordsOfFields (field ∷ fields) (own.0 ++ left.0) = (own.0, left.0, refl, (parts.0, parts.2, words_are parts.0 own.0 own.1), left.3) in
     subst (λ (xs : List ℕ). HasFields true (field ∷ fields) xs) parts.4 (own.0 ++ left.0, both.0, both.1, words)
 
-fields_have : (fields : List NamedPart) (text : List ℕ) → AreFields fields → fields_text [] fields ≡ Some text → HasFields false fields text
+fields_have : (fields : List NamedPart) (text : List ℕ) → HaveParts fields → fields_text [] fields ≡ Some text → HasFields false fields text
 fields_have [] text all e = no_fields false text tt e
 fields_have (field ∷ fields) text all e =
     let parts = field_joined (space_before field.kind []) (value_text field.kind (part_value field.kind field.part)) (fields_text (codes " ") fields) text e in
@@ -305,6 +305,6 @@ fields_have (field ∷ fields) text all e =
     let words : AreWordsOfFields (field ∷ fields) (own.0 ++ left.0) = (own.0, left.0, refl, (parts.0, parts.2, words_are parts.0 own.0 own.1), left.3) in
     subst (λ (xs : List ℕ). HasFields false (field ∷ fields) xs) parts.4 (own.0 ++ left.0, both, tt, words)
 
-pub fields_split : (fields : List NamedPart) (text : List ℕ) → AreFields fields → fields_text [] fields ≡ Some text
+pub fields_split : (fields : List NamedPart) (text : List ℕ) → HaveParts fields → fields_text [] fields ≡ Some text
     → (words : List (List ℕ)) × AreWordsOfFields fields words × AreWordsOf text words
 fields_split fields text all e = let h = fields_have fields text all e in (h.0, h.3, words_are text h.0 h.1)

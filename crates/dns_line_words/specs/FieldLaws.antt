@@ -1,8 +1,6 @@
 -- The words of printed fields. RFC 1035 section 5.1.
-use Rattle.std.specs.Prelude.{◌≡◌, ◌⊎◌, ℕ, ◌<◌, ◌^◌, All, Some, None, List, [], ◌∷◌, ◌++◌, length, codes, decimal}
-use Rattle.std.specs.List.{flat_map}
+use Rattle.std.specs.Prelude.{◌≡◌, ◌⊎◌, ℕ, ◌<◌, ◌^◌, All, Some, None, List, [], ◌∷◌, ◌++◌, length}
 use Rattle.hex.specs.Hex.{IsBytes}
-use Rattle.dns_data.specs.Printing.{hex_octet}
 use Rattle.dns_name.specs.Names.{IsName}
 use Rattle.dns_wire.specs.Parts.{Part}
 use Rattle.dns_wire.specs.Parts.Part.{Octets as OctetsPart, CompressibleName, UncompressedName as UncompressedPart}
@@ -15,9 +13,9 @@ use Rattle.dns_fields.specs.declared.field_data.FieldData.{FieldData}
 use Rattle.dns_fields_text.specs.DataTexts.{data_fields, data_line}
 use Rattle.dns_fields_text.specs.FieldTexts.{fields_octets, fields_text, value_text}
 use Rattle.dns_line_words.specs.LineWords.{AreWordsOf}
-use Rattle.dns_line_words.specs.ListLaws.{word_of_any}
+use Rattle.dns_line_words.specs.ListLaws.{opaque_words}
 
--- the part is one of a field of this shape
+-- the part is of the sort that this shape has: a name, or octets whose number prints as a word
 abbrev pub IsPartOf : Shape → Part → Type 0
 IsPartOf (Octets n) (OctetsPart octets) = IsBytes octets × (length octets ≡ n)
 IsPartOf Counted (OctetsPart octets) = IsBytes octets × (length octets < 2 ^ 16)
@@ -28,8 +26,8 @@ IsPartOf (UncompressedName pointers lowers) (UncompressedPart lowered name) = Is
 IsPartOf shape part = ⊥
 
 -- the part of each field is one of its kind
-abbrev pub AreFields : List NamedPart → Type 0
-AreFields fields = All (λ field. IsPartOf (shape_of field.kind) field.part) fields
+abbrev pub HaveParts : List NamedPart → Type 0
+HaveParts fields = All (λ field. IsPartOf (shape_of field.kind) field.part) fields
 
 -- the words of the text of a field
 abbrev pub AreWordsOfField : NamedPart → List (List ℕ) → Type 0
@@ -41,10 +39,6 @@ AreWordsOfFields [] words = words ≡ []
 AreWordsOfFields (field ∷ fields) words =
     (own : List (List ℕ)) × (after : List (List ℕ)) × (words ≡ own ++ after) × AreWordsOfField field own × AreWordsOfFields fields after
 
--- the words of RDATA of an unknown type. RFC 3597 section 5
-abbrev pub opaque_words : List ℕ → List (List ℕ)
-opaque_words octets = codes "\\#" ∷ decimal (length octets) ∷ word_of_any (flat_map hex_octet) octets
-
 -- the words of RDATA: those of its fields; or those of its octets if a field has no presentation format
 abbrev pub AreWordsOfData : List NamedPart → List (List ℕ) → Type 0
 AreWordsOfData fields words = AreWordsOfFields fields words ⊎ ((fields_text [] fields ≡ None) × (words ≡ opaque_words (fields_octets fields)))
@@ -52,7 +46,7 @@ AreWordsOfData fields words = AreWordsOfFields fields words ⊎ ((fields_text []
 -- the text of fields that have a presentation format has the words of the fields
 abbrev pub FieldsSplit : Type 0
 FieldsSplit =
-    (fields : List NamedPart) (text : List ℕ) → AreFields fields → fields_text [] fields ≡ Some text
+    (fields : List NamedPart) (text : List ℕ) → HaveParts fields → fields_text [] fields ≡ Some text
     → (words : List (List ℕ)) × AreWordsOfFields fields words × AreWordsOf text words
 
 -- the text of RDATA has these words

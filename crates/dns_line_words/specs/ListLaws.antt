@@ -74,10 +74,14 @@ IdentitiesSplit = (tag_size algorithm high low : ℕ) (octets text : List ℕ) �
     × AreWordsOf text
     (decimal algorithm ∷ hex_text (take tag_size octets) ∷ encode_of standard (take (high * 256 + low) (drop tag_size octets)) ∷ map zone_name_text servers)
 
--- data of an unknown type
+-- the words of RDATA of an unknown type. RFC 3597 section 5
+abbrev pub opaque_words : List ℕ → List (List ℕ)
+opaque_words octets = codes "\\#" ∷ decimal (length octets) ∷ word_of_any (flat_map hex_octet) octets
+
+-- RDATA of an unknown type
 abbrev pub OpaqueSplits : Type 0
 OpaqueSplits = (octets : List ℕ) → IsBytes octets → length octets < 2 ^ 64
-    → AreWordsOf (opaque_text octets) (codes "\\#" ∷ decimal (length octets) ∷ word_of_any (flat_map hex_octet) octets)
+    → AreWordsOf (opaque_text octets) (opaque_words octets)
 
 -- a record: its owner, TTL, class and type, and the words of its RDATA
 abbrev pub RecordsSplit : Type 0

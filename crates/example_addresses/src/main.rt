@@ -25,7 +25,7 @@ fn main(rt: HostRuntime) -> Result<()> {
 }
 
 /// Prints a line for each A record of the answer section: its owner and its address, or that it is
-/// malformed. A record that can't be read has the last line.
+/// malformed. If a record can't be read at all, the next line says so, and is the last.
 fn print_addresses<W: Write>(output: &mut W, message: &Message<Vec<u8>>) -> io::Result<()>
     ensures { OnOk result (Appends (W.contents output.old) (W.contents output.new)
         (addresses_text (message_octets message.now))) }

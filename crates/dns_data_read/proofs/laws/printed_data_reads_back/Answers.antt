@@ -1,5 +1,6 @@
 use Rattle.dns_data_read.proofs.DataBack.{data_back, line_words}
 use Rattle.dns_data_read.proofs.PrintedLaws.{PrintedLaws}
+use Rattle.dns_data_read.proofs.ReadAgain.{data_again, records_again}
 use Rattle.dns_data_read.proofs.RecordBack.{LinesSplit, record_back}
 use Rattle.dns_data_read.proofs.laws.printed_data_reads_back.Goals as goal
 
@@ -64,4 +65,5 @@ returns c =
     let splits = c.printed_fields_split.ensures.rdata in
     let lines : LinesSplit = λ own bytes. let line = line_words all splits own bytes in (line.0, line.2) in
     let rdata = data_back laws all splits in
-    record { rdata = rdata; records = record_back fields.types fields.names lists.records lines rdata }
+    let records = record_back fields.types fields.names lists.records lines rdata in
+    record { rdata = rdata; records = records; rdata_again = data_again lines rdata; records_again = records_again lists.records lines records }
