@@ -21,7 +21,7 @@ use Rattle.dns_fields.specs.declared.shape.Shape.{Shape}
 use Rattle.dns_fields.specs.declared.shape.Shape.TheVariants.{Octets, Counted, Sized, Name, UncompressedName, Rest}
 use Rattle.dns_line_words.specs.FieldLaws.{AreWordsOfFields}
 use Rattle.dns_line_words.specs.LineWords.{AreWordsOf, texts}
-use Rattle.dns_fields_read.proofs.ByteLemmas.{bytes_front, bytes_back}
+use Rattle.dns_fields_read.proofs.theory.ByteLemmas.{bytes_front, bytes_back}
 use Rattle.dns_data_read.specs.Extents.{extent_of}
 use Rattle.dns_data_read.specs.FieldWords.{Words}
 use Rattle.dns_data_read.specs.declared.extent.Extent.{Extent}

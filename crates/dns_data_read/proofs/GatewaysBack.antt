@@ -7,6 +7,7 @@ use Rattle.std.specs.Net.Text.{ipv4_text, ipv6_text}
 use Rattle.std.specs.Option.{option_and_then}
 use Rattle.std.proofs.lemmas.Bool.{leb-true}
 use Rattle.std.proofs.lemmas.List.Elements.{All-cons, All-nil}
+use Rattle.std.proofs.lemmas.Option.{same_Some}
 use Rattle.base64.specs.Engines.{standard}
 use Rattle.base64.specs.GeneralPurpose.{encode_of}
 use Rattle.hex.specs.Hex.{IsBytes}
@@ -22,10 +23,10 @@ use Rattle.dns_fields_read.specs.GatewayWords.{IsGateway, IsRelay}
 use Rattle.dns_fields_read.specs.IdentityWords.{IsHostIdentity}
 use Rattle.dns_fields_read.specs.Laws.{GatewaysReadBack, IdentitiesReadBack, Ipv4ReadsBack, Ipv6ReadsBack, RelaysReadBack}
 use Rattle.dns_fields_read.specs.PrintedWords.{HasNoSpace}
-use Rattle.dns_fields_read.proofs.ByteLemmas.{bytes_take}
-use Rattle.dns_fields_read.proofs.SpaceLemmas.{base64_clear, colon_hex_clear, decimal_clear, dot_clear, dotted_clear, hex_clear, name_clear}
+use Rattle.dns_fields_read.proofs.theory.ByteLemmas.{bytes_take}
+use Rattle.dns_fields_read.proofs.theory.SpaceLemmas.{base64_clear, colon_hex_clear, decimal_clear, dot_clear, dotted_clear, hex_clear, name_clear}
 use Rattle.dns_data_read.specs.FieldWords.{Words}
-use Rattle.dns_data_read.proofs.PrintedTexts.{after_spaces, are_printed, some_same}
+use Rattle.dns_data_read.proofs.PrintedTexts.{after_spaces, are_printed}
 
 -- a value and the octets after it
 abbrev some_pair : {A : Type 0} → A → List ℕ → Option (A × List ℕ)
@@ -35,7 +36,7 @@ first_same : {A : Type 0} (a b : A) (x y : List ℕ) → some_pair a x ≡ some_
 first_same {A} a b x y e =
     let left : A × List ℕ = (a, x) in
     let right : A × List ℕ = (b, y) in
-    ap (λ (p : A × List ℕ). p.0) (some_same left right e)
+    ap (λ (p : A × List ℕ). p.0) (same_Some left right e)
 
 -- a gateway has no spaces
 taken : (size : ℕ) (text : List ℕ → List ℕ) (octets word after : List ℕ) → word_at size text octets ≡ Some (word, after) → (size ≤ length octets) × (text (take size octets) ≡ word)
@@ -107,7 +108,7 @@ module _ (ipv4 : Ipv4ReadsBack) (ipv6 : Ipv6ReadsBack) (own : Words) (text : Lis
     gateway_read (t ∷ a ∷ octets) bytes e =
         let h = split t a octets text bytes e in
         let printed : Some (gateway_words t a h.0 h.1) ≡ Some text = ap (λ (o : Option (List ℕ × List ℕ)). option_map (λ gateway. gateway_words t a gateway.0 gateway.1) o) (sym h.2) ∙ e in
-        let whole : text ≡ gateway_words t a h.0 h.1 = sym (some_same (gateway_words t a h.0 h.1) text printed) in
+        let whole : text ≡ gateway_words t a h.0 h.1 = sym (same_Some (gateway_words t a h.0 h.1) text printed) in
         let small : t < 256 = bytes 0 in
         let low : a < 256 = bytes 1 in
         let clear =
@@ -118,7 +119,7 @@ module _ (ipv4 : Ipv4ReadsBack) (ipv6 : Ipv6ReadsBack) (own : Words) (text : Lis
   -- relays
   module _ (split : RelaysSplit) (read : RelaysReadBack) where
     last_is : (first : ℕ) (word after : List ℕ) (b : Bool) → (if b then Some (relay_words (first / 128) (first % 128) word) else None) ≡ Some text → relay_words (first / 128) (first % 128) word ≡ text
-    last_is first word after true e = some_same (relay_words (first / 128) (first % 128) word) text e
+    last_is first word after true e = same_Some (relay_words (first / 128) (first % 128) word) text e
     last_is first word after false e = absurd (cc e)
 
     pub relay_read : (octets : List ℕ) → IsBytes octets → relay_text octets ≡ Some text → IsRelay own octets
@@ -137,7 +138,7 @@ module _ (ipv4 : Ipv4ReadsBack) (ipv6 : Ipv6ReadsBack) (own : Words) (text : Lis
 -- the names of servers
 joined : (first : List ℕ) (o : Option (List ℕ)) (text : List ℕ) → Some first ++? o ≡ Some text → (left : List ℕ) × (o ≡ Some left) × (first ++ left ≡ text)
 joined first None text e = absurd (cc e)
-joined first (Some left) text e = (left, refl, some_same (first ++ left) text e)
+joined first (Some left) text e = (left, refl, same_Some (first ++ left) text e)
 
 no_servers : (count : ℕ) (text : List ℕ) → servers_in count [] ≡ Some text → text ≡ []
 no_servers zero text e = cc e

@@ -3,6 +3,7 @@ use Rattle.std.proofs.Common.{◌≡◌, ◌∙◌, ℕ, Bool, true, false, List
 use Rattle.std.specs.Prelude.{Option, Some, None, codes, if◌then◌else◌}
 use Rattle.std.specs.Fmt.{◌++?◌}
 use Rattle.std.proofs.lemmas.List.{length-map}
+use Rattle.std.proofs.lemmas.Option.{same_Some}
 use Rattle.hex.specs.Hex.{IsBytes}
 use Rattle.dns_data.specs.Layout.{IsLaidOut}
 use Rattle.dns_data.specs.Layout.Layout.{Rest as RestLayout}
@@ -24,9 +25,9 @@ use Rattle.dns_fields_text.specs.TypeNames.{type_word}
 use Rattle.dns_line_words.specs.LineWords.{AreWordsOf, texts}
 use Rattle.dns_line_words.proofs.FieldWords.{map_below, small_below}
 use Rattle.dns_line_words.proofs.LineLemmas.{one_list}
-use Rattle.dns_fields_read.specs.ParameterWords.{AreParameterWords}
 use Rattle.dns_fields_read.specs.PrefixWords.{ArePrefixWords}
 use Rattle.dns_fields_read.specs.TypeMapWords.{AreTypeTexts, IsSmallTypeMap, IsTypeMap}
+use Rattle.dns_parameters_read.specs.ParameterWords.{AreParameterWords}
 use Rattle.dns_data_read.specs.DataWords.{IsMarked}
 use Rattle.dns_data_read.specs.FieldWords.{AreFieldWords, Words}
 use Rattle.dns_data_read.proofs.FieldPart.{HasWords, IsFieldPart}
@@ -35,7 +36,6 @@ use Rattle.dns_data_read.proofs.LocationBack.{location_read}
 use Rattle.dns_data_read.proofs.MarkedWords.{gateway_words_unmarked, identity_words_unmarked, location_words_unmarked, parameter_words_unmarked, prefix_words_unmarked, relay_words_unmarked, types_unmarked}
 use Rattle.dns_data_read.proofs.ParametersBack.{parameters_read}
 use Rattle.dns_data_read.proofs.PrintedLaws.{PrintedLaws}
-use Rattle.dns_data_read.proofs.PrintedTexts.{some_same}
 
 -- the octets of a field that takes all remaining octets
 rest_octets : (test : List ℕ → Bool) (octets : List ℕ) → IsLaidOut (RestLayout test) (OctetsPart octets ∷ []) → test octets ≡ true
@@ -49,19 +49,19 @@ type_texts (word ∷ own) [] same = absurd (cc same)
 type_texts (word ∷ own) (n ∷ types) same = (cc same, type_texts own types (cc same))
 
 if_some : (b : Bool) (x text : List ℕ) → (if b then Some x else None) ≡ Some text → (b ≡ true) × (x ≡ text)
-if_some true x text e = (refl, some_same x text e)
+if_some true x text e = (refl, same_Some x text e)
 if_some false x text e = absurd (cc e)
 
 -- the text of prefixes
 prefix_then : (first word text : List ℕ) (known : Bool) (others : Option (List ℕ)) → (Some first ++? (if known then Some word else None)) ++? others ≡ Some text
     → (rest : List ℕ) × (others ≡ Some rest) × ((first ++ word) ++ rest ≡ text)
-prefix_then first word text true (Some rest) e = (rest, refl, some_same ((first ++ word) ++ rest) text e)
+prefix_then first word text true (Some rest) e = (rest, refl, same_Some ((first ++ word) ++ rest) text e)
 prefix_then first word text true None e = absurd (cc e)
 prefix_then first word text false None e = absurd (cc e)
 prefix_then first word text false (Some rest) e = absurd (cc e)
 
 prefixes_are : (first : List ℕ) (items : List PrefixItem) (text : List ℕ) → spaced_if_all first (map prefix_word items) ≡ Some text → separated first (codes " ") (map prefix_text items) ≡ text
-prefixes_are first [] text e = some_same [] text e
+prefixes_are first [] text e = same_Some [] text e
 prefixes_are first (item ∷ items) text e =
     let here = prefix_then first (prefix_text item) text (has_word item) (spaced_if_all (codes " ") (map prefix_word items)) e in
     ap (λ (xs : List ℕ). (first ++ prefix_text item) ++ xs) (prefixes_are (codes " ") items here.0 here.1) ∙ here.2
@@ -74,7 +74,7 @@ module _ (laws : PrintedLaws) where
 
     type_map_is : is_type_map octets ≡ true → Some (types_text (map_types octets)) ≡ Some text → IsTypeMap own octets
     type_map_is map_is e =
-        let same = same_words (types_text (map_types octets)) (map type_word (map_types octets)) (some_same _ text e) (laws.lists.types (map_types octets) (map_below octets bytes)) in
+        let same = same_words (types_text (map_types octets)) (map type_word (map_types octets)) (same_Some _ text e) (laws.lists.types (map_types octets) (map_below octets bytes)) in
         laws.reading.type_maps own octets bytes map_is (type_texts own (map_types octets) same)
 
     small_map_is : (if is_small_map octets then Some (types_text (octet_types 0 octets)) else None) ≡ Some text → IsSmallTypeMap own octets
@@ -86,7 +86,7 @@ module _ (laws : PrintedLaws) where
     parameters_are : are_parameters octets ≡ true → Some (parameters_text octets) ≡ Some text → AreParameterWords own octets
     parameters_are is e =
         parameters_read laws.reading.parameters octets own bytes is
-        (same_words (parameters_text octets) (map parameter_word (parameters_of octets)) (some_same _ text e) (laws.lists.parameters octets bytes))
+        (same_words (parameters_text octets) (map parameter_word (parameters_of octets)) (same_Some _ text e) (laws.lists.parameters octets bytes))
 
     prefixes_is : are_prefixes octets ≡ true → prefixes_text octets ≡ Some text → ArePrefixWords own octets
     prefixes_is is e =

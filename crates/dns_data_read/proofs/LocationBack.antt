@@ -16,7 +16,7 @@ use Rattle.dns_line_words.proofs.LineLemmas.{one_list}
 use Rattle.dns_fields_read.specs.Laws.{LocationsReadBack}
 use Rattle.dns_fields_read.specs.LocationWords.{IsLocation}
 use Rattle.dns_fields_read.specs.PrintedWords.{HasNoSpace}
-use Rattle.dns_fields_read.proofs.SpaceLemmas.{NotSpace, both_clear, decimal_clear, dot_clear, one_clear}
+use Rattle.dns_fields_read.proofs.theory.SpaceLemmas.{NotSpace, both_clear, decimal_clear, dot_clear, one_clear}
 use Rattle.dns_data_read.specs.FieldWords.{Words}
 use Rattle.dns_data_read.proofs.PrintedTexts.{own_clear}
 

@@ -12,14 +12,14 @@ use Rattle.dns_number.proofs.theory.MnemonicLemmas.{no_mnemonic}
 use Rattle.dns_fields_text.specs.ParameterItems.{ParameterItem}
 use Rattle.dns_fields_text.specs.Parameters.{key_name}
 use Rattle.dns_fields_text.specs.PrefixItems.{PrefixItem}
-use Rattle.dns_fields_read.specs.AnyOrder.{InAnyOrder}
 use Rattle.dns_fields_read.specs.GatewayWords.{IsGateway, IsRelay}
 use Rattle.dns_fields_read.specs.IdentityWords.{IsHostIdentity}
 use Rattle.dns_fields_read.specs.LocationWords.{IsAngle, IsLocation}
-use Rattle.dns_fields_read.specs.ParameterWords.{IsParameterWord}
 use Rattle.dns_fields_read.specs.PrefixWords.{ArePrefixWords, IsAddressWord, IsPrefixWord}
 use Rattle.dns_fields_read.specs.TypeMapWords.{AreTypes}
 use Rattle.dns_fields_read.specs.TypeWords.{IsTypeWord, table_mnemonics}
+use Rattle.dns_parameters_read.specs.AnyOrder.{InAnyOrder}
+use Rattle.dns_parameters_read.specs.ParameterWords.{IsParameterWord}
 use Rattle.dns_data_read.specs.DataWords.{IsMarked}
 use Rattle.dns_data_read.specs.FieldWords.{Words}
 

@@ -13,14 +13,14 @@ use Rattle.dns_fields.specs.declared.owned.OwnedFieldData.{OwnedFieldData}
 use Rattle.dns_fields_read.specs.Base32Words.{last_octets}
 use Rattle.dns_fields_read.specs.Laws.{RepresentsOne}
 use Rattle.dns_fields_read.specs.SizedWords.{IsSizedWords}
-use Rattle.dns_fields_read.proofs.LocationLemmas.{one_location}
-use Rattle.dns_fields_read.proofs.OneFields.{one_gateway, one_identity, one_relay}
-use Rattle.dns_fields_read.proofs.OneMaps.{one_map, one_small_map}
-use Rattle.dns_fields_read.proofs.OneWords.{one_base64, one_eui, one_hash, one_hex, one_ipv4, one_ipv6, one_locator, one_name, one_salt, one_sized, one_time}
-use Rattle.dns_fields_read.proofs.ParameterLemmas.{one_parameters}
-use Rattle.dns_fields_read.proofs.PrefixLemmas.{one_prefixes}
-use Rattle.dns_fields_read.proofs.StringLemmas.{one_string}
-use Rattle.dns_fields_read.proofs.TypeMapLaws.{one_word}
+use Rattle.dns_fields_read.proofs.theory.LocationLemmas.{one_location}
+use Rattle.dns_fields_read.proofs.theory.OneFields.{one_gateway, one_identity, one_relay}
+use Rattle.dns_fields_read.proofs.theory.OneMaps.{one_map, one_small_map}
+use Rattle.dns_fields_read.proofs.theory.OneWords.{one_base64, one_eui, one_hash, one_hex, one_ipv4, one_ipv6, one_locator, one_name, one_salt, one_sized, one_time}
+use Rattle.dns_fields_read.proofs.theory.PrefixLemmas.{one_prefixes}
+use Rattle.dns_fields_read.proofs.theory.StringLemmas.{one_string}
+use Rattle.dns_fields_read.proofs.theory.TypeMapLaws.{one_word}
+use Rattle.dns_parameters_read.proofs.theory.OneParameters.{one_parameters}
 use Rattle.dns_value_text.specs.declared.text_error.TextError.{TextError}
 use Rattle.dns_data_read.specs.DataWords.{AreCountedDigits, AreDataWords, AreFields, IsDataText, ReadsData}
 use Rattle.dns_data_read.specs.Extents.{extent_of}

@@ -10,10 +10,10 @@ use Rattle.dns_fields_text.specs.ParameterItems.{ParameterItem, parameter_at, pa
 use Rattle.dns_fields_text.specs.Parameters.{parameter_word}
 use Rattle.dns_fields_text.proofs.theory.ItemLemmas.{IsShrinking, items_of_first}
 use Rattle.dns_line_words.specs.LineWords.{texts}
-use Rattle.dns_fields_read.specs.AnyOrder.{AreIncreasing, InAnyOrder}
-use Rattle.dns_fields_read.specs.Laws.{ParametersReadBack}
-use Rattle.dns_fields_read.specs.ParameterWords.{AreParameterWords, IsParameterWord, key_of, parameter_octets}
-use Rattle.dns_fields_read.proofs.ByteLemmas.{bytes_drop, bytes_take}
+use Rattle.dns_fields_read.proofs.theory.ByteLemmas.{bytes_drop, bytes_take}
+use Rattle.dns_parameters_read.specs.AnyOrder.{AreIncreasing, InAnyOrder}
+use Rattle.dns_parameters_read.specs.Laws.{ParametersReadBack}
+use Rattle.dns_parameters_read.specs.ParameterWords.{AreParameterWords, IsParameterWord, key_of, parameter_octets}
 use Rattle.dns_data_read.specs.FieldWords.{Words}
 
 -- two octets are the key of a parameter, and two count its value

@@ -1,6 +1,7 @@
 -- The laws of what is printed that are cited here.
 use Rattle.dns_value_text.specs.Laws.{Base64ReadsBack, HexReadsBack}
-use Rattle.dns_fields_read.specs.Laws.{EuiReadsBack, GatewaysReadBack, HashesReadBack, IdentitiesReadBack, Ipv4ReadsBack, Ipv6ReadsBack, LocationsReadBack, LocatorsReadBack, NamesReadBack, ParametersReadBack, PrefixFieldsReadBack, RelaysReadBack, SaltsReadBack, SmallTypeMapsReadBack, StringsReadBack, TypeMapsReadBack, TypesReadBack}
+use Rattle.dns_fields_read.specs.Laws.{EuiReadsBack, GatewaysReadBack, HashesReadBack, IdentitiesReadBack, Ipv4ReadsBack, Ipv6ReadsBack, LocationsReadBack, LocatorsReadBack, NamesReadBack, PrefixFieldsReadBack, RelaysReadBack, SaltsReadBack, SmallTypeMapsReadBack, StringsReadBack, TypeMapsReadBack, TypesReadBack}
+use Rattle.dns_parameters_read.specs.Laws.{ParametersReadBack}
 use Rattle.dns_line_words.specs.Laws.{Base64IsWord, EuiAreWords, HashesAreWords, HexIsWord, Ipv4IsWord, Ipv6IsWord, LocatorsAreWords, NamesAreWords, NumbersAreWords, SaltsAreWords, StringsAreWords, TagsAreWords, TimesAreWords, TypesAreWords}
 use Rattle.dns_line_words.specs.ListLaws.{GatewaysSplit, IdentitiesSplit, ParametersSplit, PrefixesSplit, RelaysSplit, SizedSplit, StringsSplit, TypesSplit}
 use Rattle.dns_line_words.specs.LocationLaws.{LocationsSplit}

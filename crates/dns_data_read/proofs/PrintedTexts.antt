@@ -1,15 +1,12 @@
 -- The words of printed lists, as the laws of reading take them.
 use Rattle.std.proofs.Common.{◌≡◌, ◌∙◌, ℕ, List, [], ◌∷◌, ◌++◌, refl, sym, ap, subst}
-use Rattle.std.specs.Prelude.{All, Some, codes}
+use Rattle.std.specs.Prelude.{All, codes}
 use Rattle.std.specs.Borrow.{Bor}
 use Rattle.std.specs.List.{flat_map}
 use Rattle.std.proofs.lemmas.List.Elements.{All-cons, All-head, All-nil, All-tail}
 use Rattle.dns_line_words.specs.LineWords.{texts}
 use Rattle.dns_fields_read.specs.PrintedWords.{AreWords, HasNoSpace}
 use Rattle.dns_data_read.specs.FieldWords.{Words}
-
-pub some_same : {A : Type 0} (x y : A) → Some x ≡ Some y → x ≡ y
-some_same x y e = cc
 
 -- words, each after a space
 abbrev pub after_spaces : List (List ℕ) → List ℕ

@@ -6,6 +6,7 @@ use Rattle.std.specs.Net.Grammar.{IsDotted}
 use Rattle.std.specs.Net.Text.{ipv4_text, ipv6_text}
 use Rattle.std.proofs.NetLemmas.Texts.{IsDotted-ipv4_text}
 use Rattle.std.proofs.lemmas.Fmt.{decimal_is_IsNumeral}
+use Rattle.std.proofs.lemmas.Option.{same_Some}
 use Rattle.hex.specs.Hex.{IsBytes}
 use Rattle.dns_name.specs.Names.{IsName, Labels, uncompressed}
 use Rattle.dns_value_text.specs.Addresses.{eui_text, locator_text}
@@ -21,13 +22,12 @@ use Rattle.dns_fields_read.specs.Addresses.{IsIpv6Word}
 use Rattle.dns_fields_read.specs.EuiWords.{IsEuiWord}
 use Rattle.dns_fields_read.specs.LocatorWords.{IsLocatorWord}
 use Rattle.dns_fields_read.specs.NameWords.{IsNameWord}
-use Rattle.dns_fields_read.proofs.ByteLemmas.{labels_of_octets}
+use Rattle.dns_fields_read.proofs.theory.ByteLemmas.{labels_of_octets}
 use Rattle.dns_line_words.specs.LineWords.{IsWord}
 use Rattle.dns_data_read.specs.FieldWords.{IsHash, IsNumberIn, IsSalt, IsString, IsTagWord, IsTime, IsType, counted}
 use Rattle.dns_data_read.proofs.MarkedWords.{number_differs, type_differs}
 use Rattle.dns_data_read.proofs.NumberOctets.{number_octets, number_small}
 use Rattle.dns_data_read.proofs.PrintedLaws.{PrintedLaws}
-use Rattle.dns_data_read.proofs.PrintedTexts.{some_same}
 use Rattle.dns_data_read.proofs.Unmarked.{Unmarked, colon_hex_unmarked, dotted_unmarked, eui_unmarked, hash_unmarked, locator_unmarked, name_unmarked, quoted_unmarked, salt_unmarked, tag_unmarked, time_unmarked}
 
 pub record Printed (Represents : List ℕ → List ℕ → Type 0) (octets text : List ℕ) : Type 0 where
@@ -36,7 +36,7 @@ pub record Printed (Represents : List ℕ → List ℕ → Type 0) (octets text 
   pub unmarked : Unmarked text
 
 pub as_text : (Represents : List ℕ → List ℕ → Type 0) (octets word text : List ℕ) → Some word ≡ Some text → Printed Represents octets word → Printed Represents octets text
-as_text Represents octets word text e printed = subst (λ (t : List ℕ). Printed Represents octets t) (some_same word text e) printed
+as_text Represents octets word text e printed = subst (λ (t : List ℕ). Printed Represents octets t) (same_Some word text e) printed
 
 -- a text that is printed if a test holds
 pub text_is : (test : Bool) (word text : List ℕ) → text_if test word ≡ Some text → (test ≡ true) × (Some word ≡ Some text)

@@ -9,7 +9,7 @@ use Rattle.dns_wire.specs.Parts.Part.{Octets, CompressibleName, UncompressedName
 use Rattle.dns_data.specs.Layout.{DataAt, Layout, octets_size, string_size}
 use Rattle.dns_data.specs.Layout.Layout.{End, AtMost, Rest, Fixed, CharacterString, SizedOctets, DomainName, UncompressedDomainName}
 use Rattle.dns_fields.specs.DataOrders.{octets_of_parts}
-use Rattle.dns_fields_read.proofs.ByteLemmas.{bytes_append, bytes_drop, bytes_take}
+use Rattle.dns_fields_read.proofs.theory.ByteLemmas.{bytes_append, bytes_drop, bytes_take}
 
 no_octets : IsBytes []
 no_octets i = omega arith

@@ -12,7 +12,7 @@ use Rattle.dns_fields.specs.declared.field_data.FieldData.{FieldData}
 use Rattle.dns_fields_read.specs.Laws.{NamesReadBack, TypesReadBack}
 use Rattle.dns_fields_read.specs.NameWords.{IsNameText}
 use Rattle.dns_fields_read.specs.TypeWords.{IsTypeWord}
-use Rattle.dns_fields_read.proofs.ByteLemmas.{labels_of_octets}
+use Rattle.dns_fields_read.proofs.theory.ByteLemmas.{labels_of_octets}
 use Rattle.dns_fields_text.specs.DataTexts.{data_line}
 use Rattle.dns_fields_text.specs.RecordLines.{record_text}
 use Rattle.dns_fields_text.specs.TypeNames.{type_word}

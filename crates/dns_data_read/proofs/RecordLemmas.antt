@@ -17,7 +17,7 @@ use Rattle.dns_number.proofs.theory.MnemonicLemmas.{one_number}
 use Rattle.dns_number.proofs.theory.NumberedLemmas.{apart}
 use Rattle.dns_fields_read.specs.NameWords.{IsNameText}
 use Rattle.dns_fields_read.specs.TypeWords.{IsTypeWord}
-use Rattle.dns_fields_read.proofs.TypeMapLaws.{one_word}
+use Rattle.dns_fields_read.proofs.theory.TypeMapLaws.{one_word}
 use Rattle.dns_item.specs.Items.{RecordItem}
 use Rattle.dns_value_text.specs.declared.text_error.TextError.{TextError}
 use Rattle.dns_value_text.specs.declared.text_error.TextError.TheVariants.{BadWord, OutOfMemory}

@@ -6,7 +6,7 @@ use Rattle.dns_value_text.specs.Strings.{SpellsString}
 use Rattle.dns_value_text.specs.declared.text_error.TextError.{TextError}
 use Rattle.std.specs.Borrow.{Bor}
 use Rattle.dns_fields_read.specs.Reading.{AppendsOctets}
-use Rattle.dns_fields_read.proofs.StringLemmas.{one_string}
+use Rattle.dns_fields_read.proofs.theory.StringLemmas.{one_string}
 use Rattle.dns_data_read.specs.FieldWords.{AreStrings, IsString, Words}
 
 -- a longer string

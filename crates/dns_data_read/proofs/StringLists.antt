@@ -10,7 +10,7 @@ use Rattle.dns_fields.specs.Strings.{are_strings, strings_after}
 use Rattle.dns_fields_text.specs.Items.{items_in}
 use Rattle.dns_fields_text.specs.Strings.{string_at, strings_of}
 use Rattle.dns_fields_read.specs.Laws.{StringsReadBack}
-use Rattle.dns_fields_read.proofs.ByteLemmas.{bytes_drop, bytes_take}
+use Rattle.dns_fields_read.proofs.theory.ByteLemmas.{bytes_drop, bytes_take}
 use Rattle.dns_line_words.specs.LineWords.{texts}
 use Rattle.dns_data_read.specs.FieldWords.{AreStrings, IsString, Words, counted}
 

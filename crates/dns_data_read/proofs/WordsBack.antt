@@ -1,6 +1,7 @@
 -- The words of the text of one field represent its octets, and the first word isn't `\#`: fields of one word, sized octets, character strings, and octets in hexadecimal and in base64.
 use Rattle.std.proofs.Common.{◌≡◌, ◌≢◌, ◌∙◌, ℕ, suc, ◌/◌, ◌%◌, ◌<◌, true, false, Some, List, [], ◌∷◌, ◌++◌, length, decimal, refl, sym, subst, arith, append-nil}
 use Rattle.std.specs.Prelude.{map}
+use Rattle.std.proofs.lemmas.Option.{same_Some}
 use Rattle.base64.specs.Engines.{standard}
 use Rattle.base64.specs.GeneralPurpose.{encode_of}
 use Rattle.hex.specs.Hex.{IsBytes}
@@ -31,7 +32,6 @@ use Rattle.dns_data_read.proofs.FieldShapes.{of_counted, of_fixed, of_name, of_r
 use Rattle.dns_data_read.proofs.MarkedWords.{number_differs}
 use Rattle.dns_data_read.proofs.OpaqueBack.{number_back}
 use Rattle.dns_data_read.proofs.PrintedLaws.{PrintedLaws}
-use Rattle.dns_data_read.proofs.PrintedTexts.{some_same}
 use Rattle.dns_data_read.proofs.PrintedValues.{Printed, any_is, eui_printed, hash_printed, ipv4_printed, ipv6_printed, locator_printed, name_printed, number_printed, salt_printed, string_printed, tag_printed, text_printed, time_printed, type_printed}
 use Rattle.dns_data_read.proofs.StringLists.{first_quoted, string_list_back}
 use Rattle.dns_data_read.proofs.Unmarked.{Unmarked, base64_unmarked as base64_text_unmarked, hex_unmarked, quoted_unmarked}
@@ -160,7 +160,7 @@ module _ (laws : PrintedLaws) where
       let lower : low < 256 = bytes 1 in
       let first : high ≡ length octets / 256 = omega arith in
       let second : low ≡ length octets % 256 = omega arith in
-      let text = some_same (sized_text octets) has.0 has.1 in (
+      let text = same_Some (sized_text octets) has.0 has.1 in (
         octets,
         λ i. bytes (suc (suc i)),
         omega arith,
@@ -191,7 +191,7 @@ module _ (laws : PrintedLaws) where
   strings_part part own is has =
       of_rest (StringsPart own) are_strings
       (λ octets are bytes has.
-      let text = some_same (strings_text octets) has.0 has.1 in (
+      let text = same_Some (strings_text octets) has.0 has.1 in (
         are,
         one_list has.0 (texts own) (map quoted (strings_of octets)) has.2
             (subst (λ (t : List ℕ). AreWordsOf t (map quoted (strings_of octets))) text (laws.lists.strings octets)),
@@ -216,7 +216,7 @@ module _ (laws : PrintedLaws) where
       → (0 < length octets → IsWord (print octets)) → (0 < length octets) × (texts own ≡ print octets ∷ [])
   any_part print octets text own bytes e are word =
       let some = any_is print octets text e in
-      let same = some_same (print octets) text some.1 in
+      let same = same_Some (print octets) text some.1 in
       (some.0, own_word own (print octets) (subst (λ (t : List ℕ). AreWordsOf t (texts own)) (sym same) are) (word some.0))
 
   hexadecimal_part : (part : Part) (own : Words) → IsFieldPart kinds.Hexadecimal part → HasWords kinds.Hexadecimal part own

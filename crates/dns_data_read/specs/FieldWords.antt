@@ -15,13 +15,13 @@ use Rattle.dns_fields_read.specs.JoinedWords.{AreBase64, AreHex}
 use Rattle.dns_fields_read.specs.LocationWords.{IsLocation}
 use Rattle.dns_fields_read.specs.LocatorWords.{IsLocatorWord}
 use Rattle.dns_fields_read.specs.NameWords.{IsNameWord}
-use Rattle.dns_fields_read.specs.ParameterWords.{AreParameterWords}
 use Rattle.dns_fields_read.specs.PrefixWords.{ArePrefixWords}
 use Rattle.dns_fields_read.specs.Salts.{IsHashWord, IsSaltWord}
 use Rattle.dns_fields_read.specs.SizedWords.{IsSizedWords}
 use Rattle.dns_fields_read.specs.TimeWords.{IsTimeWord}
 use Rattle.dns_fields_read.specs.TypeMapWords.{IsSmallTypeMap, IsTypeMap}
 use Rattle.dns_fields_read.specs.TypeWords.{IsTypeWord}
+use Rattle.dns_parameters_read.specs.ParameterWords.{AreParameterWords}
 use Rattle.dns_data_read.specs.Extents.{extent_of}
 use Rattle.dns_data_read.specs.declared.extent.Extent.{Extent}
 use Rattle.dns_data_read.specs.declared.extent.Extent.TheVariants.{One, OneOrTwo, All}

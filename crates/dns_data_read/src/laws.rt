@@ -8,6 +8,7 @@ ghost use Rattle.dns_data_read.specs.RecordWords.{IsRecordText};
 use dns_fields_read::laws::printed_fields_read_back;
 use dns_fields_text::laws::fields_are_all;
 use dns_line_words::laws::{printed_fields_split, printed_lists_split, printed_values_are_words};
+use dns_parameters_read::laws::printed_parameters_read_back;
 use dns_value_text::laws::printed_values_read_back;
 
 /// The octets of RDATA, and of a name, that is read of octets are octets.
@@ -30,6 +31,7 @@ pub fn printed_data_reads_back()
     printed_fields_split();
     printed_values_read_back();
     printed_fields_read_back();
+    printed_parameters_read_back();
     fields_are_all();
 }
 

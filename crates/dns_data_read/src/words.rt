@@ -10,8 +10,9 @@ use crate::word::push_string;
 use dns_fields::Kind;
 use dns_fields_read::{
     push_octets, read_base64_words, read_gateway, read_hex_words, read_host_identity,
-    read_location, read_parameters, read_prefixes, read_relay, read_small_type_map, read_type_map,
+    read_location, read_prefixes, read_relay, read_small_type_map, read_type_map,
 };
+use dns_parameters_read::read_parameters;
 use dns_value_text::TextError;
 use std::alloc::Global;
 

@@ -16,7 +16,7 @@ use Rattle.dns_value_text.specs.Number.{number_of}
 use Rattle.dns_fields_read.specs.Base32Words.{AppendsBase32, IsBase32, IsDigits, IsGroupSize, last_octets}
 use Rattle.dns_value_text.specs.declared.text_error.TextError.{TextError}
 use Rattle.dns_value_text.specs.declared.text_error.TextError.TheVariants.{OutOfMemory}
-use Rattle.dns_fields_read.proofs.ByteLemmas.{bytes_append}
+use Rattle.dns_fields_read.proofs.theory.ByteLemmas.{bytes_append}
 use Rattle.dns_fields_read.proofs.EuiLemmas.{bytes_more}
 
 -- digits of a number: how many they are

@@ -9,7 +9,7 @@ use Rattle.dns_fields.specs.TypeMaps.{blocks_after, is_bit_map}
 use Rattle.dns_fields_text.proofs.theory.BlockLemmas.{block_shrinks}
 use Rattle.dns_fields_text.proofs.theory.ItemLemmas.{items_of_first}
 use Rattle.dns_fields_text.specs.TypeMaps.{Block, block_at, ends_nonzero, map_types, octet_types}
-use Rattle.dns_fields_read.proofs.ByteLemmas.{bytes_append, nonzero}
+use Rattle.dns_fields_read.proofs.theory.ByteLemmas.{bytes_append, nonzero}
 
 -- the types of the first block and of the octets after it
 pub map_first : (window size : ℕ) (octets : List ℕ) → size ≤ 32 → size ≤ length octets

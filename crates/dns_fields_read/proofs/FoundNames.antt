@@ -4,18 +4,15 @@ use Rattle.std.specs.Prelude.{All, Option, Some, None, option_map, nat_le, ◌&&
 use Rattle.std.proofs.lemmas.Bool.{leb-true, and_parts, eqb-true, eqb-false}
 use Rattle.std.proofs.lemmas.List.{length-take-le, take-append-drop}
 use Rattle.std.proofs.lemmas.List.Elements.{All-cons, All-nil}
+use Rattle.std.proofs.lemmas.Option.{same_Some}
 use Rattle.hex.specs.Hex.{IsBytes}
 use Rattle.dns_name.specs.Names.{Labels, IsLabel, IsName, name_size, uncompressed}
 use Rattle.dns_fields.specs.PlainNames.{can_follow}
 use Rattle.dns_fields_text.specs.GatewayTexts.{labels_at, name_at}
-use Rattle.dns_fields_read.proofs.ByteLemmas.{OfOctets, bytes_back, bytes_front, labels_of_octets}
-
--- values that are there are the same
-pub some_same : {A : Type 0} (x y : A) → Some x ≡ Some y → x ≡ y
-some_same x y e = cc
+use Rattle.dns_fields_read.proofs.theory.ByteLemmas.{OfOctets, bytes_back, bytes_front, labels_of_octets}
 
 pub pair_same : {A B : Type 0} (x y : A × B) → Some x ≡ Some y → (x.0 ≡ y.0) × (x.1 ≡ y.1)
-pair_same {A} {B} x y e = let same = some_same x y e in (ap (λ (p : A × B). p.0) same, ap (λ (p : A × B). p.1) same)
+pair_same {A} {B} x y e = let same = same_Some x y e in (ap (λ (p : A × B). p.0) same, ap (λ (p : A × B). p.1) same)
 
 -- Labels after labels of `size` octets, and the octets after them.
 record Found (size : ℕ) (octets after : List ℕ) (name : Labels) : Type 0 where

@@ -8,6 +8,7 @@ use Rattle.std.specs.Net.Text.{ipv4_text, ipv6_text}
 use Rattle.std.specs.Option.{option_and_then}
 use Rattle.std.proofs.NetLemmas.Texts.{IsDotted-ipv4_text}
 use Rattle.std.proofs.lemmas.Bool.{eqb-true, leb-true}
+use Rattle.std.proofs.lemmas.Option.{same_Some}
 use Rattle.std.proofs.lemmas.List.{length-take-le, take-append-drop}
 use Rattle.hex.specs.Hex.{IsBytes}
 use Rattle.dns_name.specs.Names.{Labels, uncompressed}
@@ -18,12 +19,12 @@ use Rattle.dns_fields_text.specs.ZoneNames.{zone_name_text}
 use Rattle.dns_fields_read.specs.Addresses.{IsIpv6Word}
 use Rattle.dns_fields_read.specs.GatewayWords.{IsGateway, IsGatewayAndKey, IsGatewayOf, IsRelay, IsRelayOf}
 use Rattle.dns_fields_read.specs.PrintedWords.{AreWords, HasNoSpace}
-use Rattle.dns_fields_read.proofs.AddressLaws.{ipv6_reads_back}
-use Rattle.dns_fields_read.proofs.ByteLemmas.{bytes_back, bytes_front}
-use Rattle.dns_fields_read.proofs.FoundNames.{name_first, pair_same, some_same}
+use Rattle.dns_fields_read.proofs.theory.AddressLaws.{ipv6_reads_back}
+use Rattle.dns_fields_read.proofs.theory.ByteLemmas.{bytes_back, bytes_front}
+use Rattle.dns_fields_read.proofs.FoundNames.{name_first, pair_same}
 use Rattle.dns_fields_read.proofs.NameLaws.{names_read_back}
 use Rattle.dns_fields_read.proofs.SizedLaws.{key_begins, key_read, number_read}
-use Rattle.dns_fields_read.proofs.SpaceLemmas.{Taken, colon_hex_clear, decimal_clear, dot_clear, dotted_clear, name_clear, no_words, taken}
+use Rattle.dns_fields_read.proofs.theory.SpaceLemmas.{Taken, colon_hex_clear, decimal_clear, dot_clear, dotted_clear, name_clear, no_words, taken}
 
 abbrev Words : Type 0
 Words = List (Bor (List ℕ))
@@ -194,7 +195,7 @@ by_gateway : Base64ReadsBack → (t a : ℕ) (octets text : List ℕ) (words : W
 by_gateway base64 t a octets text words bytes printed None found e = absurd (cc)
 by_gateway base64 t a octets text words bytes printed (Some (word, key)) found e =
     gateway_read base64 t a octets word key words (bytes 1) (gateway_first t octets word key (λ i. bytes (suc (suc i))) found)
-    (subst (λ (xs : List ℕ). AreWords xs words) (sym (some_same (gateway_words t a word key) text e)) printed)
+    (subst (λ (xs : List ℕ). AreWords xs words) (sym (same_Some (gateway_words t a word key) text e)) printed)
 
 pub gateways_read_back : Base64ReadsBack → (octets text : List ℕ) (words : Words) → IsBytes octets → gateway_text octets ≡ Some text → AreWords text words → IsGateway words octets
 gateways_read_back base64 [] text words bytes e printed = absurd (cc)
@@ -238,7 +239,7 @@ module _ (o : ℕ) (octets text : List ℕ) (words : Words) (bytes : IsBytes (o 
   by_end word after found true n e =
       let first = gateway_first (o % 128) octets word after (λ i. bytes (suc i)) found in
       relay_read o octets word words (bytes 0) (subst (λ (xs : List ℕ). GatewayFirst (o % 128) octets word xs) (empty after (eqb-true (length after) 0 n)) first)
-      (subst (λ (xs : List ℕ). AreWords xs words) (sym (some_same (relay_words (o / 128) (o % 128) word) text e)) printed) where
+      (subst (λ (xs : List ℕ). AreWords xs words) (sym (same_Some (relay_words (o / 128) (o % 128) word) text e)) printed) where
         empty : (xs : List ℕ) → length xs ≡ 0 → xs ≡ []
         empty [] e = refl
         empty (x ∷ xs) e = absurd (omega arith)

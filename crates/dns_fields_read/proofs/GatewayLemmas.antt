@@ -9,7 +9,7 @@ use Rattle.dns_fields_read.specs.Addresses.{IsIpv6Word}
 use Rattle.dns_fields_read.specs.GatewayWords.{IsGatewayAndKey, IsGatewayOf, IsNumberTo, IsRelayOf}
 use Rattle.dns_fields_read.specs.NameWords.{IsNameWord}
 use Rattle.dns_fields_read.specs.Reading.{AppendsOctets}
-use Rattle.dns_fields_read.proofs.AppendLemmas.{appends_as}
+use Rattle.dns_fields_read.proofs.theory.AppendLemmas.{appends_as}
 
 -- a word is one number
 pub one_number : (most : ℕ) (word : List ℕ) (m n : ℕ) → IsNumberTo most word m → IsNumberTo most word n → m ≡ n

@@ -5,6 +5,7 @@ use Rattle.std.specs.Borrow.{Bor}
 use Rattle.std.specs.Fmt.{◌++?◌}
 use Rattle.std.specs.Option.{option_and_then}
 use Rattle.std.proofs.lemmas.Bool.{leb-true}
+use Rattle.std.proofs.lemmas.Option.{same_Some}
 use Rattle.std.proofs.lemmas.List.{length-take-le, take-append-drop, length-drop}
 use Rattle.base64.specs.Engines.{standard}
 use Rattle.base64.specs.GeneralPurpose.{encode_of}
@@ -19,11 +20,11 @@ use Rattle.dns_fields_text.specs.HostIdentities.{identity_parts, identity_text, 
 use Rattle.dns_fields_text.specs.ZoneNames.{zone_name_text}
 use Rattle.dns_fields_read.specs.IdentityWords.{AreNames, IsHostIdentity, IsIdentity, identity_octets}
 use Rattle.dns_fields_read.specs.PrintedWords.{AreWords}
-use Rattle.dns_fields_read.proofs.ByteLemmas.{bytes_back, bytes_front}
-use Rattle.dns_fields_read.proofs.FoundNames.{name_first, some_same}
+use Rattle.dns_fields_read.proofs.theory.ByteLemmas.{bytes_back, bytes_front}
+use Rattle.dns_fields_read.proofs.FoundNames.{name_first}
 use Rattle.dns_fields_read.proofs.NameLaws.{names_read_back}
 use Rattle.dns_fields_read.proofs.SizedLaws.{number_read}
-use Rattle.dns_fields_read.proofs.SpaceLemmas.{BeginsWithSpace, Separate, Taken, base64_clear, decimal_clear, hex_clear, name_clear, no_words, taken, texts}
+use Rattle.dns_fields_read.proofs.theory.SpaceLemmas.{BeginsWithSpace, Separate, Taken, base64_clear, decimal_clear, hex_clear, name_clear, no_words, taken, texts}
 
 abbrev Words : Type 0
 Words = List (Bor (List ℕ))
@@ -35,20 +36,20 @@ server name = codes " " ++ zone_name_text name
 -- what a text after another is part of
 begins_after : (name : Labels) (others : Option (List ℕ)) (text : List ℕ) → Some (server name) ++? others ≡ Some text → BeginsWithSpace text
 begins_after name None text e = absurd (cc)
-begins_after name (Some more) text e = subst BeginsWithSpace (some_same (server name ++ more) text e) refl
+begins_after name (Some more) text e = subst BeginsWithSpace (same_Some (server name ++ more) text e) refl
 
 begins_with : (count : ℕ) (o : Option (Labels × List ℕ)) (text : List ℕ) → option_and_then (λ first. Some (server first.0) ++? servers_in count first.1) o ≡ Some text → BeginsWithSpace text
 begins_with count None text e = absurd (cc)
 begins_with count (Some (name, after)) text e = begins_after name (servers_in count after) text e
 
 servers_begin : (count : ℕ) (octets text : List ℕ) → servers_in count octets ≡ Some text → BeginsWithSpace text
-servers_begin zero [] text e = subst BeginsWithSpace (some_same [] text e) tt
+servers_begin zero [] text e = subst BeginsWithSpace (same_Some [] text e) tt
 servers_begin zero (x ∷ xs) text e = absurd (cc)
-servers_begin (suc count) [] text e = subst BeginsWithSpace (some_same [] text e) tt
+servers_begin (suc count) [] text e = subst BeginsWithSpace (same_Some [] text e) tt
 servers_begin (suc count) (x ∷ xs) text e = begins_with count (name_at (x ∷ xs)) text e
 
 none_read : (text : List ℕ) (words : Words) → Some [] ≡ Some text → text ≡ texts words → AreNames words []
-none_read text words e f = subst (λ (ws : Words). AreNames ws []) (sym (no_words words (some_same [] text e ∙ f))) refl
+none_read text words e f = subst (λ (ws : Words). AreNames ws []) (sym (no_words words (same_Some [] text e ∙ f))) refl
 
 module _ (count : ℕ) (later : (octets text : List ℕ) (words : Words) → IsBytes octets → servers_in count octets ≡ Some text → text ≡ texts words → Separate words → AreNames words octets)
     (octets text : List ℕ) (words : Words) (bytes : IsBytes octets) (f : text ≡ texts words) (separate : Separate words) where
@@ -57,7 +58,7 @@ module _ (count : ℕ) (later : (octets text : List ℕ) (words : Words) → IsB
   by_others name after found None h e = absurd (cc)
   by_others name after found (Some more) h e =
       let here = name_first octets after name bytes found in
-      let first = taken (zone_name_text name) more words (name_clear name) (servers_begin count after more h) (some_same (server name ++ more) text e ∙ f) separate in
+      let first = taken (zone_name_text name) more words (name_clear name) (servers_begin count after more h) (same_Some (server name ++ more) text e ∙ f) separate in
       subst (λ (ws : Words). AreNames ws octets) (sym first.whole) (
         uncompressed name,
         after,
@@ -93,7 +94,7 @@ parts_of algorithm (t ∷ tag) (k ∷ key) servers text e = by_servers (servers_
   by_servers (Some more) h e = record {
     more = more;
     servers_are = h;
-    text_is = some_same (identity_words algorithm (t ∷ tag) (k ∷ key) ++ more) text e;
+    text_is = same_Some (identity_words algorithm (t ∷ tag) (k ∷ key) ++ more) text e;
     some_tag = omega arith;
     some_key = omega arith;
   }

@@ -18,7 +18,7 @@ use Rattle.dns_value_text.specs.LocationItems.{LocationItem, location_of, locati
 use Rattle.dns_value_text.specs.Locations.{altitude_text, are_printable, is_angle, is_size, metres_text, middle, seconds_text, size_of}
 use Rattle.dns_value_text.specs.Time.{two_digits}
 use Rattle.dns_fields_read.specs.LocationWords.{AreLocationWords, AreSizes, BeginsWithAngle, IsAltitude, IsAngle, IsDecimal, IsDirected, IsLength, IsLocation, IsSize, location_octets}
-use Rattle.dns_fields_read.proofs.LocationLemmas.{Without, decimal_without, digits_without, length_without, size_cases}
+use Rattle.dns_fields_read.proofs.theory.LocationLemmas.{Without, decimal_without, digits_without, length_without, size_cases}
 
 -- texts without spaces
 abbrev IsWord : List ℕ → Type 0

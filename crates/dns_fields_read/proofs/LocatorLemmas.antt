@@ -16,7 +16,7 @@ use Rattle.hex.specs.Hex.{IsBytes}
 use Rattle.dns_value_text.specs.Addresses.{locator_text, low_pair}
 use Rattle.dns_fields_read.specs.LocatorWords.{BeginsWithGroup, IsLocatorWord}
 use Rattle.dns_fields_read.specs.Reading.{Reads}
-use Rattle.dns_fields_read.proofs.AddressLaws.{octets_again, segment_count}
+use Rattle.dns_fields_read.proofs.theory.AddressLaws.{octets_again, segment_count}
 
 -- the digits are a number of 16 bits
 by_parsed : {E : Type 0} (word : List ℕ) (r : Result ℕ E) → length word ≤ 4

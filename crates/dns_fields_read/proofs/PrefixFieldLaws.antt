@@ -22,8 +22,8 @@ use Rattle.dns_fields_text.specs.Prefixes.{address_text, has_word, padded, prefi
 use Rattle.dns_fields_text.specs.Separated.{separated, spaced, spaced_if_all}
 use Rattle.dns_fields_text.proofs.theory.ItemLemmas.{IsShrinking, items_of_first}
 use Rattle.dns_fields_read.specs.PrefixWords.{ArePrefixWords, IsPrefixWord, prefix_octets}
-use Rattle.dns_fields_read.proofs.AddressLaws.{segments_fit}
-use Rattle.dns_fields_read.proofs.ByteLemmas.{bytes_drop, bytes_take}
+use Rattle.dns_fields_read.proofs.theory.AddressLaws.{segments_fit, octets_fit}
+use Rattle.dns_fields_read.proofs.theory.ByteLemmas.{bytes_drop, bytes_take}
 use Rattle.dns_fields_read.proofs.PrefixLaws.{bytes_padded, family_of, prefixes_read_back, size_small}
 use Rattle.dns_fields_read.proofs.SpacedWords.{NoSpace, no_space_append, no_space_each, no_space_more, same_words}
 
@@ -52,12 +52,6 @@ decimal_clear n small = digits_clear (decimal n) (decimal_is_IsNumeral n small).
 -- nor have addresses
 ipv4_clear : (octets : List ℕ) → IsBytes octets → NoSpace (ipv4_text octets)
 ipv4_clear octets bytes = no_space_each IsDigitOrDot digit_or_dot (ipv4_text octets) (All-ipv4_text octets bytes)
-
-octets_fit : (segments : List ℕ) → AllSegments segments → IsBytes (octets_of segments)
-octets_fit [] fits i = omega arith
-octets_fit (s ∷ segments) fits zero = let small : s < 2 ^ 16 = fits 0 in omega arith
-octets_fit (s ∷ segments) fits (suc zero) = omega arith
-octets_fit (s ∷ segments) fits (suc (suc i)) = octets_fit segments (λ k. fits (suc k)) i
 
 ipv6_clear : (segments : List ℕ) → AllSegments segments → NoSpace (ipv6_text segments)
 unfolding ipv6_text

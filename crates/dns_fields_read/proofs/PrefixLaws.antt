@@ -13,7 +13,7 @@ use Rattle.dns_fields_text.specs.PrefixItems.{PrefixItem}
 use Rattle.dns_fields_text.specs.Prefixes.{address_text, fits, has_word, padded, prefix_text, sign}
 use Rattle.dns_fields_read.specs.Addresses.{IsIpv6Word}
 use Rattle.dns_fields_read.specs.PrefixWords.{IsAddressWord, IsPrefixWord}
-use Rattle.dns_fields_read.proofs.AddressLaws.{ipv6_reads_back}
+use Rattle.dns_fields_read.proofs.theory.AddressLaws.{ipv6_reads_back}
 
 -- the size of a prefix
 within : (n m : ℕ) → nat_le n m ≡ true → n ≤ m

@@ -14,7 +14,7 @@ use Rattle.dns_value_text.specs.Reading.{ReadsOctets}
 use Rattle.dns_value_text.specs.declared.text_error.TextError.{TextError}
 use Rattle.dns_fields_read.specs.TypeBits.{AppendsTypes, IsBits, IsSmallMap, have_small_map, is_small_type, is_within}
 use Rattle.dns_fields_read.specs.TypeMapWords.{AreTypes, HasType, IsSmallTypeMap, has}
-use Rattle.dns_fields_read.proofs.ByteLemmas.{nonzero}
+use Rattle.dns_fields_read.proofs.theory.ByteLemmas.{nonzero}
 use Rattle.dns_fields_read.proofs.TypeMapLemmas.{bit_range, ends_of, octet_cases, octet_range}
 
 -- the highest bit of an octet

@@ -15,7 +15,7 @@ use Rattle.dns_fields_read.specs.TypeBits.{AppendsBlock, AppendsBlocks, AppendsT
 use Rattle.dns_fields_read.specs.TypeMapWords.{AreTypes, HasType, IsTypeMap, has}
 use Rattle.dns_fields_read.specs.TypeWords.{IsTypeWord}
 use Rattle.dns_fields_read.proofs.BlockLemmas.{block_bytes, map_more, more_blocks, weaken}
-use Rattle.dns_fields_read.proofs.ByteLemmas.{bytes_front}
+use Rattle.dns_fields_read.proofs.theory.ByteLemmas.{bytes_front}
 
 -- one octet, or type, more
 pub bits_more : (p : ℕ → Bool) (first count : ℕ) → 0 < count → octet_bits p first count ≡ (if p first then 128 else 0) + octet_bits p (first + 1) (count - 1) / 2

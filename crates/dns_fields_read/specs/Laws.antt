@@ -18,8 +18,6 @@ use Rattle.dns_fields_text.specs.FieldTexts.{prefixes_text, salt_text, sized_tex
 use Rattle.dns_fields_text.specs.PrefixItems.{PrefixItem, prefixes_of}
 use Rattle.dns_fields_text.specs.GatewayTexts.{gateway_text, relay_text}
 use Rattle.dns_fields_text.specs.HostIdentities.{identity_text}
-use Rattle.dns_fields_text.specs.ParameterItems.{ParameterItem}
-use Rattle.dns_fields_text.specs.Parameters.{parameter_word}
 use Rattle.dns_fields_text.specs.Prefixes.{has_word, prefix_text}
 use Rattle.dns_fields_text.specs.Separated.{spaced}
 use Rattle.dns_fields_text.specs.TypeMaps.{is_small_map, map_types, octet_types}
@@ -34,7 +32,6 @@ use Rattle.dns_fields_read.specs.LocatorWords.{IsLocatorWord}
 use Rattle.dns_fields_read.specs.NameWords.{IsNameText}
 use Rattle.dns_fields_read.specs.PrefixWords.{ArePrefixWords, IsPrefixWord}
 use Rattle.dns_fields_read.specs.PrintedWords.{AreWords}
-use Rattle.dns_fields_read.specs.ParameterWords.{IsParameterWord}
 use Rattle.dns_fields_read.specs.Salts.{IsCounted, IsHashWord, IsSaltWord}
 use Rattle.dns_fields_read.specs.SizedWords.{IsSizedWords, sized}
 use Rattle.dns_fields_read.specs.TimeWords.{IsTimeWord}
@@ -124,10 +121,6 @@ IdentitiesReadBack =
 -- octets that a length of 16 bits counts; spaces separate the printed words
 abbrev pub SizedReadBack : Type 0
 SizedReadBack = (octets : List ℕ) (words : List (Bor (List ℕ))) → IsBytes octets → length octets < 65536 → AreWords (codes " " ++ sized_text octets) words → IsSizedWords words (sized octets)
-
--- service parameters, by name if the value is well-formed for the key, else by number
-abbrev pub ParametersReadBack : Type 0
-ParametersReadBack = (item : ParameterItem) → IsBytes item.value → item.key < 2 ^ 16 → length item.value < 2 ^ 16 → IsParameterWord (parameter_word item) item
 
 -- words represent at most one value
 abbrev pub RepresentsOne : {W X : Type 0} → (W → X → Type 0) → Type 0

@@ -1,5 +1,4 @@
 pub mod Addresses
-pub mod AnyOrder
 pub mod Base32Words
 pub mod EuiWords
 pub mod GatewayWords
@@ -9,13 +8,8 @@ pub mod Laws
 pub mod LocationWords
 pub mod LocatorWords
 pub mod NameWords
-pub mod ParameterKeys
-pub mod ParameterValues
-pub mod ParameterWords
 pub mod PrefixWords
 pub mod PrintedWords
-pub mod ProtocolNames
-pub mod ReadParameters
 pub mod Reading
 pub mod Salts
 pub mod SizedWords

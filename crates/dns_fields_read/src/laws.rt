@@ -6,11 +6,10 @@ ghost use Rattle.dns_fields_read.specs.EuiWords.{IsEuiWord};
 ghost use Rattle.dns_fields_read.specs.GatewayWords.{IsGateway, IsRelay};
 ghost use Rattle.dns_fields_read.specs.IdentityWords.{IsHostIdentity};
 ghost use Rattle.dns_fields_read.specs.JoinedWords.{AreBase64, AreHex};
-ghost use Rattle.dns_fields_read.specs.Laws.{EuiReadsBack, HashesReadBack, Ipv4ReadsBack, Ipv6ReadsBack, LocatorsReadBack, NamesReadBack, PrefixFieldsReadBack, PrefixesReadBack, SaltsReadBack, SmallTypeMapsReadBack, StringsReadBack, TagsReadBack, TimesReadBack, TypeMapsReadBack, TypesReadBack, GatewaysReadBack, IdentitiesReadBack, RelaysReadBack, SizedReadBack, ParametersReadBack, LocationsReadBack, RepresentsOne};
+ghost use Rattle.dns_fields_read.specs.Laws.{EuiReadsBack, HashesReadBack, Ipv4ReadsBack, Ipv6ReadsBack, LocatorsReadBack, NamesReadBack, PrefixFieldsReadBack, PrefixesReadBack, SaltsReadBack, SmallTypeMapsReadBack, StringsReadBack, TagsReadBack, TimesReadBack, TypeMapsReadBack, TypesReadBack, GatewaysReadBack, IdentitiesReadBack, RelaysReadBack, SizedReadBack, LocationsReadBack, RepresentsOne};
 ghost use Rattle.dns_fields_read.specs.LocationWords.{IsLocation};
 ghost use Rattle.dns_fields_read.specs.LocatorWords.{IsLocatorWord};
 ghost use Rattle.dns_fields_read.specs.NameWords.{IsNameWord};
-ghost use Rattle.dns_fields_read.specs.ParameterWords.{AreParameterWords};
 ghost use Rattle.dns_fields_read.specs.PrefixWords.{ArePrefixWords};
 ghost use Rattle.dns_fields_read.specs.Salts.{IsHashWord, IsSaltWord};
 ghost use Rattle.dns_fields_read.specs.SizedWords.{IsSizedWords};
@@ -42,7 +41,6 @@ pub fn printed_fields_read_back()
     ensures gateways { GatewaysReadBack }
     ensures relays { RelaysReadBack }
     ensures identities { IdentitiesReadBack }
-    ensures parameters { ParametersReadBack }
 {
     printed_values_read_back();
 }
@@ -68,5 +66,4 @@ pub fn words_represent_one()
     ensures small_type_maps { RepresentsOne IsSmallTypeMap }
     ensures locations { RepresentsOne IsLocation }
     ensures prefixes { RepresentsOne ArePrefixWords }
-    ensures parameters { RepresentsOne AreParameterWords }
 {}

@@ -1,5 +1,5 @@
 //! Values of record data from words of presentation format (RFC 1035 section 5.1). Numbers, octets
-//! and strings are read by `dns_value_text`.
+//! and strings are read by `dns_value_text`, service parameters by `dns_parameters_read`.
 #![tactic(auto)]
 
 mod address;
@@ -12,13 +12,8 @@ mod joined;
 pub mod laws;
 mod location;
 mod locator;
-mod mandatory;
 mod name;
-mod parameter;
-mod parameter_key;
-mod parameter_value;
 mod prefix;
-mod protocols;
 mod salt;
 mod sized;
 mod small_type_map;
@@ -35,7 +30,6 @@ pub use joined::{read_base64_words, read_hex_words};
 pub use location::read_location;
 pub use locator::read_locator;
 pub use name::read_name;
-pub use parameter::read_parameters;
 pub use prefix::read_prefixes;
 pub use salt::{read_hash, read_salt};
 pub use sized::read_sized;

@@ -1,5 +1,5 @@
 //! Words of service parameters.
-use dns_fields_read::read_parameters;
+use dns_parameters_read::read_parameters;
 use dns_value_text::TextError;
 use std::test::Fail;
 

@@ -1,7 +1,7 @@
 use Rattle.std.proofs.Common.{refl, inr}
 use Rattle.dns_name.specs.NameReading.{name_labels}
 use Rattle.dns_fields_read.specs.NameWords.{IsNameWord}
-use Rattle.dns_fields_read.proofs.AppendLemmas.{appends}
+use Rattle.dns_fields_read.proofs.theory.AppendLemmas.{appends}
 use Rattle.dns_fields_read.proofs.append.push_name.Goals as goal
 
 pub returns-in_default : goal.returns-in_default

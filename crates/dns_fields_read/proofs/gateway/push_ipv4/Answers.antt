@@ -1,6 +1,6 @@
 use Rattle.std.proofs.Common.{ℕ, List, refl, sym, subst, inr}
 use Rattle.std.specs.Net.Grammar.{IsDotted}
-use Rattle.dns_fields_read.proofs.AppendLemmas.{appends}
+use Rattle.dns_fields_read.proofs.theory.AppendLemmas.{appends}
 use Rattle.dns_fields_read.proofs.gateway.push_ipv4.Goals as goal
 
 pub returns-in_default : goal.returns-in_default

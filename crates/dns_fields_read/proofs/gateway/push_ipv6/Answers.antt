@@ -1,6 +1,6 @@
 use Rattle.std.proofs.Common.{ℕ, List, refl, sym, subst, inr}
 use Rattle.dns_fields_read.specs.Addresses.{IsIpv6Word}
-use Rattle.dns_fields_read.proofs.AppendLemmas.{appends}
+use Rattle.dns_fields_read.proofs.theory.AppendLemmas.{appends}
 use Rattle.dns_fields_read.proofs.gateway.push_ipv6.Goals as goal
 
 pub returns-in_default : goal.returns-in_default

@@ -2,7 +2,7 @@ use Rattle.std.proofs.Common.{List, ℕ, Bor, subst, arith}
 use Rattle.dns_fields_read.specs.IdentityWords.{AreNames}
 use Rattle.dns_fields_read.specs.Reading.{AppendsOctets}
 use Rattle.dns_fields_read.proofs.IdentityLemmas.{names_more, names_none}
-use Rattle.dns_fields_read.proofs.PrefixLemmas.{after_is}
+use Rattle.dns_fields_read.proofs.theory.PrefixLemmas.{after_is}
 use Rattle.dns_fields_read.proofs.host_identity.+push_names.Goals as goal
 
 pub returns-in-Ok : goal.returns-in-Ok

@@ -1,6 +1,6 @@
 use Rattle.std.proofs.Common.{refl, inl}
 use Rattle.std.proofs.NetLemmas.Texts.{IsDotted-ipv4_text}
-use Rattle.dns_fields_read.proofs.AddressLaws.{ipv6_reads_back}
+use Rattle.dns_fields_read.proofs.theory.AddressLaws.{ipv6_reads_back}
 use Rattle.dns_fields_read.proofs.EuiLemmas.{eui_reads_back}
 use Rattle.dns_fields_read.proofs.GatewayLaws.{gateways_read_back, relays_read_back}
 use Rattle.dns_fields_read.proofs.IdentityLaws.{identities_read_back}
@@ -8,13 +8,12 @@ use Rattle.dns_fields_read.proofs.LocationLaws.{locations_read_back}
 use Rattle.dns_fields_read.proofs.LocatorLemmas.{locators_read_back}
 use Rattle.dns_fields_read.proofs.NameLaws.{names_read_back}
 use Rattle.dns_fields_read.proofs.PrefixFieldLaws.{prefix_fields_read_back}
-use Rattle.dns_fields_read.proofs.ParameterLaws.{parameters_read_back}
 use Rattle.dns_fields_read.proofs.PrefixLaws.{prefixes_read_back}
 use Rattle.dns_fields_read.proofs.SaltLaws.{hashes_read_back, salts_read_back}
 use Rattle.dns_fields_read.proofs.SizedLaws.{sized_read_back}
-use Rattle.dns_fields_read.proofs.StringLaws.{string_reads_back, tag_reads_back}
+use Rattle.dns_fields_read.proofs.theory.StringLaws.{string_reads_back, tag_reads_back}
 use Rattle.dns_fields_read.proofs.TypeLaws.{types_read_back}
-use Rattle.dns_fields_read.proofs.TypeMapLaws.{small_type_maps_read_back, type_maps_read_back}
+use Rattle.dns_fields_read.proofs.theory.TypeMapLaws.{small_type_maps_read_back, type_maps_read_back}
 use Rattle.dns_fields_read.proofs.laws.printed_fields_read_back.Goals as goal
 
 pub returns-clause-types : goal.returns-clause-types
@@ -76,6 +75,3 @@ returns-clause-relays c = relays_read_back
 
 pub returns-clause-identities : goal.returns-clause-identities
 returns-clause-identities c = identities_read_back c.printed_values_read_back.ensures.hexadecimal c.printed_values_read_back.ensures.base64
-
-pub returns-clause-parameters : goal.returns-clause-parameters
-returns-clause-parameters c = parameters_read_back c.printed_values_read_back.ensures.base64

@@ -1,10 +1,9 @@
-use Rattle.dns_fields_read.proofs.LocationLemmas.{one_location}
-use Rattle.dns_fields_read.proofs.OneFields.{one_gateway, one_identity, one_relay}
-use Rattle.dns_fields_read.proofs.OneMaps.{one_map, one_small_map}
-use Rattle.dns_fields_read.proofs.OneWords.{one_base64, one_eui, one_hash, one_hex, one_ipv4, one_ipv6, one_locator, one_name, one_salt, one_sized, one_time}
-use Rattle.dns_fields_read.proofs.ParameterLemmas.{one_parameters}
-use Rattle.dns_fields_read.proofs.PrefixLemmas.{one_prefixes}
-use Rattle.dns_fields_read.proofs.TypeMapLaws.{one_word}
+use Rattle.dns_fields_read.proofs.theory.LocationLemmas.{one_location}
+use Rattle.dns_fields_read.proofs.theory.OneFields.{one_gateway, one_identity, one_relay}
+use Rattle.dns_fields_read.proofs.theory.OneMaps.{one_map, one_small_map}
+use Rattle.dns_fields_read.proofs.theory.OneWords.{one_base64, one_eui, one_hash, one_hex, one_ipv4, one_ipv6, one_locator, one_name, one_salt, one_sized, one_time}
+use Rattle.dns_fields_read.proofs.theory.PrefixLemmas.{one_prefixes}
+use Rattle.dns_fields_read.proofs.theory.TypeMapLaws.{one_word}
 use Rattle.dns_fields_read.proofs.laws.words_represent_one.Goals as goal
 
 pub returns-clause-types : goal.returns-clause-types
@@ -48,9 +47,6 @@ returns-clause-relays c = one_relay
 
 pub returns-clause-identities : goal.returns-clause-identities
 returns-clause-identities c = one_identity
-
-pub returns-clause-parameters : goal.returns-clause-parameters
-returns-clause-parameters c = one_parameters
 
 pub returns-clause-hashes : goal.returns-clause-hashes
 returns-clause-hashes c = one_hash

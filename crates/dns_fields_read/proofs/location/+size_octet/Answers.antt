@@ -1,5 +1,5 @@
 use Rattle.std.proofs.Common.{arith}
-use Rattle.dns_fields_read.proofs.LocationLemmas.{digit_rounded, size_small, tens_rounded}
+use Rattle.dns_fields_read.proofs.theory.LocationLemmas.{digit_rounded, size_small, tens_rounded}
 use Rattle.dns_fields_read.proofs.location.+size_octet.Goals as goal
 
 pub returns-then-centimetres-lt10 : goal.returns-then-centimetres-lt10

@@ -1,7 +1,7 @@
 use Rattle.std.proofs.Common.{◌≡◌, arith}
 use Rattle.std.specs.Prelude.{None, Some}
 use Rattle.std.proofs.lemmas.Str.Pattern.{strip_prefix_char}
-use Rattle.dns_fields_read.proofs.LocationLemmas.{depth_read, height_read, no_depth, no_height}
+use Rattle.dns_fields_read.proofs.theory.LocationLemmas.{depth_read, height_read, no_depth, no_height}
 use Rattle.dns_fields_read.proofs.location.read_altitude.Goals as goal
 
 pub returns-in_err-centimetres : goal.returns-in_err-centimetres

@@ -1,7 +1,7 @@
 use Rattle.std.proofs.Common.{ℕ, List, Bor, subst, arith}
 use Rattle.dns_fields_read.specs.LocationWords.{IsMinutes}
-use Rattle.dns_fields_read.proofs.LocationLemmas.{too_large}
-use Rattle.dns_fields_read.proofs.PrefixLemmas.{after_is}
+use Rattle.dns_fields_read.proofs.theory.LocationLemmas.{too_large}
+use Rattle.dns_fields_read.proofs.theory.PrefixLemmas.{after_is}
 use Rattle.dns_fields_read.proofs.location.read_angle.Goals as goal
 
 pub returns-then-angle-most-clause-read : goal.returns-then-angle-most-clause-read

@@ -1,7 +1,7 @@
 use Rattle.std.proofs.Common.{◌≡◌, arith}
 use Rattle.std.specs.Prelude.{None, Some}
 use Rattle.std.proofs.lemmas.Str.Pattern.{split_parts}
-use Rattle.dns_fields_read.proofs.LocationLemmas.{no_back, no_front, no_whole, parts_read, whole_read}
+use Rattle.dns_fields_read.proofs.theory.LocationLemmas.{no_back, no_front, no_whole, parts_read, whole_read}
 use Rattle.dns_fields_read.proofs.location.read_decimal.Goals as goal
 
 pub returns-in_err-whole : goal.returns-in_err-whole

@@ -1,6 +1,6 @@
 use Rattle.std.proofs.Common.{◌≡◌}
 use Rattle.std.specs.Prelude.{None}
-use Rattle.dns_fields_read.proofs.LocationLemmas.{no_decimals}
+use Rattle.dns_fields_read.proofs.theory.LocationLemmas.{no_decimals}
 use Rattle.dns_fields_read.proofs.location.read_decimals.Goals as goal
 
 pub returns-in_err-digits-clause-read : goal.returns-in_err-digits-clause-read

@@ -1,7 +1,7 @@
 use Rattle.std.proofs.Common.{arith}
 use Rattle.std.specs.Prelude.{None, Some}
 use Rattle.std.proofs.lemmas.Str.Pattern.{strip_suffix_char}
-use Rattle.dns_fields_read.proofs.LocationLemmas.{metres_read, number_read}
+use Rattle.dns_fields_read.proofs.theory.LocationLemmas.{metres_read, number_read}
 use Rattle.dns_fields_read.proofs.location.read_length.Goals as goal
 
 pub returns-in-Some-clause-read : goal.returns-in-Some-clause-read

@@ -1,8 +1,8 @@
 use Rattle.std.proofs.Common.{◌≡◌, ℕ, List, Bor, subst, arith}
 use Rattle.std.specs.Prelude.{None}
 use Rattle.dns_fields_read.specs.LocationWords.{AreSizes}
-use Rattle.dns_fields_read.proofs.LocationLemmas.{location_is, no_altitude, no_altitude_word, no_latitude, no_longitude, no_sizes}
-use Rattle.dns_fields_read.proofs.PrefixLemmas.{after_is}
+use Rattle.dns_fields_read.proofs.theory.LocationLemmas.{location_is, no_altitude, no_altitude_word, no_latitude, no_longitude, no_sizes}
+use Rattle.dns_fields_read.proofs.theory.PrefixLemmas.{after_is}
 use Rattle.dns_fields_read.proofs.location.read_location.Goals as goal
 
 pub returns-in_err-latitude : goal.returns-in_err-latitude

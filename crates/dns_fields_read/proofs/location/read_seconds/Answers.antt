@@ -1,6 +1,6 @@
 use Rattle.std.proofs.Common.{◌≡◌, arith}
 use Rattle.std.specs.Prelude.{None}
-use Rattle.dns_fields_read.proofs.LocationLemmas.{seconds_read}
+use Rattle.dns_fields_read.proofs.theory.LocationLemmas.{seconds_read}
 use Rattle.dns_fields_read.proofs.location.read_seconds.Goals as goal
 
 pub returns-in_err-seconds-clause-read : goal.returns-in_err-seconds-clause-read

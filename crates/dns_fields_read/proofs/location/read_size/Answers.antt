@@ -1,6 +1,6 @@
 use Rattle.std.proofs.Common.{◌≡◌}
 use Rattle.std.specs.Prelude.{None}
-use Rattle.dns_fields_read.proofs.LocationLemmas.{no_size}
+use Rattle.dns_fields_read.proofs.theory.LocationLemmas.{no_size}
 use Rattle.dns_fields_read.proofs.location.read_size.Goals as goal
 
 pub returns-in_err-centimetres : goal.returns-in_err-centimetres

@@ -1,7 +1,7 @@
 use Rattle.std.proofs.Common.{◌≡◌, ◌∙◌, sym, ap}
 use Rattle.std.specs.Prelude.{Some, slice_get}
 use Rattle.std.proofs.lemmas.Option.{slice_get-get_or, slice_get_past}
-use Rattle.dns_fields_read.proofs.LocationLemmas.{size_at, size_default}
+use Rattle.dns_fields_read.proofs.theory.LocationLemmas.{size_at, size_default}
 use Rattle.dns_fields_read.proofs.location.read_size_at.Goals as goal
 
 pub returns-in-Some : goal.returns-in-Some

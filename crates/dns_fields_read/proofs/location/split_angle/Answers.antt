@@ -1,6 +1,6 @@
 use Rattle.std.proofs.Common.{◌≡◌}
 use Rattle.std.specs.Prelude.{None}
-use Rattle.dns_fields_read.proofs.LocationLemmas.{no_direction, no_parts}
+use Rattle.dns_fields_read.proofs.theory.LocationLemmas.{no_direction, no_parts}
 use Rattle.dns_fields_read.proofs.location.split_angle.Goals as goal
 
 pub returns-in_err-index : goal.returns-in_err-index

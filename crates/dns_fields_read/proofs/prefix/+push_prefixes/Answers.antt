@@ -1,6 +1,6 @@
 use Rattle.std.proofs.Common.{List, ℕ, Bor, subst, arith}
 use Rattle.dns_fields_read.specs.PrefixWords.{AppendsPrefixes}
-use Rattle.dns_fields_read.proofs.PrefixLemmas.{after_is, appends_more, appends_none}
+use Rattle.dns_fields_read.proofs.theory.PrefixLemmas.{after_is, appends_more, appends_none}
 use Rattle.dns_fields_read.proofs.prefix.+push_prefixes.Goals as goal
 
 pub returns-in-Ok : goal.returns-in-Ok

@@ -1,6 +1,6 @@
 use Rattle.std.proofs.Common.{ap, ◌∙◌}
 use Rattle.dns_fields_text.specs.Prefixes.{is_trimmed}
-use Rattle.dns_fields_read.proofs.PrefixLemmas.{trimmed_end}
+use Rattle.dns_fields_read.proofs.theory.PrefixLemmas.{trimmed_end}
 use Rattle.dns_fields_read.proofs.prefix.+trimmed.Goals as goal
 
 pub returns-then-last-ne0-clause-trimmed : goal.returns-then-last-ne0-clause-trimmed

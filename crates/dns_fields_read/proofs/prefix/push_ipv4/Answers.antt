@@ -1,6 +1,6 @@
 use Rattle.std.proofs.Common.{◌≡◌, ℕ, List, length, refl, sym, ap, subst, inr, arith}
 use Rattle.std.specs.Net.Grammar.{IsDotted}
-use Rattle.dns_fields_read.proofs.PrefixLemmas.{appends, IsIpv4Prefix, ipv4_no_address, ipv4_read}
+use Rattle.dns_fields_read.proofs.theory.PrefixLemmas.{appends, IsIpv4Prefix, ipv4_no_address, ipv4_read}
 use Rattle.dns_fields_read.proofs.prefix.push_ipv4.Goals as goal
 
 pub returns-in_default : goal.returns-in_default

@@ -1,6 +1,6 @@
 use Rattle.std.proofs.Common.{◌≡◌, ℕ, List, length, refl, sym, subst, inr, arith, rules}
 use Rattle.dns_fields_read.specs.Addresses.{IsIpv6Word}
-use Rattle.dns_fields_read.proofs.PrefixLemmas.{appends, IsIpv6Prefix, ipv6_no_address, ipv6_read}
+use Rattle.dns_fields_read.proofs.theory.PrefixLemmas.{appends, IsIpv6Prefix, ipv6_no_address, ipv6_read}
 use Rattle.dns_fields_read.proofs.prefix.push_ipv6.Goals as goal
 
 pub returns-in_default : goal.returns-in_default

@@ -1,7 +1,7 @@
 use Rattle.std.proofs.Common.{refl, arith}
 use Rattle.std.specs.Prelude.{None}
 use Rattle.std.proofs.lemmas.Str.Pattern.{strip_prefix_char}
-use Rattle.dns_fields_read.proofs.PrefixLemmas.{no_sign}
+use Rattle.dns_fields_read.proofs.theory.PrefixLemmas.{no_sign}
 use Rattle.dns_fields_read.proofs.prefix.split_sign.Goals as goal
 
 pub returns-in-None : goal.returns-in-None

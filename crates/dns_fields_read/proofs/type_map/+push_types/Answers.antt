@@ -1,7 +1,7 @@
 use Rattle.std.proofs.Common.{◌≡◌, ◌++◌, ◌∷◌, [], List, ℕ, Bor, subst, refl, inr, arith}
 use Rattle.std.proofs.lemmas.Grind.{common_steps}
 use Rattle.dns_fields_read.specs.TypeBits.{AppendsTypes}
-use Rattle.dns_fields_read.proofs.PrefixLemmas.{after_is}
+use Rattle.dns_fields_read.proofs.theory.PrefixLemmas.{after_is}
 use Rattle.dns_fields_read.proofs.TypeMapLemmas.{no_types, types_more}
 use Rattle.dns_fields_read.proofs.type_map.+push_types.Goals as goal
 
