@@ -1,12 +1,13 @@
 -- The octets of rows, where those that share a line are one row.
-use Rattle.std.proofs.Common.{◌≡◌, ◌∙◌, ℕ, ◌+◌, ◌-◌, ◌≤◌, ◌&&◌, ◌==◌, Bool, true, false, List, [], ◌∷◌, ◌++◌, length, take, drop, slice_range, nat_le, nat_lt, All, ap, ap₂, refl, sym, arith, append_assoc, le-leb, drop-drop, take-add}
+use Rattle.std.proofs.Common.{◌≡◌, ◌∙◌, ℕ, ◌+◌, ◌-◌, ◌≤◌, ◌&&◌, ◌==◌, Bool, true, false, List, [], ◌∷◌, ◌++◌, length, take, drop, map, slice_range, nat_le, nat_lt, All, ap, ap₂, refl, sym, arith, append_assoc, le-leb, drop-drop, take-add}
 use Rattle.std.specs.Prelude.{if◌then◌else◌}
 use Rattle.std.specs.List.{flat_map}
 use Rattle.std.proofs.lemmas.Bool.{and_parts, eqb-true, leb-true, ltb-true}
 use Rattle.std.proofs.lemmas.List.Elements.{All-head, All-tail}
 use Rattle.dns_rows.specs.Rows.{row_octets}
 use Rattle.dns_rows.specs.declared.row.Row.{Row}
-use Rattle.dns_view.specs.Joined.{joined, joined_from, shares_line, shares_long_line, shares_tiny_line}
+use Rattle.dns_view.specs.Joined.{joined, line_row, line_rows, lines, shares_line, shares_long_line, shares_tiny_line, with_row, PageLine}
+use Rattle.dns_view.proofs.PageLines.{line_with}
 
 -- consecutive parts of a list are one part
 parts : (octets : List ℕ) (start middle end : ℕ) → start ≤ middle → middle ≤ end → slice_range octets start middle ++ slice_range octets middle end ≡ slice_range octets start end
@@ -30,30 +31,48 @@ shared large row next h =
     let less = ltb-true row.start row.end both.0 in
     (omega (arith, less), leb-true next.start next.end all.1, eqb-true row.end next.start both.1)
 
-joined_from_octets : (large : Bool) (message : List ℕ) (first last : Row) (rows : List Row) → first.start ≤ last.start → last.end ≤ length message → All (λ row. row.end ≤ length message) rows
-    → flat_map (row_octets message) (joined_from large first last rows) ≡ row_octets message (record first { end = last.end }) ++ flat_map (row_octets message) rows
-joined_from_octets large message first last [] order bound h = refl
-joined_from_octets large message first last (next ∷ rows) order bound h =
-    let P : Row → Type 0 = λ row. row.end ≤ length message in
-    let fits = All-head P next rows h in
-    let f = row_octets message in
-    let left = record first { end = last.end } in
-    elim (shares_line large last next) as (λ (b : Bool). shares_line large last next ≡ b
-    → flat_map f (if b then joined_from large first next rows else left ∷ joined_from large next next rows) ≡ f left ++ flat_map f (next ∷ rows)) [
-      | true ↦ λ e.
-          let s = shared large last next e in
-          let start = first.start in
-          let one : slice_range message start last.end ++ slice_range message last.end next.end ≡ slice_range message start next.end = parts message start last.end next.end (omega (arith, order, s.0)) (omega (arith, s.1, s.2)) in
-          let front : f left ≡ slice_range message start last.end = within message start last.end (omega (arith, order, s.0)) bound in
-          let second : f next ≡ slice_range message last.end next.end = within message next.start next.end s.1 fits ∙ ap (λ n. slice_range message n next.end) (sym s.2) in
-          let whole : f (record first { end = next.end }) ≡ slice_range message start next.end = within message start next.end (omega (arith, order, s)) fits in
-          let both : f (record first { end = next.end }) ≡ f left ++ f next = whole ∙ sym one ∙ sym (ap₂ (λ one other. one ++ other) front second) in
-          joined_from_octets large message first next rows (omega (arith, order, s)) fits (All-tail P next rows h) ∙ ap (λ l. l ++ flat_map f rows) both ∙ append_assoc (f left) (f next) (flat_map f rows)
-      | false ↦ λ e. ap (λ l. f left ++ l) (joined_from_octets large message next next rows (omega arith) fits (All-tail P next rows h))
-    ] refl
+-- the first of some lines ends no earlier than its first row, and not past a limit
+abbrev FirstFits : ℕ → List PageLine → Type 0
+FirstFits limit [] = Unit {0}
+FirstFits limit (line ∷ after) = (line.first.end ≤ (line_row line).end) × ((line_row line).end ≤ limit)
+
+module _ (large : Bool) (message : List ℕ) where
+  -- the octets that lines show
+  abbrev shown : List PageLine → List ℕ
+  shown after = flat_map (row_octets message) (map line_row after)
+
+  -- a row before lines shows its own octets
+  abbrev ShowsMore : Row → List PageLine → List PageLine → Type 0
+  ShowsMore row after more = FirstFits (length message) more × (shown more ≡ row_octets message row ++ shown after)
+
+  row_shown : (row : Row) (after : List PageLine) → row.end ≤ length message → FirstFits (length message) after → ShowsMore row after (with_row large row after)
+  row_shown row [] fits h = ((omega arith, fits), refl)
+  row_shown row (line ∷ after) fits h =
+      let f = row_octets message in
+      let next = line.first in
+      let own = line_row line in
+      let both = line_with row (line_rows line) in
+      elim (shares_line large row next) as (λ (b : Bool). shares_line large row next ≡ b → ShowsMore row (line ∷ after) (if b then both ∷ after else line_with row [] ∷ line ∷ after)) [
+        | true ↦ λ e.
+            let s = shared large row next e in
+            let past : row.end ≤ own.end = omega (arith, s.1, s.2, h.0) in
+            let one : slice_range message row.start row.end ++ slice_range message row.end own.end ≡ slice_range message row.start own.end = parts message row.start row.end own.end s.0 past in
+            let front : f row ≡ slice_range message row.start row.end = within message row.start row.end s.0 fits in
+            let second : f own ≡ slice_range message row.end own.end =
+            within message next.start own.end (omega (arith, s.1, h.0)) h.1 ∙ ap (λ n. slice_range message n own.end) (sym s.2) in
+            let whole : f (line_row both) ≡ slice_range message row.start own.end = within message row.start own.end (omega (arith, s.0, past)) h.1 in
+            let joint : f (line_row both) ≡ f row ++ f own = whole ∙ sym one ∙ sym (ap₂ (λ one other. one ++ other) front second) in
+            ((past, h.1), ap (λ l. l ++ shown after) joint ∙ append_assoc (f row) (f own) (shown after))
+        | false ↦ λ e. ((omega arith, fits), refl)
+      ] refl
+
+  rows_shown : (rows : List Row) → All (λ row. row.end ≤ length message) rows → FirstFits (length message) (lines large rows) × (shown (lines large rows) ≡ flat_map (row_octets message) rows)
+  rows_shown [] h = (tt, refl)
+  rows_shown (row ∷ rows) h =
+      let P : Row → Type 0 = λ row. row.end ≤ length message in
+      let after = rows_shown rows (All-tail P row rows h) in
+      let more = row_shown row (lines large rows) (All-head P row rows h) after.0 in
+      (more.0, more.1 ∙ ap (λ l. row_octets message row ++ l) after.1)
 
 pub joined_octets : (large : Bool) (message : List ℕ) (rows : List Row) → All (λ row. row.end ≤ length message) rows → flat_map (row_octets message) (joined large rows) ≡ flat_map (row_octets message) rows
-joined_octets large message [] h = refl
-joined_octets large message (row ∷ rows) h =
-    let P : Row → Type 0 = λ row. row.end ≤ length message in
-    joined_from_octets large message row row rows (omega arith) (All-head P row rows h) (All-tail P row rows h)
+joined_octets large message rows h = (rows_shown large message rows h).1

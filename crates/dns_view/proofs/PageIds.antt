@@ -15,23 +15,23 @@ use Rattle.dns_rows.specs.declared.row.Row.{Row}
 use Rattle.dns_rows.specs.declared.row.Kind.TheVariants as kinds
 use Rattle.dns_rows.specs.declared.row.Field.TheVariants as fields
 use Rattle.dns_view.specs.Digits.{hexadecimal}
-use Rattle.dns_view.specs.Joined.{is_large, joined, joined_from, shares_line}
+use Rattle.dns_view.specs.Joined.{is_large, joined, line_row, line_rows, lines, shares_line, with_row, PageLine}
 use Rattle.dns_view.specs.Links.{has_octets, linked_rows, page_ids}
 use Rattle.dns_view.specs.Pages.{cell_id, field_letter, letter_of, row_id}
+use Rattle.dns_view.proofs.PageLines.{line_with}
 
--- a line from the row `first` to the row `last`, and the rows after it, where those that share a line are one row
-joined_from_tiles : (large : Bool) (end : ℕ) (first last : Row) (rows : List Row) → first.start ≤ last.end → Tiles rows last.end end → Tiles (joined_from large first last rows) first.start end
-joined_from_tiles large end first last [] order h = (refl, order, h)
-joined_from_tiles large end first last (next ∷ rows) order h =
-    elim (shares_line large last next) as (λ (shares : Bool).
-    Tiles (if shares then joined_from large first next rows else record first { end = last.end } ∷ joined_from large next next rows) first.start end) [
-      | true ↦ joined_from_tiles large end first next rows (omega (arith, order, h.1)) h.2
-      | false ↦ (refl, order, subst (λ n. Tiles (joined_from large next next rows) n end) h.0 (joined_from_tiles large end next next rows (omega (arith, h.0, h.1)) h.2))
+-- a row before lines that are consecutive
+row_tiles : (large : Bool) (row : Row) (after : List PageLine) (start end : ℕ) → row.start ≡ start → start ≤ row.end → Tiles (map line_row after) row.end end → Tiles (map line_row (with_row large row after)) start end
+row_tiles large row [] start end is order h = (is, order, h)
+row_tiles large row (line ∷ after) start end is order h =
+    elim (shares_line large row line.first) as (λ (b : Bool). Tiles (map line_row (if b then line_with row (line_rows line) ∷ after else line_with row [] ∷ line ∷ after)) start end) [
+      | true ↦ (is, omega (arith, order, h.1), h.2)
+      | false ↦ (is, order, h)
     ]
 
 pub joined_tiles : (large : Bool) (rows : List Row) (start end : ℕ) → Tiles rows start end → Tiles (joined large rows) start end
 joined_tiles large [] start end h = h
-joined_tiles large (row ∷ rows) start end h = subst (λ n. Tiles (joined_from large row row rows) n end) h.0 (joined_from_tiles large end row row rows (omega (arith, h.0, h.1)) h.2)
+joined_tiles large (row ∷ rows) start end h = row_tiles large row (lines large rows) start end h.0 h.1 (joined_tiles large rows row.end end h.2)
 
 -- a text of one letter that is no digit
 abbrev IsLetter : List ℕ → Type 0

@@ -1,8 +1,9 @@
 -- Which rows share a line of a page's list, and a link of its grid.
-use Rattle.std.specs.Prelude.{ℕ, ◌+◌, ◌/◌, ◌==◌, ◌&&◌, ◌||◌, not, Bool, true, false, nat_le, nat_lt, if◌then◌else◌, List, [], ◌∷◌, length}
+use Rattle.std.specs.Prelude.{ℕ, ◌+◌, ◌/◌, ◌==◌, ◌&&◌, ◌||◌, not, Bool, true, false, nat_le, nat_lt, if◌then◌else◌, List, [], ◌∷◌, length, map}
 use Rattle.dns_rows.specs.declared.row.Row.{Row}
 use Rattle.dns_rows.specs.declared.row.Field.{Field}
 use Rattle.dns_rows.specs.declared.row.Kind.{Kind}
+use Rattle.dns_view.specs.declared.joined.Line.{Line}
 use Rattle.dns_rows.specs.declared.row.Kind.TheVariants as kinds
 use Rattle.dns_rows.specs.declared.row.Field.TheVariants as fields
 
@@ -55,12 +56,38 @@ shares_long_line before row = not (begins_line row.kind) && (not (are_alike befo
 abbrev pub shares_line : Bool → Row → Row → Bool
 shares_line large before row = are_consecutive before row && (if large then shares_long_line before row else shares_tiny_line before row)
 
--- Rows, where those that share a line are one row of the first one's kind. The line so far is from the row `first` to the row `last`.
-abbrev pub joined_from : Bool → Row → Row → List Row → List Row
-joined_from large first last [] = record first { end = last.end } ∷ []
-joined_from large first last (next ∷ rows) = if shares_line large last next then joined_from large first next rows else record first { end = last.end } ∷ joined_from large next next rows
+-- a line of a page: its first row, and the others that share it, in order
+pub record PageLine : Type 0 where
+  pub first : Row
+  pub others : List Row
+
+-- a `Line` of the code as a line of a page
+abbrev pub line_of : Line → PageLine
+line_of line = record { first = line.first; others = line.others.now }
+
+-- All rows of a line, in order. Each but the last has octets, and the next begins where it ends (`are_consecutive`).
+abbrev pub line_rows : PageLine → List Row
+line_rows line = line.first ∷ line.others
+
+-- where the last of a row and the rows after it ends
+abbrev pub last_end : Row → List Row → ℕ
+last_end row [] = row.end
+last_end row (next ∷ rows) = last_end next rows
+
+-- a line as one row, of the first one's kind
+abbrev pub line_row : PageLine → Row
+line_row line = record line.first { end = last_end line.first line.others }
+
+-- a row before lines: it begins the first of them if that line's first row shares a line with it, else a line of its own
+abbrev pub with_row : Bool → Row → List PageLine → List PageLine
+with_row large row [] = record { first = row; others = [] } ∷ []
+with_row large row (line ∷ lines) = if shares_line large row line.first then record { first = row; others = line_rows line } ∷ lines else record { first = row; others = [] } ∷ line ∷ lines
+
+-- the lines of rows
+abbrev pub lines : Bool → List Row → List PageLine
+lines large [] = []
+lines large (row ∷ rows) = with_row large row (lines large rows)
 
 -- rows, where those that share a line are one row
 abbrev pub joined : Bool → List Row → List Row
-joined large [] = []
-joined large (row ∷ rows) = joined_from large row row rows
+joined large rows = map line_row (lines large rows)

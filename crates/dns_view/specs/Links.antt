@@ -3,7 +3,7 @@ use Rattle.std.specs.Prelude.{◌≡◌, ◌≢◌, ℕ, ◌^◌, ◌<◌, ◌�
 use Rattle.dns_rows.specs.Rows.{row_octets}
 use Rattle.dns_rows.specs.Tiles.{Tiles}
 use Rattle.dns_rows.specs.declared.row.Row.{Row}
-use Rattle.dns_view.specs.Joined.{is_large, joined}
+use Rattle.dns_view.specs.Joined.{is_large, joined, line_rows, lines}
 use Rattle.dns_view.specs.Pages.{cell_id, limits_words, row_id, words_limit, words_text}
 
 -- whether a row has octets in a message
@@ -21,6 +21,10 @@ page_ids message rows = map cell_id (linked_rows message rows) ++ map row_id (li
 -- if rows cover the octets of a message, no two `id`s of their page are equal, so each link leads to one element
 abbrev pub IdsAreUnique : Type 0
 IdsAreUnique = (message : List ℕ) (rows : List Row) → length message < 2 ^ 64 → Tiles rows 0 (length message) → AllPairs (λ one other. one ≢ other) (page_ids message rows)
+
+-- the lines of rows have exactly these rows, in order
+abbrev pub LinesHaveRows : Type 0
+LinesHaveRows = (large : Bool) (rows : List Row) → flat_map line_rows (lines large rows) ≡ rows
 
 -- rows within a message have the same octets if those that share a line are one row
 abbrev pub JoinedRowsKeepOctets : Type 0

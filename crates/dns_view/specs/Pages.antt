@@ -4,7 +4,7 @@ use Rattle.std.specs.List.{concat, enumerate_from, flat_map, AllZip}
 use Rattle.dns_message.specs.Headers.{header_size}
 use Rattle.dns_rows.specs.Rows.{is_item, is_pointer, row_octets, target_in}
 use Rattle.dns_view.specs.Digits.{hexadecimal, octet_text}
-use Rattle.dns_view.specs.Joined.{is_large, joined}
+use Rattle.dns_view.specs.Joined.{is_large, joined, line_row, line_rows, lines, PageLine}
 use Rattle.dns_rows.specs.declared.row.Row.{Row}
 use Rattle.dns_rows.specs.declared.row.Kind.{Kind}
 use Rattle.dns_rows.specs.declared.row.Field.{Field}
@@ -110,17 +110,25 @@ next_link message row offset = codes "</a>" ++ line_start offset ++ codes "<a cl
 abbrev pub cell_start : List ℕ → Row → ℕ → List ℕ
 cell_start message row offset = if offset == row.start then first_link message row else if offset % 256 == 0 then next_link message row offset else line_start offset
 
--- the cell of an octet of a row, given with its offset, and what precedes it
-abbrev pub cell_text : List ℕ → Row → ℕ × ℕ → List ℕ
-cell_text message row (offset, octet) = cell_start message row offset ++ octet_text octet ++ codes " "
+-- what follows an octet of a row, where `next` is the offset after it: a bar if the row ends there and its line, as one row, doesn't; else a space
+abbrev pub cell_end : Row → Row → ℕ → List ℕ
+cell_end line row next = if next == row.end && nat_lt next line.end then codes "|" else codes " "
 
--- the cells of the octets of a row
-abbrev pub octet_cells : List ℕ → Row → List ℕ → List ℕ
-octet_cells message row octets = flat_map (cell_text message row) (enumerate_from row.start octets)
+-- the cell of an octet of a row, given with its offset, and what precedes it; `line` is the row's line as one row
+abbrev pub cell_text : List ℕ → Row → Row → ℕ × ℕ → List ℕ
+cell_text message line row (offset, octet) = cell_start message line offset ++ octet_text octet ++ cell_end line row (offset + 1)
 
--- the cells of a row, in links to the row; nothing if it has no octets
-abbrev pub row_cells : List ℕ → Row → List ℕ
-row_cells message row = if length (row_octets message row) == 0 then [] else octet_cells message row (row_octets message row) ++ codes "</a>"
+-- the cells of the octets of a row on a line
+abbrev pub octet_cells : List ℕ → Row → Row → List ℕ → List ℕ
+octet_cells message line row octets = flat_map (cell_text message line row) (enumerate_from row.start octets)
+
+-- the cells of a row on a line
+abbrev pub row_cells : List ℕ → Row → Row → List ℕ
+row_cells message line row = octet_cells message line row (row_octets message row)
+
+-- the cells of the rows of a line, in links to it; nothing if it has no octets
+abbrev pub line_cells : List ℕ → PageLine → List ℕ
+line_cells message line = if length (row_octets message (line_row line)) == 0 then [] else flat_map (row_cells message (line_row line)) (line_rows line) ++ codes "</a>"
 
 -- octets in digits
 abbrev pub digits : List ℕ → List ℕ
@@ -162,9 +170,9 @@ row_text message row words = if length (row_octets message row) == 0 then headin
 abbrev pub IsListRow : List ℕ → Row → List ℕ → Type 0
 IsListRow message row text = (words : List ℕ) × (text ≡ part_start row ++ row_text message row words)
 
--- the text of a page: a title of some words, the grid with the cells of all rows, and the list of all rows; rows that share a line are one
+-- the text of a page: a title of some words, the grid with the cells of all lines, and the list of the lines, each as one row
 pub record IsPage (message : List ℕ) (rows : List Row) (text : List ℕ) : Type 0 where
   pub title : List ℕ
   pub list : List (List ℕ)
   pub are_rows : AllZip (IsListRow message) (joined (is_large message) rows) list
-  pub is : text ≡ top_text title ++ opening_text rows ++ flat_map (row_cells message) (joined (is_large message) rows) ++ codes "\n</div>\n<div class=list>\n<p>" ++ concat list ++ codes "\n</div>\n</main>\n</body>\n</html>\n"
+  pub is : text ≡ top_text title ++ opening_text rows ++ flat_map (line_cells message) (lines (is_large message) rows) ++ codes "\n</div>\n<div class=list>\n<p>" ++ concat list ++ codes "\n</div>\n</main>\n</body>\n</html>\n"

@@ -3,12 +3,12 @@
 ghost use Rattle.std.specs.Prelude.{◌≡◌, ◌+◌, ◌^◌, ◌<◌, ◌≤◌, length, take, OnOk};
 ghost use Rattle.std.specs.Io.KnownBytes.{Appends};
 ghost use Rattle.std.specs.List.{flat_map};
-ghost use Rattle.dns_view.specs.Joined.{is_large, joined};
-ghost use Rattle.dns_view.specs.Pages.{arrow_text, cell_id, cell_start, cell_text, digits, ellipsis_text, escaped, escaped_octet, escaped_within, field_letter, field_link_text, field_row_text, first_link, heading_row_text, letter_of, line_start, link_text, mark_text, next_link, octet_cells, opening_text, part_start, pointer_count, row_cells, row_text, top_text, words_text, IsListRow, IsPage};
+ghost use Rattle.dns_view.specs.Joined.{line_of, line_row};
+ghost use Rattle.dns_view.specs.Pages.{arrow_text, cell_end, cell_id, cell_start, cell_text, digits, ellipsis_text, escaped, escaped_octet, escaped_within, field_letter, field_link_text, field_row_text, first_link, heading_row_text, letter_of, line_start, line_cells, link_text, mark_text, next_link, opening_text, part_start, pointer_count, row_cells, row_text, top_text, words_text, IsListRow, IsPage};
 ghost use Rattle.dns_view.specs.Printed.{Prints, PrintsEach};
 
 use crate::brief::{front_within, limits_words, words_limit};
-use crate::joined::{OCTETS, is_large, joined};
+use crate::joined::{Line, OCTETS, is_large, lines};
 use crate::summary::Summary;
 use crate::text::print_octet;
 use crate::words::words_of;
@@ -102,9 +102,10 @@ const LEGEND: &str = "</h1>
 /// Prints rows of a message as one page of HTML, which needs no network and no script.
 ///
 /// Consecutive labels, or character strings, of at most one octet share a link of the grid and a
-/// line of the list, if they begin on one line of the grid. If the message has more than 16,384
-/// octets, most fields of an item share them, and words that are long for their octets are cut off:
-/// so the page of a message of 64 KiB has at most forty times its octets.
+/// line of the list, if they begin on one line of the grid. In the grid a bar is between them. If
+/// the message has more than 16,384 octets, most fields of an item share them, and words that are
+/// long for their octets are cut off: so the page of a message of 64 KiB has at most forty times its
+/// octets.
 ///
 /// Returns an error if `writer` or an allocation fails.
 pub fn print_page<W: Write>(
@@ -118,13 +119,13 @@ pub fn print_page<W: Write>(
 {
     let summary = Summary { message, rows };
     let words = format!(in alloc; "{summary}")?;
-    let joined = joined(alloc, is_large(message), rows)?;
-    let lines = joined.as_slice();
+    let lines = lines(alloc, is_large(message), rows)?;
+    let lines = lines.as_slice();
     print_top(writer, words.as_bytes())?;
     print_opening(writer, rows)?;
     print_cells(writer, message, lines)?;
     writer.write_all(b"\n</div>\n<div class=list>\n<p>")?;
-    print_list(alloc, writer, message, lines, rows)?;
+    print_list(alloc, writer, message, lines)?;
     writer.write_all(b"\n</div>\n</main>\n</body>\n</html>\n")
 }
 
@@ -267,62 +268,91 @@ fn print_escaped_octet<W: Write>(writer: &mut W, octet: u8) -> io::Result<()>
     }
 }
 
-/// Prints the cells of rows.
-fn print_cells<W: Write>(writer: &mut W, message: &[u8], rows: &[Row]) -> io::Result<()>
+/// Prints the cells of lines.
+fn print_cells<W: Write>(writer: &mut W, message: &[u8], lines: &[Line<'_>]) -> io::Result<()>
     ensures { OnOk result (Appends (W.contents writer.old) (W.contents writer.new)
-        (flat_map (row_cells message.now) rows.now)) }
+        (flat_map (λ line. line_cells message.now (line_of line)) lines.now)) }
 {
-    for row in rows {
-        print_row_cells(writer, message, row)?;
+    for line in lines {
+        print_line_cells(writer, message, line)?;
     }
     Ok(())
 }
 
-/// Prints the cells of a row's octets, as a link to the row. Prints nothing for a row without
-/// octets.
-fn print_row_cells<W: Write>(writer: &mut W, message: &[u8], row: &Row) -> io::Result<()>
+/// Prints the cells of a line, as a link to the line. Prints nothing for a line without octets.
+fn print_line_cells<W: Write>(writer: &mut W, message: &[u8], line: &Line<'_>) -> io::Result<()>
     ensures { OnOk result (Appends (W.contents writer.old) (W.contents writer.new)
-        (row_cells message.now row.now)) }
+        (line_cells message.now (line_of line.now))) }
 {
-    let octets = octets_of(message, row);
-    if octets.is_empty() {
+    let row = line.row();
+    if octets_of(message, &row).is_empty() {
         return Ok(());
     }
-    print_octet_cells(writer, message, row, octets)?;
+    print_row_cells(writer, message, &row, &line.first)?;
+    print_rows_cells(writer, message, &row, line.others)?;
     writer.write_all(b"</a>")
 }
 
-/// Prints the cells of the octets of a row, and the starts of its links.
-fn print_octet_cells<W: Write>(
+/// Prints the cells of rows on a line, which is given as one row.
+fn print_rows_cells<W: Write>(
     writer: &mut W,
     message: &[u8],
-    row: &Row,
-    octets: &[u8],
+    line: &Row,
+    rows: &[Row],
 ) -> io::Result<()>
-    requires { row.now.start + length octets.now < 2 ^ 64 }
     ensures { OnOk result (Appends (W.contents writer.old) (W.contents writer.new)
-        (octet_cells message.now row.now octets.now)) }
+        (flat_map (row_cells message.now line.now) rows.now)) }
 {
-    for (index, octet) in octets.iter().enumerate() {
-        print_cell(writer, message, row, row.start + index, *octet)?;
+    for row in rows {
+        print_row_cells(writer, message, line, row)?;
     }
     Ok(())
 }
 
-/// Prints the cell of an octet of a row, and what precedes it.
+/// Prints the cells of a row on a line, which is given as one row, and the starts of the line's
+/// links.
+fn print_row_cells<W: Write>(
+    writer: &mut W,
+    message: &[u8],
+    line: &Row,
+    row: &Row,
+) -> io::Result<()>
+    ensures { OnOk result (Appends (W.contents writer.old) (W.contents writer.new)
+        (row_cells message.now line.now row.now)) }
+{
+    let octets = octets_of(message, row);
+    for (index, octet) in octets.iter().enumerate() {
+        print_cell(writer, message, line, row, row.start + index, *octet)?;
+    }
+    Ok(())
+}
+
+/// Prints the cell of an octet of a row on a line, and what precedes it.
 fn print_cell<W: Write>(
     writer: &mut W,
     message: &[u8],
+    line: &Row,
     row: &Row,
     offset: usize,
     octet: u8,
 ) -> io::Result<()>
+    requires { offset + 1 < 2 ^ 64 }
     ensures { OnOk result (Appends (W.contents writer.old) (W.contents writer.new)
-        (cell_text message.now row.now (offset, octet))) }
+        (cell_text message.now line.now row.now (offset, octet))) }
 {
-    print_cell_start(writer, message, row, offset)?;
+    print_cell_start(writer, message, line, offset)?;
     print_octet(writer, octet)?;
-    writer.write_all(b" ")
+    print_cell_end(writer, line, row, offset + 1)
+}
+
+/// Prints what follows an octet of a row, where `next` is the offset after it: a bar if the row ends
+/// there and its line doesn't.
+fn print_cell_end<W: Write>(writer: &mut W, line: &Row, row: &Row, next: usize) -> io::Result<()>
+    ensures { OnOk result (Appends (W.contents writer.old) (W.contents writer.new)
+        (cell_end line.now row.now next)) }
+{
+    let is_edge = next == row.end && next < line.end;
+    writer.write_all(if is_edge { b"|" } else { b" " })
 }
 
 /// Prints what precedes an octet of a row. The row's link begins before its first octet, and anew
@@ -399,48 +429,36 @@ fn print_line_start<W: Write>(writer: &mut W, offset: usize) -> io::Result<()>
     Ok(())
 }
 
-/// Prints the rows of the list, into which `rows` are joined.
+/// Prints the lines of the list.
 fn print_list<W: Write>(
     alloc: Global,
     writer: &mut W,
     message: &[u8],
-    lines: &[Row],
-    rows: &[Row],
+    lines: &[Line<'_>],
 ) -> io::Result<()>
-    ensures { OnOk result (PrintsEach (IsListRow message.now) lines.now
-        (W.contents writer.old) (W.contents writer.new)) }
+    ensures { OnOk result (PrintsEach (λ line. IsListRow message.now (line_row (line_of line)))
+        lines.now (W.contents writer.old) (W.contents writer.new)) }
 {
-    let mut left = rows;
     for line in lines {
-        let (rows, after) = left.split_at(rows_in(left, line));
-        print_list_row(alloc, writer, message, line, rows)?;
-        left = after;
+        print_list_row(alloc, writer, message, line)?;
     }
     Ok(())
 }
 
-/// How many of the first rows are joined into a row of the list.
-fn rows_in(rows: &[Row], line: &Row) -> usize
-    ensures { result ≤ length rows.now }
-{
-    let count = rows.iter().take_while(|row| row.start < line.end).count();
-    count.max(1).min(rows.len())
-}
-
-/// Prints a row of the list, into which `rows` are joined, and what precedes it.
+/// Prints a line of the list, as one row, and what precedes it.
 fn print_list_row<W: Write>(
     alloc: Global,
     writer: &mut W,
     message: &[u8],
-    row: &Row,
-    rows: &[Row],
+    line: &Line<'_>,
 ) -> io::Result<()>
-    ensures { OnOk result (Prints (IsListRow message.now row.now)
+    ensures { OnOk result (Prints (IsListRow message.now (line_row (line_of line.now)))
         (W.contents writer.old) (W.contents writer.new)) }
 {
-    let words = words_of(alloc, message, row, rows)?;
-    print_part_start(writer, row)?;
-    print_row(writer, message, row, words.as_slice())
+    let row = line.row();
+    let words = words_of(alloc, message, line)?;
+    print_part_start(writer, &row)?;
+    print_row(writer, message, &row, words.as_slice())
 }
 
 /// Prints the start of a part of the list, if a row is the first in one.

@@ -1,6 +1,6 @@
 //! Rows of a page that share a line of the list, and a link of the grid.
-ghost use Rattle.std.specs.Prelude.{◌≡◌, IfOk};
-ghost use Rattle.dns_view.specs.Joined.{are_alike, are_consecutive, begin_on_one_line, begins_line, field_begins_line, is_large, is_tiny, joined, shares_line, shares_long_line, shares_tiny_line};
+ghost use Rattle.std.specs.Prelude.{◌≡◌, ◌≤◌, ◌∷◌, drop, length, map, take, IfOk};
+ghost use Rattle.dns_view.specs.Joined.{are_alike, are_consecutive, begin_on_one_line, begins_line, field_begins_line, is_large, is_tiny, last_end, line_of, line_row, lines, shares_line, shares_long_line, shares_tiny_line};
 
 use dns_rows::{Field, Kind, Row};
 use std::alloc::{AllocError, Global};
@@ -21,33 +21,69 @@ pub(crate) fn is_large(message: &[u8]) -> bool
     message.len() > LARGE
 }
 
-/// The rows of a page: those that share a line are one row, of the first one's kind.
-pub(crate) fn joined(alloc: Global, is_large: bool, rows: &[Row]) -> Result<Vec<Row>, AllocError>
-    ensures { IfOk result (λ lines. lines.items ≡ joined is_large rows.now) }
+/// The rows that share a line of a page: the first, and the others in order.
+#[derive(Clone, Copy)]
+pub(crate) struct Line<'a> {
+    pub(crate) first: Row,
+    pub(crate) others: &'a [Row],
+}
+
+impl Line<'_> {
+    /// The line as one row, of the first one's kind.
+    pub(crate) fn row(&self) -> Row
+        ensures { result ≡ line_row (line_of self.now) }
+    {
+        let end = last_end(&self.first, self.others);
+        Row { end, ..self.first }
+    }
+}
+
+/// Where the last of a row and the rows after it ends.
+fn last_end(first: &Row, others: &[Row]) -> usize
+    ensures { result ≡ last_end first.now others.now }
+{
+    match others.last() {
+        Some(last) => last.end,
+        None => first.end,
+    }
+}
+
+/// The lines of rows.
+pub(crate) fn lines<'a>(
+    alloc: Global,
+    is_large: bool,
+    rows: &'a [Row],
+) -> Result<Vec<Line<'a>>, AllocError>
+    ensures { IfOk result (λ list. map line_of list.items ≡ lines is_large rows.now) }
 {
     let mut lines = Vec::new(alloc);
-    let Some((head, others)) = rows.split_first() else {
-        return Ok(lines);
-    };
-    let mut first = *head;
-    let mut last = *head;
-    for row in others {
-        if !shares_line(is_large, &last, row) {
-            lines.push(line_of(first, last))?;
-            first = *row;
-        }
-        last = *row;
+    let mut left = rows;
+    'lines: while let Some((first, others)) = left.split_first() {
+        let (sharing, after) = others.split_at(count_sharing(is_large, first, others));
+        lines.push(Line {
+            first: *first,
+            others: sharing,
+        })?;
+        left = after;
     }
-    lines.push(line_of(first, last))?;
     Ok(lines)
 }
 
-/// The row of a line, from the row `first` to the row `last`.
-fn line_of(first: Row, last: Row) -> Row
-    ensures { result ≡ record first { end = last.end } }
+/// How many of `others` share the line of the row `first`, which precedes them.
+fn count_sharing(is_large: bool, first: &Row, others: &[Row]) -> usize
+    ensures within { result ≤ length others.now }
+    ensures line { lines is_large (first.now ∷ others.now)
+        ≡ record { first = first.now; others = take result others.now }
+        ∷ lines is_large (drop result others.now) }
 {
-    let end = last.end;
-    Row { end, ..first }
+    let mut last = *first;
+    for (index, row) in others.iter().enumerate() {
+        if !shares_line(is_large, &last, row) {
+            return index;
+        }
+        last = *row;
+    }
+    others.len()
 }
 
 /// Whether a row shares the line of the row before it.

@@ -1,5 +1,5 @@
 //! Theorems on pages. The functions do nothing: the contract of each is a theorem.
-ghost use Rattle.dns_view.specs.Links.{IdsAreUnique, JoinedRowsKeepOctets, JoinedRowsTile, WordsAreBounded};
+ghost use Rattle.dns_view.specs.Links.{IdsAreUnique, JoinedRowsKeepOctets, JoinedRowsTile, LinesHaveRows, WordsAreBounded};
 
 /// The `id`s of a page of consecutive rows are all different: a row's cells and its line in the
 /// list each have their own. So each link leads to one element.
@@ -7,9 +7,10 @@ pub fn page_ids_are_unique()
     ensures { IdsAreUnique }
 {}
 
-/// The rows of a page show the same octets if those that share a line are one row. Consecutive rows
-/// stay consecutive.
+/// The lines of a page have all of its rows, in order. The rows show the same octets if those that
+/// share a line are one row. Consecutive rows stay consecutive.
 pub fn joined_rows_are_all()
+    ensures rows { LinesHaveRows }
     ensures octets { JoinedRowsKeepOctets }
     ensures tiles { JoinedRowsTile }
 {}

@@ -5,9 +5,9 @@
 //! also has a cell for each octet at its offset, and an arrow from each pointer to its target;
 //! consecutive labels or character strings of at most one octet are one row there, and on the page
 //! of a message of more than 16,384 octets most fields of an item are, so that the page stays small.
-//! A row's cells and its line in the list link to each other, and `laws` says that their `id`s are
-//! unique. The program prints all rows of the message in its input. The words for what a row means
-//! are only tested.
+//! Between the cells of such fields is a bar. A row's cells and its line in the list link to each
+//! other, and `laws` says that their `id`s are unique. The program prints all rows of the message in
+//! its input. The words for what a row means are only tested.
 #![tactic(auto)]
 
 mod brief;

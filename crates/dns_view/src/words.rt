@@ -1,6 +1,6 @@
 //! The words for a row of a page's list.
 use crate::brief::{ELLIPSIS_LEN, escaped_size, front_within, limits_words, words_limit};
-use crate::joined::are_alike;
+use crate::joined::{Line, are_alike};
 use crate::meaning::Meaning;
 use dns_rows::{Row, octets_of};
 use std::alloc::{AllocError, Global};
@@ -8,33 +8,28 @@ use std::alloc::{AllocError, Global};
 /// The octets that the words for the first row of a line may always take.
 const SHORTEST: u128 = 40;
 
-/// The words for a row of a page's list, into which `rows` are joined.
+/// The words for a line of a page's list.
 pub(crate) fn words_of(
     alloc: Global,
     message: &[u8],
-    line: &Row,
-    rows: &[Row],
+    line: &Line<'_>,
 ) -> Result<Vec<u8>, AllocError> {
-    if limits_words(message, line) {
-        return line_words(alloc, message, line, rows);
+    let row = line.row();
+    if limits_words(message, &row) {
+        return line_words(alloc, message, line);
     }
-    meaning_of(alloc, message, line)
+    meaning_of(alloc, message, &row)
 }
 
 /// The words for the rows of a line, after each other. The first is often a name: if all have more
 /// octets than the line may have, it is cut off.
-fn line_words(
-    alloc: Global,
-    message: &[u8],
-    line: &Row,
-    rows: &[Row],
-) -> Result<Vec<u8>, AllocError> {
-    let runs = runs(alloc, rows)?;
+fn line_words(alloc: Global, message: &[u8], line: &Line<'_>) -> Result<Vec<u8>, AllocError> {
+    let runs = runs(alloc, line)?;
     let Some((first, others)) = runs.split_first() else {
         return Ok(Vec::new(alloc));
     };
     let after = words_after(alloc, message, others)?;
-    let limit = words_limit(octets_of(message, line)).saturating_sub(escaped_size(&after));
+    let limit = words_limit(octets_of(message, &line.row())).saturating_sub(escaped_size(&after));
     let mut words = brief(
         alloc,
         &meaning_of(alloc, message, first)?,
@@ -54,14 +49,11 @@ fn words_after(alloc: Global, message: &[u8], rows: &[Row]) -> Result<Vec<u8>, A
     Ok(words)
 }
 
-/// Rows, where consecutive labels, or character strings, are one row.
-fn runs(alloc: Global, rows: &[Row]) -> Result<Vec<Row>, AllocError> {
+/// The rows of a line, where consecutive labels, or character strings, are one row.
+fn runs(alloc: Global, line: &Line<'_>) -> Result<Vec<Row>, AllocError> {
     let mut runs = Vec::new(alloc);
-    let Some((first, others)) = rows.split_first() else {
-        return Ok(runs);
-    };
-    let mut run = *first;
-    for row in others {
+    let mut run = line.first;
+    for row in line.others {
         if are_alike(run.kind, row.kind) {
             run.end = row.end;
         } else {

@@ -101,6 +101,31 @@ fn joins_records(rt: HostRuntime) -> Result<(), Fail> {
     assert_small(&rt, rt.alloc(), &RECORDS)
 }
 
+/// Records for the root, whose fields share a link of the grid: a header with 65,535 answers, and
+/// an answer.
+const ANSWERS: &[u8] = b"\0\x01\x84\0\0\0\xff\xff\0\0\0\0";
+
+const ADDRESS: &[u8] = b"\0\0\x01\0\x01\0\0\0\x3c\0\x04\xc0\0\x02\x01";
+
+/// The cells of some of these records: a bar is between two fields, also where a line or a part of
+/// the grid ends.
+const CELLS: &[&str] = &[
+    "</a><a id=nc href=#12>00|00 01|00 \n<s>16</s>01|00 00 00 3c|00 04|c0 00 02 01 </a><a id=n1b ",
+    "</a><a id=n1b href=#27>00|00 01|00 01|\n<s>32</s>00 00 00 3c|00 04|c0 00 02 01 </a><a ",
+    "</a><a id=n1fb href=#507>00|00 01|00 01|</a>\n<p><s>512</s><a class=n href=#507>\
+00 00 00 3c|00 04|c0 00 02 01 </a>",
+];
+
+#[test]
+fn parts_fields_in_the_grid(rt: HostRuntime) -> Result<(), Fail> {
+    let octets = repeated(rt.alloc(), ANSWERS, ADDRESS)?;
+    let page = small_page(&rt, rt.alloc(), "addresses", &octets)?;
+    for cells in CELLS {
+        assert_holds(&rt, cells, page.contains(*cells));
+    }
+    Ok(())
+}
+
 /// An NSEC record for the root up to its types, which have 8,704 octets.
 const NSEC: &[u8] = b"\0\0\x2f\0\x01\0\0\0\x3c\x22\x01\0";
 

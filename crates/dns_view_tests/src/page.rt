@@ -171,12 +171,12 @@ fn begins_parts(rt: HostRuntime) -> Result<(), Fail> {
 const TINY: &[u8] = b"\0\x01\x84\0\0\x01\0\x01\0\0\0\0\x011\x012\x013\0\0\x10\0\x01\
 \xc0\x0c\0\x10\0\x01\0\0\0\x3c\0\x08\0\x01a\x02bc\0\0";
 
-/// Labels and character strings of at most one octet share a link of the grid, if they begin on one
-/// line of it, and a line of the list.
+/// Labels and character strings of at most one octet share a link of the grid, with a bar between
+/// them, if they begin on one line of it, and a line of the list.
 const JOINED: &[&str] = &[
-    "<a id=nc href=#12>01 31 01 32 </a>\n<s>16</s><a id=n10 href=#16>01 33 </a><a id=n12 ",
-    "<a id=d23 href=#35>00 01 61 </a><a id=d26 href=#38>02 62 63 </a>\
-<a id=d29 href=#41>00 00 </a>\n</div>",
+    "<a id=nc href=#12>01 31|01 32 </a>\n<s>16</s><a id=n10 href=#16>01 33 </a><a id=n12 ",
+    "<a id=d23 href=#35>00|01 61 </a><a id=d26 href=#38>02 62 63 </a>\
+<a id=d29 href=#41>00|00 </a>\n</div>",
     "<a id=12 href=#nc>01310132\tname, labels: \"1\" \"2\"</a>\
 <a id=16 href=#n10>0133\tname, label of 1 octet: \"3\"</a>",
     "<a id=35 href=#d23>000161\ttexts: \"\" \"a\"</a>\

@@ -1,5 +1,6 @@
 use Rattle.dns_view.proofs.JoinedOctets.{joined_octets}
 use Rattle.dns_view.proofs.PageIds.{joined_tiles}
+use Rattle.dns_view.proofs.PageLines.{lines_have_rows}
 use Rattle.dns_view.proofs.laws.joined_rows_are_all.Goals as goal
 
 pub returns-clause-octets : goal.returns-clause-octets
@@ -7,3 +8,6 @@ returns-clause-octets c = joined_octets
 
 pub returns-clause-tiles : goal.returns-clause-tiles
 returns-clause-tiles c = joined_tiles
+
+pub returns-clause-rows : goal.returns-clause-rows
+returns-clause-rows c = lines_have_rows
