@@ -138,9 +138,13 @@ digits octets = flat_map octet_text octets
 abbrev pub heading_row_text : Row → List ℕ → List ℕ
 heading_row_text row words = (if is_item row.kind then codes "<b>" else codes "<b class=f>") ++ escaped words ++ codes "</b>"
 
+-- the attribute of a row of the list, which draws the same arrow as its cells: none on the page of a large message
+abbrev pub row_mark_text : List ℕ → Row → List ℕ
+row_mark_text message row = if is_large message then [] else mark_text message row
+
 -- the start of a row's link to its cells, with its own `id`
-abbrev pub field_link_text : Row → List ℕ
-field_link_text row = codes "<a id=" ++ row_id row ++ codes " href=#" ++ cell_id row ++ codes ">"
+abbrev pub field_link_text : List ℕ → Row → List ℕ
+field_link_text message row = codes "<a id=" ++ row_id row ++ codes " href=#" ++ cell_id row ++ row_mark_text message row ++ codes ">"
 
 -- whether the words for a row are cut off if they are long: after the header section of a large message
 abbrev pub limits_words : List ℕ → Row → Bool
@@ -156,7 +160,7 @@ words_text message row words = if limits_words message row then escaped_within (
 
 -- any other row of the list: the link, with its octets and words
 abbrev pub field_row_text : List ℕ → Row → List ℕ → List ℕ
-field_row_text message row words = field_link_text row ++ digits (row_octets message row) ++ codes "\t" ++ words_text message row words ++ codes "</a>"
+field_row_text message row words = field_link_text message row ++ digits (row_octets message row) ++ codes "\t" ++ words_text message row words ++ codes "</a>"
 
 -- what precedes a row of the list: the start of a part, if a multiple of 64 is past the row's start and up to its end; else nothing
 abbrev pub part_start : Row → List ℕ

@@ -4,7 +4,7 @@ ghost use Rattle.std.specs.Prelude.{◌≡◌, ◌+◌, ◌^◌, ◌<◌, ◌≤
 ghost use Rattle.std.specs.Io.KnownBytes.{Appends};
 ghost use Rattle.std.specs.List.{flat_map};
 ghost use Rattle.dns_view.specs.Joined.{line_of, line_row};
-ghost use Rattle.dns_view.specs.Pages.{arrow_text, cell_end, cell_id, cell_start, cell_text, digits, ellipsis_text, escaped, escaped_octet, escaped_within, field_letter, field_link_text, field_row_text, first_link, heading_row_text, letter_of, line_start, line_cells, link_text, mark_text, next_link, opening_text, part_start, pointer_count, row_cells, row_text, top_text, words_text, IsListRow, IsPage};
+ghost use Rattle.dns_view.specs.Pages.{arrow_text, cell_end, cell_id, cell_start, cell_text, digits, ellipsis_text, escaped, escaped_octet, escaped_within, field_letter, field_link_text, field_row_text, first_link, heading_row_text, letter_of, line_start, line_cells, link_text, mark_text, next_link, opening_text, part_start, pointer_count, row_cells, row_mark_text, row_text, top_text, words_text, IsListRow, IsPage};
 ghost use Rattle.dns_view.specs.Printed.{Prints, PrintsEach};
 
 use crate::brief::{front_within, limits_words, words_limit};
@@ -55,7 +55,7 @@ h1 { font-size: 1.1em; overflow-wrap: anywhere; }
 main { position: relative; display: flex; flex-wrap: wrap; gap: 1em 2ch; align-items: flex-start;
 font: 14px/24px monospace; }
 main p { margin: 0; content-visibility: auto; }
-main p:hover, main p:focus-within, main p:has(:target), .few p:has([style]) {
+main p:hover, main p:focus-within, main p:has(:target), .few .grid p:has([style]) {
 content-visibility: visible; }
 .grid { width: 56ch; }
 .grid p { contain-intrinsic-height: 384px; white-space: pre; }
@@ -81,7 +81,7 @@ a:hover, a:focus, a:target { outline: 2px solid var(--text); outline-offset: -2p
 a[style] { --f: max(var(--p)); --t: min(var(--p));
 --x: calc((mod(var(--t), 16) - mod(var(--f), 16)) * 3ch);
 --y: calc((round(down, var(--t) / 16, 1) - round(down, var(--f) / 16, 1)) * 24px + 15px); }
-.few a[style]::after, a[style]:hover::after, a[style]:focus::after, a[style]:target::after {
+.few .grid a[style]::after, a[style]:hover::after, a[style]:focus::after, a[style]:target::after {
 content: ''; position: absolute; left: calc(mod(var(--f), 16) * 3ch + 9ch);
 top: calc(round(down, var(--f) / 16, 1) * 24px - 1px); width: hypot(var(--x), var(--y));
 height: 10px; background: var(--arrow); transform-origin: 0 50%; rotate: atan2(var(--y), var(--x));
@@ -509,7 +509,7 @@ fn print_field_row<W: Write>(
     ensures { OnOk result (Appends (W.contents writer.old) (W.contents writer.new)
         (field_row_text message.now row.now words.now)) }
 {
-    print_field_link(writer, row)?;
+    print_field_link(writer, message, row)?;
     print_digits(writer, octets_of(message, row))?;
     writer.write_all(b"\t")?;
     print_words(writer, message, row, words)?;
@@ -528,14 +528,27 @@ fn print_words<W: Write>(writer: &mut W, message: &[u8], row: &Row, words: &[u8]
 }
 
 /// Prints the start of a row's link to its cells.
-fn print_field_link<W: Write>(writer: &mut W, row: &Row) -> io::Result<()>
+fn print_field_link<W: Write>(writer: &mut W, message: &[u8], row: &Row) -> io::Result<()>
     ensures { OnOk result (Appends (W.contents writer.old) (W.contents writer.new)
-        (field_link_text row.now)) }
+        (field_link_text message.now row.now)) }
 {
     let start = row.start;
     write!(writer, "<a id={start} href=#")?;
     print_cell_id(writer, row)?;
+    print_row_mark(writer, message, row)?;
     writer.write_all(b">")
+}
+
+/// Prints the attribute of a row of the list, which draws the same arrow as its cells. The page of
+/// a large message has none, as it has to stay small.
+fn print_row_mark<W: Write>(writer: &mut W, message: &[u8], row: &Row) -> io::Result<()>
+    ensures { OnOk result (Appends (W.contents writer.old) (W.contents writer.new)
+        (row_mark_text message.now row.now)) }
+{
+    if is_large(message) {
+        return Ok(());
+    }
+    print_mark(writer, message, row)
 }
 
 /// Prints octets in hexadecimal digits.

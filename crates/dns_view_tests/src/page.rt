@@ -98,7 +98,7 @@ const ROWS: &[&str] = &[
     "</a><b>question 1</b><a id=12 href=#nc>05613c623e26\t",
     "\tname, label of 5 octets: \"a&lt;b&gt;&amp;\"</a><a id=18 ",
     "</a><a id=21 href=#k15>0001\ttype A</a><a id=23 ",
-    "</b><a id=25 href=#p19>c00c\towner, pointer to 12: a&lt;b&gt;&amp;.c.</a>",
+    "</b><a id=25 href=#p19 style=--p:25,12>c00c\towner, pointer to 12: a&lt;b&gt;&amp;.c.</a>",
     "</a><a id=53 href=#d35>c0000201\taddress 192.0.2.1</a><a id=57 ",
     "</a><a id=57 href=#f39>ff\tunread, 1 octet</a>\n</div>\n</main>\n</body>\n</html>\n",
 ];
@@ -139,7 +139,7 @@ fn draws_all_arrows_below_twenty(rt: HostRuntime) -> Result<(), Fail> {
     assert_count(&rt, "19 pointers", &few, "<main class=few>", 1);
     let many = page_of_pointers(rt.alloc(), 20)?;
     assert_count(&rt, "20 pointers", &many, "<main>", 1);
-    assert_count(&rt, "20 pointers", &many, ",12>", 20);
+    assert_count(&rt, "20 pointers, in grid and list", &many, ",12>", 40);
     Ok(())
 }
 
@@ -148,7 +148,7 @@ const PARTS: &[&str] = &[
     "<a id=kff href=#255>00 </a>\n<p><s>256</s><a class=k href=#255>01 </a><a id=p101 ",
     "</a>\n<p><a id=63 href=#k3f>0001\tclass IN</a><b>question 10</b><a id=65 ",
     "</a>\n<p><a id=127 href=#k7f>0001\ttype A</a><a id=129 ",
-    "</b>\n<p><a id=191 href=#pbf>c00c\t",
+    "</b>\n<p><a id=191 href=#pbf style=--p:191,12>c00c\t",
 ];
 
 #[test]
