@@ -1,5 +1,5 @@
-//! Service parameters of record data (RFC 9460 section 2.1) from words of presentation format. Their
-//! addresses are read by `dns_fields_read`, numbers, base64 and strings by `dns_value_text`.
+//! Service parameters of record data (RFC 9460 section 2.1) from words of presentation format.
+//! `dns_fields_read` reads their addresses, `dns_value_text` numbers, base64 and strings.
 #![tactic(auto)]
 
 pub mod laws;
