@@ -36,7 +36,7 @@ impl<N: ToName> RecordData for Lp<N> {
 }
 
 impl<N: ToName> ComposeRecordData for Lp<N> {
-    #[tactic(auto, unfolding(dns_wire::specs::Parts::encode_parts))]
+    #[tactic(auto, unfolding(dns_message::specs::Data::encode_parts))]
     fn compose_rdata<T: Composer>(&self, target: &mut T) -> Result<(), AppendError> {
         names_are_bounded();
         let fqdn = self.fqdn.as_parsed().uncompressed();
@@ -44,7 +44,7 @@ impl<N: ToName> ComposeRecordData for Lp<N> {
     }
 
     /// The name keeps its letter case, so its canonical form is what is written.
-    #[tactic(auto, unfolding(dns_wire::specs::Parts::encode_parts))]
+    #[tactic(auto, unfolding(dns_message::specs::Data::encode_parts))]
     fn compose_canonical_rdata<T: Composer>(&self, target: &mut T) -> Result<(), AppendError> {
         self.compose_rdata(target)
     }

@@ -74,7 +74,7 @@ impl<N: ToName> RecordData for Naptr<'_, N> {
 }
 
 impl<N: ToName> ComposeRecordData for Naptr<'_, N> {
-    #[tactic(auto, unfolding(dns_wire::specs::Parts::encode_parts))]
+    #[tactic(auto, unfolding(dns_message::specs::Data::encode_parts))]
     fn compose_rdata<T: Composer>(&self, target: &mut T) -> Result<(), AppendError> {
         names_are_bounded();
         let replacement = self.replacement.as_parsed().uncompressed();
