@@ -31,7 +31,7 @@ pub(crate) fn limits_words(message: &[u8], row: &Row) -> bool
 /// How many octets the words for some octets may take.
 ///
 /// Questions for pointers after one or two labels of one octet need most octets of a page for
-/// theirs: with these limits 39.6 for each.
+/// theirs: with these limits 39.7 for each.
 pub(crate) fn words_limit(octets: &[u8]) -> u128
     ensures { result ≡ words_limit octets.now }
 {

@@ -36,7 +36,8 @@ const HEAD: &str = "<!DOCTYPE html>
 
 /// The text between the title and the first line, which is the title again. The grid has 8 columns
 /// before the octets of a line, and 3 for each octet. The `id` of a cell begins with the letter of
-/// its colour. `--p` has the offset of a pointer, `--f`, and the lower offset where it leads, `--t`.
+/// its colour. `--p` has the offset of a pointer, `--f`, and the lower offset where it leads, `--t`:
+/// of its cell, and of its row in the list if that draws the arrow too.
 /// A part that may draw an arrow is always laid out: any other cuts off what leaves its box.
 const STYLE: &str = "</title>
 <style>
@@ -104,8 +105,8 @@ const LEGEND: &str = "</h1>
 /// Consecutive labels, or character strings, of at most one octet share a link of the grid and a
 /// line of the list, if they begin on one line of the grid. In the grid a bar is between them. If
 /// the message has more than 16,384 octets, most fields of an item share them, and words that are
-/// long for their octets are cut off: so the page of a message of 64 KiB has at most forty times its
-/// octets.
+/// long for their octets are cut off: by a reckoning, which isn't proved, the page of a message of
+/// 64 KiB has at most forty times its octets.
 ///
 /// Returns an error if `writer` or an allocation fails.
 pub fn print_page<W: Write>(
