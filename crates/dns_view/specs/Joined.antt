@@ -65,7 +65,7 @@ pub record PageLine : Type 0 where
 abbrev pub line_of : Line → PageLine
 line_of line = record { first = line.first; others = line.others.now }
 
--- All rows of a line, in order. Each but the last has octets, and the next begins where it ends (`are_consecutive`).
+-- All rows of a line, in order. In `lines` each but the last has octets, and the next begins where it ends (`are_consecutive`).
 abbrev pub line_rows : PageLine → List Row
 line_rows line = line.first ∷ line.others
 

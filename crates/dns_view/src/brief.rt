@@ -30,8 +30,8 @@ pub(crate) fn limits_words(message: &[u8], row: &Row) -> bool
 
 /// How many octets the words for some octets may take.
 ///
-/// Questions for pointers after one or two labels of one octet need most octets of a page for
-/// theirs: with these limits 39.7 for each.
+/// With these limits the page of a message of 64 KiB has at most 39.7 times its octets, by a
+/// reckoning over all items.
 pub(crate) fn words_limit(octets: &[u8]) -> u128
     ensures { result ≡ words_limit octets.now }
 {

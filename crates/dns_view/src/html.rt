@@ -1,5 +1,5 @@
 //! Rows printed as a page of HTML: the octets in a grid, and the rows as a list. A field's cell and
-//! its row lead to each other. The cell of a pointer draws its arrow.
+//! its row lead to each other. The cell of a pointer draws its arrow, and so may its row.
 ghost use Rattle.std.specs.Prelude.{◌≡◌, ◌+◌, ◌^◌, ◌<◌, ◌≤◌, length, take, OnOk};
 ghost use Rattle.std.specs.Io.KnownBytes.{Appends};
 ghost use Rattle.std.specs.List.{flat_map};
@@ -38,7 +38,7 @@ const HEAD: &str = "<!DOCTYPE html>
 /// before the octets of a line, and 3 for each octet. The `id` of a cell begins with the letter of
 /// its colour. `--p` has the offset of a pointer, `--f`, and the lower offset where it leads, `--t`:
 /// of its cell, and of its row in the list if that draws the arrow too.
-/// A part that may draw an arrow is always laid out: any other cuts off what leaves its box.
+/// A part that draws an arrow is laid out whole: any other cuts off what leaves its box.
 const STYLE: &str = "</title>
 <style>
 :root { color-scheme: light dark; --page: #fff; --text: #111; --dim: #5a6570; --arrow: #b3261e;
