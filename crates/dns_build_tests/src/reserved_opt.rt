@@ -1,8 +1,11 @@
 //! OPT records whose octets are reserved before other records are pushed (RFC 6891 section 6.1).
 use crate::asserts::{assert_holds, assert_octets};
 use arrayvec::ArrayVec;
-use dns_build::{AnswerBuilder, Builder, BuilderStage, MessageBuilder, OptBuilder, PushError};
-use dns_code::{OptRcode, OptionCode, Rcode};
+use dns_build::{
+    AdditionalBuilder, AnswerBuilder, Builder, BuilderStage, MessageBuilder, OptBuilder, PushError,
+    ReservedOpt,
+};
+use dns_code::{Header, OptRcode, OptionCode, Rcode};
 use dns_data::A;
 use dns_wire::{Composer, Name};
 use std::alloc::Global;
@@ -106,24 +109,44 @@ fn push_answers<T: Composer>(rt: &impl Abort, row: &str, builder: &mut AnswerBui
     40
 }
 
+/// Pushes the reserved record. Fails unless the message has the length of the row then, and the
+/// builder the limit from before.
+fn assert_pushed<T: Composer>(
+    rt: &impl Abort,
+    row: &Row,
+    mut builder: AdditionalBuilder<T>,
+    reserved: ReservedOpt,
+) {
+    builder.push_reserved(reserved).expect(rt, row.name);
+    assert_holds(rt, row.name, builder.as_slice().len() == row.len);
+    assert_holds(rt, row.name, builder.push_limit() == Some(row.limit));
+    assert_holds(rt, row.name, builder.as_message().opt().is_some());
+}
+
+/// Reserves the record of a row and pushes answers, and then the record.
+fn assert_reserves<T: Composer>(
+    rt: &impl Abort,
+    row: &Row,
+    mut builder: MessageBuilder<T>,
+    opt: OptBuilder,
+) {
+    let reserved = builder.reserve_opt(opt).expect(rt, row.name);
+    assert_holds(rt, row.name, builder.push_limit() == Some(row.lowered));
+    let mut builder = builder.answer();
+    let answers = push_answers(rt, row.name, &mut builder);
+    assert_holds(rt, row.name, answers == row.answers);
+    assert_pushed(rt, row, builder.additional(), reserved);
+}
+
 #[test]
 fn leaves_the_octets_of_the_record(rt: HostRuntime) {
     let alloc = rt.alloc();
     for row in ROWS {
-        let mut builder = limited(&rt, Vec::new(alloc), row.limit);
+        let builder = limited(&rt, Vec::new(alloc), row.limit);
         let opt = gathered(&rt, alloc, &builder, row.option);
         let reserved = row.limit.checked_sub(row.lowered);
         assert_holds(&rt, row.name, reserved == Some(opt.compose_len()));
-        let reserved = builder.reserve_opt(opt).expect(&rt, row.name);
-        assert_holds(&rt, row.name, builder.push_limit() == Some(row.lowered));
-        let mut builder = builder.answer();
-        let answers = push_answers(&rt, row.name, &mut builder);
-        assert_holds(&rt, row.name, answers == row.answers);
-        let mut builder = builder.additional();
-        builder.push_reserved(reserved).expect(&rt, row.name);
-        assert_holds(&rt, row.name, builder.as_slice().len() == row.len);
-        assert_holds(&rt, row.name, builder.push_limit() == Some(row.limit));
-        assert_holds(&rt, row.name, builder.as_message().opt().is_some());
+        assert_reserves(&rt, row, builder, opt);
     }
 }
 
@@ -179,17 +202,21 @@ fn restores_the_limit_on_error(rt: HostRuntime) {
 static WITH_RCODE: [u8; 23] =
     *b"\x00\x00\x81\x03\x00\x00\x00\x00\x00\x00\x00\x01\x00\x00\x29\x04\xd0\x01\x00\x00\x00\x00\x00";
 
+/// The header of a response with the rcode REFUSED and RD.
+fn refusal(mut header: Header) -> Header {
+    header.set_qr(true);
+    header.set_rd(true);
+    header.set_rcode(Rcode::REFUSED);
+    header
+}
+
 #[test]
 fn takes_the_rcode_alone(rt: HostRuntime) {
     let row = "The rcode 19";
     let mut builder = limited(&rt, Vec::new(rt.alloc()), 512);
     let opt = gathered(&rt, rt.alloc(), &builder, None);
     let mut reserved = builder.reserve_opt(opt).expect(&rt, row);
-    let mut header = builder.header();
-    header.set_qr(true);
-    header.set_rd(true);
-    header.set_rcode(Rcode::REFUSED);
-    builder.set_header(header);
+    builder.set_header(refusal(builder.header()));
     reserved.set_rcode(OptRcode::checked_from_int(19).expect(&rt, row));
     let mut builder = builder.additional();
     builder.push_reserved(reserved).expect(&rt, row);

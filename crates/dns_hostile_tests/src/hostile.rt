@@ -14,7 +14,6 @@ use dns_message::tool;
 use dns_read::Message;
 use std::alloc::Global;
 use std::process::Abort;
-use std::test::Fail;
 use std::{slice, str};
 
 /// The hexadecimal digits.
@@ -31,8 +30,8 @@ fn digits_of(octets: &[u8]) -> ArrayVec<u8, 1024> {
 }
 
 /// Fails unless `dnsmsg show` prints the expected number of lines.
-fn assert_shows(rt: &impl Abort, alloc: Global, row: &str, octets: &[u8]) -> Result<(), Fail> {
-    let word = String::from_str(alloc, "show")?;
+fn assert_shows(rt: &impl Abort, alloc: Global, row: &str, octets: &[u8]) {
+    let word = String::from_str(alloc, "show").expect(rt, row);
     let digits = digits_of(octets);
     let mut output = Vec::new(alloc);
     let status = tool(
@@ -41,7 +40,7 @@ fn assert_shows(rt: &impl Abort, alloc: Global, row: &str, octets: &[u8]) -> Res
         digits.as_slice(),
         &mut output,
     );
-    let lines = str::from_utf8(&output)?.lines().count();
+    let lines = str::from_utf8(&output).expect(rt, row).lines().count();
     assert_same(
         rt,
         row,
@@ -49,92 +48,85 @@ fn assert_shows(rt: &impl Abort, alloc: Global, row: &str, octets: &[u8]) -> Res
         (status, lines),
         (0, line_count(octets)),
     );
-    Ok(())
 }
 
 /// Fails unless each result of the library is that of the plain reader.
-fn assert_all(rt: &impl Abort, alloc: Global, row: &str, octets: &[u8]) -> Result<(), Fail> {
-    let message = Message::from_octets(octets)?;
+fn assert_all(rt: &impl Abort, alloc: Global, row: &str, octets: &[u8]) {
+    let message = Message::from_octets(octets).expect(rt, row);
     assert_questions(rt, row, &message);
     assert_sections(rt, row, &message);
     assert_iter(rt, row, &message);
     assert_question_searches(rt, row, &message);
     assert_record_searches(rt, row, &message);
     assert_distinguished(rt, row, &message);
-    assert_copies(rt, alloc, row, &message)?;
-    assert_walks(rt, alloc, row, octets)?;
-    assert_shows(rt, alloc, row, octets)
+    assert_copies(rt, alloc, row, &message);
+    assert_walks(rt, alloc, row, octets);
+    assert_shows(rt, alloc, row, octets);
 }
 
 /// Replaces each octet of a message in turn.
-fn assert_replaced<const N: usize>(
-    rt: &impl Abort,
-    alloc: Global,
-    octets: [u8; N],
-) -> Result<(), Fail> {
+fn assert_replaced<const N: usize>(rt: &impl Abort, alloc: Global, octets: [u8; N]) {
     for offset in 0..N {
         for octet in REPLACEMENTS {
-            let row = format!(in alloc; "octet {offset} replaced with {octet}")?;
+            let row = format!(in alloc; "octet {offset} replaced with {octet}");
             let mut replaced = octets;
             replaced[offset] = octet;
-            assert_all(rt, alloc, &row, &replaced)?;
+            assert_all(rt, alloc, &row.expect(rt, "memory"), &replaced);
         }
     }
-    Ok(())
 }
 
 /// OPT with one option: each octet is replaced in turn.
 #[test]
-fn reads_an_option_with_replaced_octets(rt: HostRuntime) -> Result<(), Fail> {
-    assert_replaced(&rt, rt.alloc(), *OPT)
+fn reads_an_option_with_replaced_octets(rt: HostRuntime) {
+    assert_replaced(&rt, rt.alloc(), *OPT);
 }
 
 /// Name in data: each octet is replaced in turn.
 #[test]
-fn reads_a_name_in_data_with_replaced_octets(rt: HostRuntime) -> Result<(), Fail> {
-    assert_replaced(&rt, rt.alloc(), *NAME_IN_DATA)
+fn reads_a_name_in_data_with_replaced_octets(rt: HostRuntime) {
+    assert_replaced(&rt, rt.alloc(), *NAME_IN_DATA);
 }
 
 /// Cut in the header, Cut in the question, Cut in the answer: the message is cut after each octet.
 /// Without a header section there is no message.
 #[test]
-fn reads_messages_that_are_cut(rt: HostRuntime) -> Result<(), Fail> {
+fn reads_messages_that_are_cut(rt: HostRuntime) {
     for len in 0..=45 {
-        let row = format!(in rt.alloc(); "cut after {len} octets")?;
+        let row = format!(in rt.alloc(); "cut after {len} octets");
+        let row = row.expect(&rt, "memory");
         let octets = &POSITIVE_RESPONSE[..len];
         if len < 12 {
             let is_short = Message::from_octets(octets).is_err();
             assert_same(&rt, &row, "no message", is_short, true);
         } else {
-            assert_all(&rt, rt.alloc(), &row, octets)?;
+            assert_all(&rt, rt.alloc(), &row, octets);
         }
     }
-    Ok(())
 }
 
 /// Longest name, One octet too long: names of at most 255 octets, and of more.
 #[test]
-fn reads_long_questions(rt: HostRuntime) -> Result<(), Fail> {
+fn reads_long_questions(rt: HostRuntime) {
     for last in 59..=63 {
-        let row = format!(in rt.alloc(); "a last label of {last} octets")?;
-        assert_all(&rt, rt.alloc(), &row, &long_question(last))?;
+        let row = format!(in rt.alloc(); "a last label of {last} octets");
+        let row = row.expect(&rt, "memory");
+        assert_all(&rt, rt.alloc(), &row, &long_question(last));
     }
-    Ok(())
 }
 
 #[test]
-fn reads_messages_at_the_bounds(rt: HostRuntime) -> Result<(), Fail> {
+fn reads_messages_at_the_bounds(rt: HostRuntime) {
     for bound in BOUNDS {
-        assert_all(&rt, rt.alloc(), bound.name, bound.octets)?;
+        assert_all(&rt, rt.alloc(), bound.name, bound.octets);
     }
-    Ok(())
 }
 
 #[test]
-fn reads_messages_drawn_at_random(rt: HostRuntime) -> Result<(), Fail> {
+fn reads_messages_drawn_at_random(rt: HostRuntime) {
     for seed in 1..=64 {
-        let row = format!(in rt.alloc(); "random message {seed}")?;
-        assert_all(&rt, rt.alloc(), &row, random_message(seed).as_slice())?;
+        let row = format!(in rt.alloc(); "random message {seed}");
+        let row = row.expect(&rt, "memory");
+        assert_all(&rt, rt.alloc(), &row, random_message(seed).as_slice());
     }
-    Ok(())
 }

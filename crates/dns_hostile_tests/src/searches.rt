@@ -13,7 +13,6 @@ use dns_data::A;
 use dns_read::Message;
 use std::alloc::Global;
 use std::process::Abort;
-use std::test::Fail;
 
 /// Checks the searches for questions and names.
 pub(crate) fn assert_question_searches(rt: &impl Abort, row: &str, message: &Message<&[u8]>) {
@@ -124,16 +123,11 @@ fn assert_copied(rt: &impl Abort, row: &str, source: &[u8], copied: &[u8], secti
 
 /// Checks that all records are copied, or that the first error is returned, before which the
 /// closure got each record.
-pub(crate) fn assert_copies(
-    rt: &impl Abort,
-    alloc: Global,
-    row: &str,
-    message: &Message<&[u8]>,
-) -> Result<(), Fail> {
+pub(crate) fn assert_copies(rt: &impl Abort, alloc: Global, row: &str, message: &Message<&[u8]>) {
     let octets = message.as_slice();
     let mut given = 0_usize;
-    let target = MessageBuilder::new_vec(alloc)?.answer();
-    let copied = copy_records(message, target, |shown| {
+    let builder = MessageBuilder::new_vec(alloc).expect(rt, row);
+    let copied = copy_records(message, builder.answer(), |shown| {
         given = given.wrapping_add(1);
         shown.into_any_record::<Opaque<'_>>().ok()
     });
@@ -154,5 +148,4 @@ pub(crate) fn assert_copies(
         (given, fault),
         readable_records(octets),
     );
-    Ok(())
 }

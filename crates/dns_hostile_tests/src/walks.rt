@@ -9,7 +9,6 @@ use dns_item::{ParsedRecord, Question, RecordHeader, Ttl};
 use dns_wire::{Name, ParseError, ParsedName, Parser};
 use std::alloc::Global;
 use std::process::Abort;
-use std::test::Fail;
 
 /// Checks the name, the question and the record that are read at this offset.
 fn assert_entries(rt: &impl Abort, row: &str, octets: &[u8], parser: Parser<'_>) {
@@ -132,17 +131,11 @@ fn assert_at(rt: &impl Abort, row: &str, octets: &[u8], parser: Parser<'_>) {
 }
 
 /// Reads and skips at each offset up to the end. The offset is part of the row's name then.
-pub(crate) fn assert_walks(
-    rt: &impl Abort,
-    alloc: Global,
-    row: &str,
-    octets: &[u8],
-) -> Result<(), Fail> {
+pub(crate) fn assert_walks(rt: &impl Abort, alloc: Global, row: &str, octets: &[u8]) {
     for offset in 0..=octets.len() {
+        let row = format!(in alloc; "{row}, offset {offset}").expect(rt, row);
         let mut parser = Parser::new(octets);
-        assert!(rt; parser.seek(offset).is_ok(), "{row}, offset {offset}");
-        let row = format!(in alloc; "{row}, offset {offset}")?;
+        parser.seek(offset).expect(rt, &row);
         assert_at(rt, &row, octets, parser);
     }
-    Ok(())
 }

@@ -4,34 +4,43 @@ use dns_item::Ttl;
 use dns_wire::{ParseError, Parser};
 use std::time::Duration;
 
-/// TTL arithmetic: sums, differences, products and quotients, and the cap of a week.
+/// TTL arithmetic: sums and differences, and the cap of a week.
 #[test]
-fn stays_within_32_bits(rt: HostRuntime) {
-    let product = Ttl::from_secs(u32::MAX - 1).saturating_mul(2);
-    assert_same(&rt, "a product past 32 bits", product, Ttl::MAX);
-    let capped = Ttl::from_days(50).cap().as_secs();
-    assert_same(&rt, "capped to a week", capped, 604_800);
-    let bounds = [Ttl::ZERO.as_secs(), Ttl::MAX.as_secs()];
-    assert_same(&rt, "bounds", bounds, [0, u32::MAX]);
+fn adds_and_subtracts_within_32_bits(rt: HostRuntime) {
     let second = Ttl::from_secs(1);
-    assert_same(&rt, "unequal", second == Ttl::MINUTE, false);
-    let sums = (
-        second.checked_add(Ttl::MAX),
-        second.saturating_add(Ttl::MAX),
-    );
-    assert_same(&rt, "sums past 32 bits", sums, (None, Ttl::MAX));
+    let sum = second.checked_add(Ttl::MAX);
+    assert_same(&rt, "a checked sum past 32 bits", sum, None);
+    let sum = second.saturating_add(Ttl::MAX);
+    assert_same(&rt, "a saturating sum past 32 bits", sum, Ttl::MAX);
     let minute = Ttl::from_mins(1);
-    let quotients = [minute.checked_div(2), minute.checked_div(0)];
-    assert_same(
-        &rt,
-        "quotients",
-        quotients,
-        [Some(Ttl::from_secs(30)), None],
-    );
-    let products = [second.checked_mul(60), minute.checked_mul(u32::MAX)];
-    assert_same(&rt, "products", products, [Some(Ttl::from_secs(60)), None]);
     let differences = (second.checked_sub(minute), second.saturating_sub(minute));
     assert_same(&rt, "differences", differences, (None, Ttl::ZERO));
+    let capped = Ttl::from_days(50).cap().as_secs();
+    assert_same(&rt, "capped to a week", capped, 604_800);
+}
+
+/// TTL arithmetic: products and quotients.
+#[test]
+fn multiplies_and_divides_within_32_bits(rt: HostRuntime) {
+    let product = Ttl::from_secs(u32::MAX - 1).saturating_mul(2);
+    assert_same(&rt, "a product past 32 bits", product, Ttl::MAX);
+    let minute = Ttl::from_mins(1);
+    let quotients = [minute.checked_div(2), minute.checked_div(0)];
+    let expected = [Some(Ttl::from_secs(30)), None];
+    assert_same(&rt, "quotients", quotients, expected);
+    let products = [
+        Ttl::from_secs(1).checked_mul(60),
+        minute.checked_mul(u32::MAX),
+    ];
+    assert_same(&rt, "products", products, [Some(Ttl::from_secs(60)), None]);
+}
+
+#[test]
+fn has_constants(rt: HostRuntime) {
+    let bounds = [Ttl::ZERO.as_secs(), Ttl::MAX.as_secs()];
+    assert_same(&rt, "bounds", bounds, [0, u32::MAX]);
+    let is_equal = Ttl::from_secs(1) == Ttl::MINUTE;
+    assert_same(&rt, "unequal", is_equal, false);
 }
 
 #[test]
@@ -71,9 +80,13 @@ fn reports_other_units(rt: HostRuntime) {
     );
     let days = Ttl::from_days(49_710).as_secs();
     assert_same(&rt, "Most days", days, 4_294_944_000);
+    assert_same(&rt, "hours", Ttl::from_hours(2).as_minutes(), 120);
+}
+
+#[test]
+fn converts_durations(rt: HostRuntime) {
     let lossy = Ttl::from_duration_lossy(Duration::from_secs(4_294_967_301));
     assert_same(&rt, "Duration past 32 bits", lossy.as_secs(), 5);
-    assert_same(&rt, "hours", Ttl::from_hours(2).as_minutes(), 120);
     let hour = [Duration::from(Ttl::HOUR), Ttl::HOUR.into_duration()];
     assert_same(&rt, "an hour", hour, [Duration::from_secs(3_600); 2]);
 }
