@@ -1,6 +1,7 @@
 #!/usr/bin/env bash
 # Counts with valgrind the instructions that each row of the bench takes for a message. With the same compiler, C library and
 # valgrind, the counts are the same each time, whatever else the machine does. Builds crates/dns_bench as run.sh does.
+# It needs a C compiler (CC, else cc), python3 and valgrind.
 #
 #     bench/count.sh              prints them
 #     bench/count.sh --write      writes them to bench/instructions

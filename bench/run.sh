@@ -3,6 +3,8 @@
 # messages, of writing names with the four compressors, and of reading two messages. Whole messages are timed by four
 # programs, whose code is shifted by 16 octets each (shift.c); the least time is the one that counts.
 # ROUNDS is the number of rounds, 1 by default. count.sh counts instructions.
+#
+# It needs a C compiler (CC, else cc) and python3.
 set -eu
 here=$(cd "$(dirname "$0")" && pwd)
 crate=$here/../crates/dns_bench
