@@ -1,6 +1,6 @@
 #!/usr/bin/env bash
-# Proves and builds crates/dns_c (library), compares dnsm.h with its exports (header.sh), and compiles and runs the examples
-# in C and C++. These are compiled by gcc and by clang, as far as these are installed, with the address and undefined
+# Builds the static library of crates/dns_c (library), compares dnsm.h with its exports (header.sh), and compiles and runs the
+# examples in C and C++. These are compiled by gcc and by clang, as far as these are installed, with the address and undefined
 # behaviour sanitizers if the compiler has them. Then it installs the library in a new folder (install.sh), and runs an example
 # in C, Python and Rust with that alone. The packages of Debian are gcc, g++, clang, binutils, pkg-config and rustc.
 # Prints 'test c::NAME ... ok' or 'test c::NAME ... FAILED' for each step, and fails if one does.

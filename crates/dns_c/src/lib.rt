@@ -39,11 +39,11 @@ ghost use Rattle.dns_c.specs.Statuses.{status_text};
 ghost use Rattle.dns_c.specs.Steps.{IsOpen, Opens, Spans, GivesNext};
 ghost use Rattle.dns_c.specs.Texts.{HasOtherField, NoRecordAt, RecordAt, data_text};
 
-use build::NewItem;
-use code::Fault;
-use opts::{Opt, OptOption};
+pub use build::NewItem;
+pub use code::Fault;
+pub use opts::{Opt, OptOption};
 use std::alloc::Global;
-use walk::{Cursor, Header, Item};
+pub use walk::{Cursor, Header, Item};
 
 /// Reads the header, and sets the cursor before the first question.
 #[unsafe(no_mangle)]
