@@ -128,7 +128,7 @@ fn tag_error(rt: &impl Abort, alloc: Global, count: usize) -> Option<TextError> 
     error_of(alloc, 257, &["0", letters.as_str(), "ca.example"])
 }
 
-/// So has a tag.
+/// A tag has at most 255 octets.
 #[test]
 fn long_tags(rt: HostRuntime) {
     let longer = tag_error(&rt, rt.alloc(), 256);
