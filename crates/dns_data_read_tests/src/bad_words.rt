@@ -3,7 +3,7 @@ use dns_code::Rtype;
 use dns_data_read::from_text;
 use dns_value_text::TextError;
 use std::alloc::Global;
-use std::test::Fail;
+use std::process::Abort;
 
 /// A record type, and words that aren't its record data: a word is missing, left over or bad.
 const BAD: &[(u16, &[&str])] = &[
@@ -67,71 +67,83 @@ fn error_of(alloc: Global, rtype: u16, words: &[&str]) -> Option<TextError> {
     from_text(alloc, Rtype::from_int(rtype), words).err()
 }
 
+/// Fails unless the words aren't record data of the type.
+fn assert_bad(rt: &impl Abort, alloc: Global, rtype: u16, words: &[&str]) {
+    let error = error_of(alloc, rtype, words);
+    assert!(rt; error == Some(TextError::BadWord), "{words:?}");
+}
+
 #[test]
 fn bad_words(rt: HostRuntime) {
     for (rtype, words) in BAD {
-        let error = error_of(rt.alloc(), *rtype, words);
-        assert_eq!(rt; error, Some(TextError::BadWord), "{words:?}");
+        assert_bad(&rt, rt.alloc(), *rtype, words);
     }
 }
 
 #[test]
 fn bad_octets(rt: HostRuntime) {
     for (rtype, words) in BAD_OCTETS {
-        let error = error_of(rt.alloc(), *rtype, words);
-        assert_eq!(rt; error, Some(TextError::BadWord), "{words:?}");
+        assert_bad(&rt, rt.alloc(), *rtype, words);
     }
 }
 
 #[test]
 fn bad_tags(rt: HostRuntime) {
     for tag in BAD_TAGS {
-        let error = error_of(rt.alloc(), 257, &["0", tag, "ca.example"]);
-        assert_eq!(rt; error, Some(TextError::BadWord), "{tag}");
+        assert_bad(&rt, rt.alloc(), 257, &["0", tag, "ca.example"]);
     }
 }
 
 /// A text of this many letters.
-fn letters(alloc: Global, count: usize) -> Result<String, Fail> {
+fn letters(rt: &impl Abort, alloc: Global, count: usize) -> String {
     let mut text = String::new(alloc);
     for _ in 0..count {
-        text.push('a')?;
+        text.push('a').expect(rt, "memory");
     }
-    Ok(text)
+    text
+}
+
+/// Fails unless the longer words are bad, and the longest are record data.
+fn assert_longest(rt: &impl Abort, longer: Option<TextError>, longest: Option<TextError>) {
+    assert!(rt; longer == Some(TextError::BadWord), "one letter too many");
+    assert!(rt; longest.is_none(), "as many letters as there may be");
+}
+
+/// The error of a character string of this many letters.
+fn string_error(rt: &impl Abort, alloc: Global, count: usize) -> Option<TextError> {
+    let letters = letters(rt, alloc, count);
+    error_of(alloc, 16, &[letters.as_str()])
 }
 
 /// A character string has at most 255 octets.
 #[test]
-fn long_strings(rt: HostRuntime) -> Result<(), Fail> {
-    let long = letters(rt.alloc(), 256)?;
-    let error = error_of(rt.alloc(), 16, &[long.as_str()]);
-    assert_eq!(rt; error, Some(TextError::BadWord));
-    let most = letters(rt.alloc(), 255)?;
-    assert_eq!(rt; error_of(rt.alloc(), 16, &[most.as_str()]), None);
-    Ok(())
+fn long_strings(rt: HostRuntime) {
+    let longer = string_error(&rt, rt.alloc(), 256);
+    assert_longest(&rt, longer, string_error(&rt, rt.alloc(), 255));
 }
 
-/// So has a tag.
+/// The error of a tag of this many letters.
+fn tag_error(rt: &impl Abort, alloc: Global, count: usize) -> Option<TextError> {
+    let letters = letters(rt, alloc, count);
+    error_of(alloc, 257, &["0", letters.as_str(), "ca.example"])
+}
+
+/// A tag has at most 255 octets.
 #[test]
-fn long_tags(rt: HostRuntime) -> Result<(), Fail> {
-    let long = letters(rt.alloc(), 256)?;
-    let error = error_of(rt.alloc(), 257, &["0", long.as_str(), "ca.example"]);
-    assert_eq!(rt; error, Some(TextError::BadWord));
-    let most = letters(rt.alloc(), 255)?;
-    assert_eq!(rt;
-        error_of(rt.alloc(), 257, &["0", most.as_str(), "ca.example"]),
-        None
-    );
-    Ok(())
+fn long_tags(rt: HostRuntime) {
+    let longer = tag_error(&rt, rt.alloc(), 256);
+    assert_longest(&rt, longer, tag_error(&rt, rt.alloc(), 255));
+}
+
+/// The error of record data of four octets and this many letters.
+fn target_error(rt: &impl Abort, alloc: Global, count: usize) -> Option<TextError> {
+    let letters = letters(rt, alloc, count);
+    error_of(alloc, 256, &["1", "2", letters.as_str()])
 }
 
 /// Record data has at most 65,535 octets.
 #[test]
-fn long_data(rt: HostRuntime) -> Result<(), Fail> {
-    let long = letters(rt.alloc(), 65536)?;
-    let error = error_of(rt.alloc(), 256, &["1", "2", long.as_str()]);
-    assert_eq!(rt; error, Some(TextError::BadWord));
-    let most = letters(rt.alloc(), 65531)?;
-    assert_eq!(rt; error_of(rt.alloc(), 256, &["1", "2", most.as_str()]), None);
-    Ok(())
+fn long_data(rt: HostRuntime) {
+    let longer = target_error(&rt, rt.alloc(), 65536);
+    assert_longest(&rt, longer, target_error(&rt, rt.alloc(), 65531));
 }

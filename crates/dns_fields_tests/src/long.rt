@@ -1,10 +1,8 @@
 //! RDATA of 65,535 octets, and of one octet more.
-use crate::rows::error_of;
-use dns_code::Rtype;
-use dns_data::{ComposeRecordData, ParseAnyRecordData};
-use dns_fields::FieldData;
-use dns_wire::{ParseError, Parser};
-use std::test::Fail;
+use crate::rows::{assert_short, data_of, is_written};
+use dns_wire::Parser;
+use std::alloc::Global;
+use std::process::Abort;
 
 /// Types whose last field takes all remaining octets, and octets before that field.
 const LONG: &[(&str, u16, &[u8])] = &[
@@ -17,31 +15,32 @@ const LONG: &[(&str, u16, &[u8])] = &[
     ("TYPE65280", 65280, b""),
 ];
 
-#[test]
-fn reads_the_longest_rdata(rt: HostRuntime) -> Result<(), Fail> {
-    for (name, rtype, head) in LONG {
-        let mut octets = Vec::new(rt.alloc());
-        octets.extend_from_slice(head)?;
-        octets.resize(65535, b'a')?;
-        let mut parser = Parser::new(octets.as_slice());
-        let data = FieldData::parse_any_rdata(Rtype::from_int(*rtype), &mut parser)?;
-        let mut target = Vec::new(rt.alloc());
-        data.compose_rdata(&mut target)?;
-        assert!(rt; target.as_slice() == octets.as_slice(), "{name}");
-    }
-    Ok(())
+/// Octets and letters after them, `len` octets in all.
+fn filled(rt: &impl Abort, alloc: Global, head: &[u8], len: usize) -> Vec<u8> {
+    let mut octets = Vec::from_slice(alloc, head).expect(rt, "memory");
+    octets.resize(len, b'a').expect(rt, "memory");
+    octets
+}
+
+/// Whether RDATA of 65,535 octets is read and written as it was.
+fn is_read_back(rt: &impl Abort, alloc: Global, rtype: u16, head: &[u8]) -> bool {
+    let octets = filled(rt, alloc, head, 65535);
+    let data = data_of(rt, rtype, &mut Parser::new(octets.as_slice()));
+    is_written(rt, alloc, &data, octets.as_slice())
 }
 
 #[test]
-fn refuses_longer_rdata(rt: HostRuntime) -> Result<(), Fail> {
+fn reads_the_longest_rdata(rt: HostRuntime) {
     for (name, rtype, head) in LONG {
-        let mut octets = Vec::new(rt.alloc());
-        octets.extend_from_slice(head)?;
-        octets.resize(65536, b'a')?;
-        let mut parser = Parser::new(octets.as_slice());
-        let error = error_of(*rtype, &mut parser);
-        assert!(rt; error == Some(ParseError::ShortInput), "{name}");
-        assert_eq!(rt; parser.pos(), 0, "{name}");
+        let is_read_back = is_read_back(&rt, rt.alloc(), *rtype, head);
+        assert!(rt; is_read_back, "{name}");
     }
-    Ok(())
+}
+
+#[test]
+fn refuses_longer_rdata(rt: HostRuntime) {
+    for (name, rtype, head) in LONG {
+        let octets = filled(&rt, rt.alloc(), head, 65536);
+        assert_short(&rt, name, *rtype, octets.as_slice());
+    }
 }

@@ -1,11 +1,10 @@
 //! Comparisons of RDATA (RFC 4034 sections 6.1 and 6.3).
-use dns_code::Rtype;
-use dns_data::ParseAnyRecordData;
+use crate::rows::data_of;
 use dns_fields::FieldData;
 use dns_wire::{CanonicalOrd, Parser};
 use std::cmp::Ordering::{self, Equal, Greater, Less};
 use std::hash::{DefaultHasher, Hash, Hasher};
-use std::test::Fail;
+use std::process::Abort;
 
 /// RDATA: its type and its octets.
 type Data = (u16, &'static [u8]);
@@ -58,24 +57,44 @@ const ROWS: &[Row] = &[
     ((65281, b""), (65280, b"\xFF"), Greater, Greater),
 ];
 
+/// Fails unless an order is the expected one.
+fn assert_order(rt: &impl Abort, row: &Row, order: Ordering, expected: Ordering) {
+    assert_eq!(rt; order, expected, "{:?} and {:?}", row.0, row.1);
+}
+
+/// Fails unless the values have the order of the row, both ways.
+fn assert_compared(rt: &impl Abort, row: &Row, data: &FieldData<'_>, other: &FieldData<'_>) {
+    assert_order(rt, row, data.cmp(other), row.2);
+    assert_order(rt, row, other.cmp(data), row.2.reverse());
+}
+
+/// Fails unless the values have the canonical order of the row, both ways.
+fn assert_canonical(rt: &impl Abort, row: &Row, data: &FieldData<'_>, other: &FieldData<'_>) {
+    assert_order(rt, row, data.canonical_cmp(other), row.3);
+    assert_order(rt, row, other.canonical_cmp(data), row.3.reverse());
+}
+
+/// Whether the values are equal and have the same hash, or neither.
+fn are_equal(data: &FieldData<'_>, other: &FieldData<'_>, expected: bool) -> bool {
+    let has_same_hash = hash_of(data) == hash_of(other);
+    (data == other) == expected && has_same_hash == expected
+}
+
+/// Fails unless the values of the row are compared as it says.
+fn assert_row(rt: &impl Abort, row: &Row) {
+    let data = read(rt, row.0);
+    let other = read(rt, row.1);
+    assert_compared(rt, row, &data, &other);
+    assert_canonical(rt, row, &data, &other);
+    let are_equal = are_equal(&data, &other, row.2.is_eq());
+    assert!(rt; are_equal, "{:?} and {:?}", row.0, row.1);
+}
+
 #[test]
-fn compares_fields(rt: HostRuntime) -> Result<(), Fail> {
-    for (first, second, order, canonical) in ROWS {
-        let data = read(*first)?;
-        let other = read(*second)?;
-        assert_eq!(rt; data.cmp(&other), *order, "{first:?} and {second:?}");
-        assert_eq!(rt; other.cmp(&data), order.reverse());
-        assert_eq!(rt;
-            data.canonical_cmp(&other),
-            *canonical,
-            "{first:?} and {second:?}"
-        );
-        assert_eq!(rt; other.canonical_cmp(&data), canonical.reverse());
-        assert_eq!(rt; data == other, order.is_eq(), "{first:?} and {second:?}");
-        let same_hash = hash_of(&data) == hash_of(&other);
-        assert_eq!(rt; same_hash, order.is_eq(), "{first:?} and {second:?}");
+fn compares_fields(rt: HostRuntime) {
+    for row in ROWS {
+        assert_row(&rt, row);
     }
-    Ok(())
 }
 
 fn hash_of(data: &FieldData<'_>) -> u64 {
@@ -84,7 +103,6 @@ fn hash_of(data: &FieldData<'_>) -> u64 {
     state.finish()
 }
 
-fn read(data: Data) -> Result<FieldData<'static>, Fail> {
-    let mut parser = Parser::new(data.1);
-    Ok(FieldData::parse_any_rdata(Rtype::from_int(data.0), &mut parser)?)
+fn read(rt: &impl Abort, data: Data) -> FieldData<'static> {
+    data_of(rt, data.0, &mut Parser::new(data.1))
 }

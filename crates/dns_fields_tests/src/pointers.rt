@@ -1,11 +1,9 @@
 //! Names with pointers: read in the types of RFC 1035 section 3.3 and of RFC 3597 section 4, and in
 //! no other type.
-use crate::rows::error_of;
-use dns_code::Rtype;
-use dns_data::{ComposeRecordData, ParseAnyRecordData};
-use dns_fields::FieldData;
+use crate::rows::{assert_refused, data_of, is_written};
 use dns_wire::{FormError, ParseError, Parser};
-use std::test::Fail;
+use std::alloc::Global;
+use std::process::Abort;
 
 /// RDATA after the name `a.`, with a pointer to it: its type, its octets, and these uncompressed.
 type Row = (u16, &'static [u8], &'static [u8]);
@@ -44,41 +42,54 @@ const READ: &[Row] = &[
     ),
 ];
 
-const REFUSED: &[(u16, &[u8])] = &[
-    (36, b"\x01a\x00\x00\x01\xC0\x00"),
-    (39, b"\x01a\x00\xC0\x00"),
-    (46, b"\x01a\x00AAAAAAAAAAAAAAAAAA\xC0\x00SIG"),
-    (47, b"\x01a\x00\xC0\x00\x00\x01\x40"),
-    (58, b"\x01a\x00\xC0\x00\xC0\x00"),
-    (64, b"\x01a\x00\x00\x01\xC0\x00"),
-    (65, b"\x01a\x00\x00\x01\xC0\x00"),
-    (107, b"\x01a\x00\x00\x01\xC0\x00"),
-    (249, b"\x01a\x00\xC0\x00AAAAAAAAAAAA\x00\x00\x00\x00"),
-    (250, b"\x01a\x00\xC0\x00AAAAAAAA\x00\x00AAAA\x00\x00"),
+const REFUSED: &[(&str, u16, &[u8])] = &[
+    ("KX", 36, b"\x01a\x00\x00\x01\xC0\x00"),
+    ("DNAME", 39, b"\x01a\x00\xC0\x00"),
+    ("RRSIG", 46, b"\x01a\x00AAAAAAAAAAAAAAAAAA\xC0\x00SIG"),
+    ("NSEC", 47, b"\x01a\x00\xC0\x00\x00\x01\x40"),
+    ("TALINK", 58, b"\x01a\x00\xC0\x00\xC0\x00"),
+    ("SVCB", 64, b"\x01a\x00\x00\x01\xC0\x00"),
+    ("HTTPS", 65, b"\x01a\x00\x00\x01\xC0\x00"),
+    ("LP", 107, b"\x01a\x00\x00\x01\xC0\x00"),
+    (
+        "TKEY",
+        249,
+        b"\x01a\x00\xC0\x00AAAAAAAAAAAA\x00\x00\x00\x00",
+    ),
+    (
+        "TSIG",
+        250,
+        b"\x01a\x00\xC0\x00AAAAAAAA\x00\x00AAAA\x00\x00",
+    ),
 ];
 
-#[test]
-fn reads_pointers(rt: HostRuntime) -> Result<(), Fail> {
-    for (rtype, octets, uncompressed) in READ {
-        let mut parser = Parser::new(octets);
-        parser.advance(3)?;
-        let data = FieldData::parse_any_rdata(Rtype::from_int(*rtype), &mut parser)?;
-        assert_eq!(rt; parser.remaining(), 0, "type {rtype}");
-        let mut target = Vec::new(rt.alloc());
-        data.compose_rdata(&mut target)?;
-        assert_eq!(rt; target.as_slice(), *uncompressed, "type {rtype}");
-    }
-    Ok(())
+/// A parser after the name `a.` at the start.
+fn after_name<'a>(rt: &impl Abort, octets: &'a [u8]) -> Parser<'a> {
+    let mut parser = Parser::new(octets);
+    parser.advance(3).expect(rt, "a name");
+    parser
+}
+
+/// Fails unless the RDATA of the row is read to its end, and written uncompressed.
+fn assert_read(rt: &impl Abort, alloc: Global, row: &Row) {
+    let (rtype, octets, uncompressed) = *row;
+    let mut parser = after_name(rt, octets);
+    let data = data_of(rt, rtype, &mut parser);
+    assert!(rt; parser.remaining() == 0, "type {rtype}");
+    let is_written = is_written(rt, alloc, &data, uncompressed);
+    assert!(rt; is_written, "type {rtype}");
 }
 
 #[test]
-fn refuses_pointers(rt: HostRuntime) -> Result<(), Fail> {
-    for (rtype, octets) in REFUSED {
-        let mut parser = Parser::new(octets);
-        parser.advance(3)?;
-        let error = error_of(*rtype, &mut parser);
-        assert!(rt; error == Some(BAD_POINTER), "type {rtype}");
-        assert_eq!(rt; parser.pos(), 3, "type {rtype}");
+fn reads_pointers(rt: HostRuntime) {
+    for row in READ {
+        assert_read(&rt, rt.alloc(), row);
     }
-    Ok(())
+}
+
+#[test]
+fn refuses_pointers(rt: HostRuntime) {
+    for (name, rtype, octets) in REFUSED {
+        assert_refused(&rt, name, *rtype, after_name(&rt, octets), BAD_POINTER);
+    }
 }

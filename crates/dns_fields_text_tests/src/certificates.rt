@@ -1,7 +1,6 @@
 //! Rows of certificates, fingerprints and keys. Each is an example of the RFC that it names, or has
 //! its form.
 use crate::row::{Row, both_ways};
-use std::test::Fail;
 
 const CERT_TO_SMIMEA: &[Row] = &[
     (
@@ -61,8 +60,8 @@ const CERT_TO_SMIMEA: &[Row] = &[
 ];
 
 #[test]
-fn cert_to_smimea(rt: HostRuntime) -> Result<(), Fail> {
-    both_ways(&rt, rt.alloc(), CERT_TO_SMIMEA)
+fn cert_to_smimea(rt: HostRuntime) {
+    both_ways(&rt, rt.alloc(), CERT_TO_SMIMEA);
 }
 
 const SSHFP_TO_OPENPGPKEY: &[Row] = &[
@@ -118,8 +117,8 @@ const SSHFP_TO_OPENPGPKEY: &[Row] = &[
 ];
 
 #[test]
-fn sshfp_to_openpgpkey(rt: HostRuntime) -> Result<(), Fail> {
-    both_ways(&rt, rt.alloc(), SSHFP_TO_OPENPGPKEY)
+fn sshfp_to_openpgpkey(rt: HostRuntime) {
+    both_ways(&rt, rt.alloc(), SSHFP_TO_OPENPGPKEY);
 }
 
 const IPSECKEY_TO_TKEY: &[Row] = &[
@@ -186,8 +185,8 @@ const IPSECKEY_TO_TKEY: &[Row] = &[
 ];
 
 #[test]
-fn ipseckey_to_tkey(rt: HostRuntime) -> Result<(), Fail> {
-    both_ways(&rt, rt.alloc(), IPSECKEY_TO_TKEY)
+fn ipseckey_to_tkey(rt: HostRuntime) {
+    both_ways(&rt, rt.alloc(), IPSECKEY_TO_TKEY);
 }
 
 const TSIG: &[Row] = &[
@@ -212,6 +211,6 @@ const TSIG: &[Row] = &[
 ];
 
 #[test]
-fn tsig(rt: HostRuntime) -> Result<(), Fail> {
-    both_ways(&rt, rt.alloc(), TSIG)
+fn tsig(rt: HostRuntime) {
+    both_ways(&rt, rt.alloc(), TSIG);
 }

@@ -1,6 +1,5 @@
 //! Rows of DNSSEC. Each is an example of the RFC that it names, or has its form.
 use crate::row::{Row, both_ways};
-use std::test::Fail;
 
 const KEY_TO_CDNSKEY: &[Row] = &[
     (
@@ -60,8 +59,8 @@ const KEY_TO_CDNSKEY: &[Row] = &[
 ];
 
 #[test]
-fn key_to_cdnskey(rt: HostRuntime) -> Result<(), Fail> {
-    both_ways(&rt, rt.alloc(), KEY_TO_CDNSKEY)
+fn key_to_cdnskey(rt: HostRuntime) {
+    both_ways(&rt, rt.alloc(), KEY_TO_CDNSKEY);
 }
 
 const SIG_TO_DS: &[Row] = &[
@@ -122,8 +121,8 @@ const SIG_TO_DS: &[Row] = &[
 ];
 
 #[test]
-fn sig_to_ds(rt: HostRuntime) -> Result<(), Fail> {
-    both_ways(&rt, rt.alloc(), SIG_TO_DS)
+fn sig_to_ds(rt: HostRuntime) {
+    both_ways(&rt, rt.alloc(), SIG_TO_DS);
 }
 
 const CDS_TO_NXT: &[Row] = &[
@@ -184,8 +183,8 @@ const CDS_TO_NXT: &[Row] = &[
 ];
 
 #[test]
-fn cds_to_nxt(rt: HostRuntime) -> Result<(), Fail> {
-    both_ways(&rt, rt.alloc(), CDS_TO_NXT)
+fn cds_to_nxt(rt: HostRuntime) {
+    both_ways(&rt, rt.alloc(), CDS_TO_NXT);
 }
 
 const NSEC_TO_NSEC3: &[Row] = &[
@@ -246,8 +245,8 @@ const NSEC_TO_NSEC3: &[Row] = &[
 ];
 
 #[test]
-fn nsec_to_nsec3(rt: HostRuntime) -> Result<(), Fail> {
-    both_ways(&rt, rt.alloc(), NSEC_TO_NSEC3)
+fn nsec_to_nsec3(rt: HostRuntime) {
+    both_ways(&rt, rt.alloc(), NSEC_TO_NSEC3);
 }
 
 const NSEC3PARAM: &[Row] = &[
@@ -272,6 +271,6 @@ const NSEC3PARAM: &[Row] = &[
 ];
 
 #[test]
-fn nsec3param(rt: HostRuntime) -> Result<(), Fail> {
-    both_ways(&rt, rt.alloc(), NSEC3PARAM)
+fn nsec3param(rt: HostRuntime) {
+    both_ways(&rt, rt.alloc(), NSEC3PARAM);
 }

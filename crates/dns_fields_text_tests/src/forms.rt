@@ -1,7 +1,6 @@
 //! Rows of further forms: of addresses, names, strings, service parameters and type bit maps, and RDATA
 //! without a presentation format.
 use crate::row::{Row, both_ways};
-use std::test::Fail;
 
 const ADDRESSES: &[Row] = &[
     // RFC 5952 section 5
@@ -25,8 +24,8 @@ const ADDRESSES: &[Row] = &[
 ];
 
 #[test]
-fn addresses(rt: HostRuntime) -> Result<(), Fail> {
-    both_ways(&rt, rt.alloc(), ADDRESSES)
+fn addresses(rt: HostRuntime) {
+    both_ways(&rt, rt.alloc(), ADDRESSES);
 }
 
 const KEYS: &[Row] = &[
@@ -68,8 +67,8 @@ const KEYS: &[Row] = &[
 ];
 
 #[test]
-fn keys(rt: HostRuntime) -> Result<(), Fail> {
-    both_ways(&rt, rt.alloc(), KEYS)
+fn keys(rt: HostRuntime) {
+    both_ways(&rt, rt.alloc(), KEYS);
 }
 
 const NAMES: &[Row] = &[
@@ -104,8 +103,8 @@ const NAMES: &[Row] = &[
 ];
 
 #[test]
-fn names(rt: HostRuntime) -> Result<(), Fail> {
-    both_ways(&rt, rt.alloc(), NAMES)
+fn names(rt: HostRuntime) {
+    both_ways(&rt, rt.alloc(), NAMES);
 }
 
 const SERVICES: &[Row] = &[
@@ -133,8 +132,8 @@ const SERVICES: &[Row] = &[
 ];
 
 #[test]
-fn services(rt: HostRuntime) -> Result<(), Fail> {
-    both_ways(&rt, rt.alloc(), SERVICES)
+fn services(rt: HostRuntime) {
+    both_ways(&rt, rt.alloc(), SERVICES);
 }
 
 const STRINGS: &[Row] = &[
@@ -185,8 +184,8 @@ const STRINGS: &[Row] = &[
 ];
 
 #[test]
-fn strings(rt: HostRuntime) -> Result<(), Fail> {
-    both_ways(&rt, rt.alloc(), STRINGS)
+fn strings(rt: HostRuntime) {
+    both_ways(&rt, rt.alloc(), STRINGS);
 }
 
 const TYPE_MAPS_AND_UNKNOWN: &[Row] = &[
@@ -237,6 +236,6 @@ const TYPE_MAPS_AND_UNKNOWN: &[Row] = &[
 ];
 
 #[test]
-fn type_maps_and_unknown(rt: HostRuntime) -> Result<(), Fail> {
-    both_ways(&rt, rt.alloc(), TYPE_MAPS_AND_UNKNOWN)
+fn type_maps_and_unknown(rt: HostRuntime) {
+    both_ways(&rt, rt.alloc(), TYPE_MAPS_AND_UNKNOWN);
 }

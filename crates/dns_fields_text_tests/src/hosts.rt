@@ -1,6 +1,5 @@
 //! Rows of hosts, names and mail. Each is an example of the RFC that it names, or has its form.
 use crate::row::{Row, both_ways};
-use std::test::Fail;
 
 const A_TO_MD: &[Row] = &[
     (
@@ -55,8 +54,8 @@ const A_TO_MD: &[Row] = &[
 ];
 
 #[test]
-fn a_to_md(rt: HostRuntime) -> Result<(), Fail> {
-    both_ways(&rt, rt.alloc(), A_TO_MD)
+fn a_to_md(rt: HostRuntime) {
+    both_ways(&rt, rt.alloc(), A_TO_MD);
 }
 
 const MF_TO_SOA: &[Row] = &[
@@ -112,8 +111,8 @@ const MF_TO_SOA: &[Row] = &[
 ];
 
 #[test]
-fn mf_to_soa(rt: HostRuntime) -> Result<(), Fail> {
-    both_ways(&rt, rt.alloc(), MF_TO_SOA)
+fn mf_to_soa(rt: HostRuntime) {
+    both_ways(&rt, rt.alloc(), MF_TO_SOA);
 }
 
 const MB_TO_MR: &[Row] = &[
@@ -164,8 +163,8 @@ const MB_TO_MR: &[Row] = &[
 ];
 
 #[test]
-fn mb_to_mr(rt: HostRuntime) -> Result<(), Fail> {
-    both_ways(&rt, rt.alloc(), MB_TO_MR)
+fn mb_to_mr(rt: HostRuntime) {
+    both_ways(&rt, rt.alloc(), MB_TO_MR);
 }
 
 const NULL_TO_HINFO: &[Row] = &[
@@ -216,8 +215,8 @@ const NULL_TO_HINFO: &[Row] = &[
 ];
 
 #[test]
-fn null_to_hinfo(rt: HostRuntime) -> Result<(), Fail> {
-    both_ways(&rt, rt.alloc(), NULL_TO_HINFO)
+fn null_to_hinfo(rt: HostRuntime) {
+    both_ways(&rt, rt.alloc(), NULL_TO_HINFO);
 }
 
 const MINFO_TO_TXT: &[Row] = &[
@@ -263,8 +262,8 @@ const MINFO_TO_TXT: &[Row] = &[
 ];
 
 #[test]
-fn minfo_to_txt(rt: HostRuntime) -> Result<(), Fail> {
-    both_ways(&rt, rt.alloc(), MINFO_TO_TXT)
+fn minfo_to_txt(rt: HostRuntime) {
+    both_ways(&rt, rt.alloc(), MINFO_TO_TXT);
 }
 
 const RP_TO_RT: &[Row] = &[
@@ -315,8 +314,8 @@ const RP_TO_RT: &[Row] = &[
 ];
 
 #[test]
-fn rp_to_rt(rt: HostRuntime) -> Result<(), Fail> {
-    both_ways(&rt, rt.alloc(), RP_TO_RT)
+fn rp_to_rt(rt: HostRuntime) {
+    both_ways(&rt, rt.alloc(), RP_TO_RT);
 }
 
 const PX_TO_LOC: &[Row] = &[
@@ -377,8 +376,8 @@ const PX_TO_LOC: &[Row] = &[
 ];
 
 #[test]
-fn px_to_loc(rt: HostRuntime) -> Result<(), Fail> {
-    both_ways(&rt, rt.alloc(), PX_TO_LOC)
+fn px_to_loc(rt: HostRuntime) {
+    both_ways(&rt, rt.alloc(), PX_TO_LOC);
 }
 
 const DNAME_TO_SPF: &[Row] = &[
@@ -434,8 +433,8 @@ const DNAME_TO_SPF: &[Row] = &[
 ];
 
 #[test]
-fn dname_to_spf(rt: HostRuntime) -> Result<(), Fail> {
-    both_ways(&rt, rt.alloc(), DNAME_TO_SPF)
+fn dname_to_spf(rt: HostRuntime) {
+    both_ways(&rt, rt.alloc(), DNAME_TO_SPF);
 }
 
 const UNKNOWN: &[Row] = &[
@@ -455,6 +454,6 @@ const UNKNOWN: &[Row] = &[
 ];
 
 #[test]
-fn unknown(rt: HostRuntime) -> Result<(), Fail> {
-    both_ways(&rt, rt.alloc(), UNKNOWN)
+fn unknown(rt: HostRuntime) {
+    both_ways(&rt, rt.alloc(), UNKNOWN);
 }
