@@ -1,5 +1,6 @@
 //! Registered numbers and their names.
 use dns_number::{Class, Opcode, OptRcode, OptionCode, Rcode, Rtype};
+use std::process::Abort;
 
 /// Numbers and the names of their record types.
 const TYPES: &[(u16, Option<&str>)] = &[
@@ -22,47 +23,81 @@ const TYPES: &[(u16, Option<&str>)] = &[
     (65535, None),
 ];
 
+/// Fails unless the type with this number has this registered name.
+fn assert_type(rt: &impl Abort, number: u16, name: Option<&str>) {
+    let found = Rtype::from_int(number).registered_name();
+    assert_eq!(rt; found, name, "type {number}");
+}
+
 #[test]
 fn names_types(rt: HostRuntime) {
-    for (number, name) in TYPES {
-        let found = Rtype::from_int(*number).registered_name();
-        assert_eq!(rt; found, *name, "type {number}");
+    for &(number, name) in TYPES {
+        assert_type(&rt, number, name);
     }
 }
 
-#[test]
-fn names_codes(rt: HostRuntime) {
-    assert_eq!(rt; Class::from_int(254).registered_name(), Some("NONE"));
-    assert_eq!(rt; Class::from_int(2).registered_name(), None);
-    assert_eq!(rt; Opcode::from_int(5).registered_name(), Some("Update"));
-    assert_eq!(rt; Opcode::from_int(3).registered_name(), None);
-    assert_eq!(rt;
-        Rcode::masked_from_int(9).registered_name(),
-        Some("NotAuth")
-    );
-    assert_eq!(rt; Rcode::masked_from_int(15).registered_name(), None);
-    let badvers = OptRcode::from_parts(Rcode::NOERROR, 1);
-    assert_eq!(rt; badvers.registered_name(), Some("BADVERS"));
-    assert_eq!(rt;
-        OptionCode::from_int(8).registered_name(),
-        Some("edns-client-subnet")
-    );
-    assert_eq!(rt; OptionCode::from_int(65001).registered_name(), None);
+/// Fails unless a number has this registered name.
+fn assert_name(rt: &impl Abort, row: &str, name: Option<&str>, expected: Option<&str>) {
+    assert_eq!(rt; name, expected, "{row}");
 }
 
 #[test]
-fn has_constants(rt: HostRuntime) {
-    let types = [Rtype::SRV, Rtype::DNSKEY, Rtype::SVCB, Rtype::CAA];
-    assert_eq!(rt; types.map(Rtype::to_int), [33, 48, 64, 257]);
-    assert_eq!(rt; [Class::NONE.to_int(), Class::ANY.to_int()], [254, 255]);
-    assert_eq!(rt; [Opcode::UPDATE.to_int(), Opcode::DSO.to_int()], [5, 6]);
-    assert_eq!(rt; [Rcode::FORMERR.to_int(), Rcode::YXDOMAIN.to_int()], [1, 6]);
-    assert_eq!(rt;
-        [OptRcode::BADVERS.to_int(), OptRcode::BADCOOKIE.to_int()],
-        [16, 23]
-    );
-    assert_eq!(rt;
-        [OptionCode::COOKIE.to_int(), OptionCode::PADDING.to_int()],
-        [10, 12]
-    );
+fn names_classes_and_opcodes(rt: HostRuntime) {
+    let name = Class::from_int(254).registered_name();
+    assert_name(&rt, "class 254", name, Some("NONE"));
+    let name = Class::from_int(2).registered_name();
+    assert_name(&rt, "class 2", name, None);
+    let name = Opcode::from_int(5).registered_name();
+    assert_name(&rt, "opcode 5", name, Some("Update"));
+    let name = Opcode::from_int(3).registered_name();
+    assert_name(&rt, "opcode 3", name, None);
+}
+
+#[test]
+fn names_rcodes(rt: HostRuntime) {
+    let name = Rcode::masked_from_int(9).registered_name();
+    assert_name(&rt, "rcode 9", name, Some("NotAuth"));
+    let name = Rcode::masked_from_int(15).registered_name();
+    assert_name(&rt, "rcode 15", name, None);
+    let name = OptRcode::from_parts(Rcode::NOERROR, 1).registered_name();
+    assert_name(&rt, "extended rcode 16", name, Some("BADVERS"));
+}
+
+#[test]
+fn names_option_codes(rt: HostRuntime) {
+    let name = OptionCode::from_int(8).registered_name();
+    assert_name(&rt, "option 8", name, Some("edns-client-subnet"));
+    let name = OptionCode::from_int(65001).registered_name();
+    assert_name(&rt, "option 65001", name, None);
+}
+
+/// Fails unless a constant has this number.
+fn assert_number(rt: &impl Abort, row: &str, number: u16, expected: u16) {
+    assert_eq!(rt; number, expected, "{row}");
+}
+
+#[test]
+fn has_types_and_classes(rt: HostRuntime) {
+    assert_number(&rt, "SRV", Rtype::SRV.to_int(), 33);
+    assert_number(&rt, "DNSKEY", Rtype::DNSKEY.to_int(), 48);
+    assert_number(&rt, "SVCB", Rtype::SVCB.to_int(), 64);
+    assert_number(&rt, "CAA", Rtype::CAA.to_int(), 257);
+    assert_number(&rt, "NONE", Class::NONE.to_int(), 254);
+    assert_number(&rt, "ANY", Class::ANY.to_int(), 255);
+}
+
+#[test]
+fn has_opcodes_and_rcodes(rt: HostRuntime) {
+    assert_number(&rt, "UPDATE", Opcode::UPDATE.to_int().into(), 5);
+    assert_number(&rt, "DSO", Opcode::DSO.to_int().into(), 6);
+    assert_number(&rt, "FORMERR", Rcode::FORMERR.to_int().into(), 1);
+    assert_number(&rt, "YXDOMAIN", Rcode::YXDOMAIN.to_int().into(), 6);
+}
+
+#[test]
+fn has_extended_rcodes_and_options(rt: HostRuntime) {
+    assert_number(&rt, "BADVERS", OptRcode::BADVERS.to_int(), 16);
+    assert_number(&rt, "BADCOOKIE", OptRcode::BADCOOKIE.to_int(), 23);
+    assert_number(&rt, "COOKIE", OptionCode::COOKIE.to_int(), 10);
+    assert_number(&rt, "PADDING", OptionCode::PADDING.to_int(), 12);
 }

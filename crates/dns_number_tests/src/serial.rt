@@ -1,7 +1,7 @@
 //! Serials: sums, comparisons and texts.
 use dns_serial::Serial;
 use std::cmp::Ordering;
-use std::test::Fail;
+use std::process::Abort;
 
 /// A serial, another one, and how the first compares to the second.
 const COMPARISONS: &[(&str, u32, u32, Option<Ordering>)] = &[
@@ -26,22 +26,44 @@ const COMPARISONS: &[(&str, u32, u32, Option<Ordering>)] = &[
     ("just above half", 0, 2_147_483_649, Some(Ordering::Greater)),
 ];
 
-#[test]
-fn compares(rt: HostRuntime) {
-    for (row, serial, other, order) in COMPARISONS {
-        let found = Serial::from_int(*serial).serial_cmp(Serial::from_int(*other));
-        assert_eq!(rt; found, *order, "{row}");
-    }
+/// Fails unless two serials compare like this.
+fn assert_order(rt: &impl Abort, row: &str, serial: u32, other: u32, order: Option<Ordering>) {
+    let found = Serial::from_int(serial).serial_cmp(Serial::from_int(other));
+    assert_eq!(rt; found, order, "{row}");
 }
 
 #[test]
-fn adds(rt: HostRuntime) -> Result<(), Fail> {
-    assert_eq!(rt; Serial::from(0).add(4), Serial::from(4));
-    assert_eq!(rt; Serial::from(u32::MAX).add(1), Serial::from(0));
-    let sum = u32::from(Serial::from(0xff00_0000).add(0x0f00_0000));
-    assert_eq!(rt; sum, 0x0e00_0000);
-    let most = Serial::from(1).add(Serial::MAX_ADDEND);
-    assert_eq!(rt; most.into_int(), 0x8000_0000);
-    assert_eq!(rt; most.to_string(rt.alloc())?.as_str(), "2147483648");
-    Ok(())
+fn compares(rt: HostRuntime) {
+    for &(row, serial, other, order) in COMPARISONS {
+        assert_order(&rt, row, serial, other, order);
+    }
+}
+
+/// Fails unless a serial is this number.
+fn assert_number(rt: &impl Abort, row: &str, number: u32, expected: u32) {
+    assert_eq!(rt; number, expected, "{row}");
+}
+
+/// Fails unless a sum is the serial of this number.
+fn assert_sum(rt: &impl Abort, row: &str, sum: Serial, expected: u32) {
+    assert_eq!(rt; sum, Serial::from(expected), "{row}");
+    assert_number(rt, row, sum.into(), expected);
+    assert_number(rt, row, sum.into_int(), expected);
+}
+
+#[test]
+fn adds(rt: HostRuntime) {
+    assert_sum(&rt, "a small sum", Serial::from(0).add(4), 4);
+    assert_sum(&rt, "past the wrap", Serial::from(u32::MAX).add(1), 0);
+    let sum = Serial::from(0xff00_0000).add(0x0f00_0000);
+    assert_sum(&rt, "far past the wrap", sum, 0x0e00_0000);
+    let sum = Serial::from(1).add(Serial::MAX_ADDEND);
+    assert_sum(&rt, "the greatest addend", sum, 0x8000_0000);
+}
+
+#[test]
+fn prints(rt: HostRuntime) {
+    let serial = Serial::from(0x8000_0000);
+    let text = serial.to_string(rt.alloc()).expect(&rt, "memory");
+    assert_eq!(rt; text.as_str(), "2147483648");
 }

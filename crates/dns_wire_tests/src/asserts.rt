@@ -19,7 +19,7 @@ pub(crate) fn assert_same<T: PartialEq + Debug + Drop>(
 
 /// Fails unless the octets equal the expected ones.
 pub(crate) fn assert_octets(rt: &impl Abort, row: &str, octets: &[u8], expected: &[u8]) {
-    assert_eq!(rt; octets, expected, "{row}");
+    assert_same(rt, row, octets, expected);
 }
 
 /// Fails unless the value is printed as `text`.
@@ -31,7 +31,7 @@ pub(crate) fn assert_prints<T: Display>(
     text: &str,
 ) {
     let printed = value.to_string(alloc).expect(rt, row);
-    assert_eq!(rt; printed.as_str(), text, "{row}");
+    assert_same(rt, row, printed.as_str(), text);
 }
 
 /// The uncompressed name in these octets.

@@ -127,21 +127,35 @@ const CASES: &[Case] = &[
     },
 ];
 
+/// The number of the record type that a text spells.
+fn type_of(text: &str) -> Option<u16> {
+    Some(text.parse::<Rtype>().ok()?.to_int())
+}
+
+/// The number of the class that a text spells.
+fn class_of(text: &str) -> Option<u16> {
+    Some(text.parse::<Class>().ok()?.to_int())
+}
+
 #[test]
 fn reads_types_and_classes(rt: HostRuntime) {
     for case in CASES {
-        let rtype = case.text.parse::<Rtype>().ok().map(Rtype::to_int);
-        let class = case.text.parse::<Class>().ok().map(Class::to_int);
-        assert_same(&rt, case.name, (rtype, class), (case.rtype, case.class));
+        assert_same(&rt, case.name, type_of(case.text), case.rtype);
+        assert_same(&rt, case.name, class_of(case.text), case.class);
     }
 }
 
 #[test]
-fn prints_types_and_classes(rt: HostRuntime) {
+fn prints_types(rt: HostRuntime) {
     let alloc = rt.alloc();
     assert_prints(&rt, alloc, "a known type", &Rtype::AXFR, "AXFR");
     let unknown = Rtype::from_int(3);
     assert_prints(&rt, alloc, "another type", &unknown, "TYPE3");
+}
+
+#[test]
+fn prints_classes(rt: HostRuntime) {
+    let alloc = rt.alloc();
     assert_prints(&rt, alloc, "a known class", &Class::HS, "HS");
     let unknown = Class::from_int(255);
     assert_prints(&rt, alloc, "another class", &unknown, "CLASS255");
@@ -162,15 +176,20 @@ fn keeps_rcodes_in_range(rt: HostRuntime) {
     assert_same(&rt, "4 bits", checked, [None, Some(Rcode::REFUSED)]);
     let masked = Rcode::masked_from_int(0xf3);
     assert_same(&rt, "the low 4 bits", masked, Rcode::NXDOMAIN);
-    let long = OptRcode::checked_from_int(4096);
-    assert_same(&rt, "12 bits", long, None);
-    let joined = OptRcode::from_parts(Rcode::NXDOMAIN, 0xab);
-    let parts = (joined.to_int(), joined.rcode(), joined.ext());
-    assert_same(&rt, "two parts", parts, (0xab3, Rcode::NXDOMAIN, 0xab));
 }
 
 #[test]
-fn has_the_numbers_of_codes(rt: HostRuntime) {
+fn keeps_extended_rcodes_in_range(rt: HostRuntime) {
+    let long = OptRcode::checked_from_int(4096);
+    assert_same(&rt, "12 bits", long, None);
+    let joined = OptRcode::from_parts(Rcode::NXDOMAIN, 0xab);
+    assert_same(&rt, "both parts", joined.to_int(), 0xab3);
+    assert_same(&rt, "the low part", joined.rcode(), Rcode::NXDOMAIN);
+    assert_same(&rt, "the high part", joined.ext(), 0xab);
+}
+
+#[test]
+fn has_the_numbers_of_opcodes_and_rcodes(rt: HostRuntime) {
     let short = [
         Opcode::QUERY.to_int(),
         Opcode::NOTIFY.to_int(),
@@ -179,11 +198,15 @@ fn has_the_numbers_of_codes(rt: HostRuntime) {
         Rcode::SERVFAIL.to_int(),
     ];
     assert_same(&rt, "opcodes and rcodes", short, [0, 4, 200, 0, 2]);
+    let is_before = Opcode::QUERY < Opcode::NOTIFY;
+    assert_same(&rt, "the order of opcodes", is_before, true);
+}
+
+#[test]
+fn has_the_numbers_of_16_bits(rt: HostRuntime) {
     let long = [
         OptRcode::from(Rcode::REFUSED).to_int(),
         OptionCode::from_int(65535).to_int(),
     ];
     assert_same(&rt, "numbers of 16 bits", long, [5, 65535]);
-    let is_before = Opcode::QUERY < Opcode::NOTIFY;
-    assert_same(&rt, "the order of opcodes", is_before, true);
 }

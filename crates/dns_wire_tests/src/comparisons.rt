@@ -36,19 +36,25 @@ fn next_name(rt: &impl Abort, parser: &mut Parser<'static>) -> ParsedName<'stati
     ParsedName::parse(parser).expect(rt, "a name of the RFC")
 }
 
+/// Fails unless a name is less than the one after it.
+fn assert_less(rt: &impl Abort, row: &str, before: ParsedName<'_>, name: ParsedName<'_>) {
+    let orders = [
+        before.name_cmp(&name),
+        compare(&before, &name),
+        name.name_cmp(&before),
+    ];
+    let expected = [Ordering::Less, Ordering::Less, Ordering::Greater];
+    assert_same(rt, row, orders, expected);
+    assert_same(rt, row, before < name, true);
+}
+
 #[test]
 fn orders_names_from_the_root(rt: HostRuntime) {
     let mut parser = Parser::new(CANONICAL_ORDER);
     let mut before = next_name(&rt, &mut parser);
     for row in PRINTED {
         let name = next_name(&rt, &mut parser);
-        let orders = [
-            before.name_cmp(&name),
-            compare(&before, &name),
-            name.name_cmp(&before),
-        ];
-        let expected = [Ordering::Less, Ordering::Less, Ordering::Greater];
-        assert_same(&rt, row, (orders, before < name), (expected, true));
+        assert_less(&rt, row, before, name);
         before = name;
     }
     assert_same(&rt, "octets left over", parser.remaining(), 0);
@@ -96,26 +102,36 @@ const CASES: &[Case] = &[
     },
 ];
 
+/// Fails unless the names are equal as the case says.
+fn assert_equality(rt: &impl Abort, case: &Case, name: ParsedName<'_>, other: ParsedName<'_>) {
+    let equal = [
+        name.octets_eq(&other),
+        name.name_eq(&other),
+        name == other,
+        hash_of(&name) == hash_of(&other),
+    ];
+    let expected = [case.is_same, case.is_equal, case.is_equal, case.is_equal];
+    assert_same(rt, case.name, equal, expected);
+}
+
+/// Fails unless the names compare as the case says.
+fn assert_orders(rt: &impl Abort, case: &Case, name: ParsedName<'_>, other: ParsedName<'_>) {
+    let orders = [
+        name.name_cmp(&other),
+        compare(&name, &other),
+        name.lowercase_composed_cmp(&other),
+    ];
+    let expected = [case.by_labels, case.by_labels, case.by_octets];
+    assert_same(rt, case.name, orders, expected);
+}
+
 #[test]
 fn ignores_letter_case_but_for_octets_eq(rt: HostRuntime) {
     let name = name_at(&rt, NAMES, 0);
     for case in CASES {
         let other = name_at(&rt, NAMES, case.offset);
-        let equal = [
-            name.octets_eq(&other),
-            name.name_eq(&other),
-            name == other,
-            hash_of(&name) == hash_of(&other),
-        ];
-        let expected = [case.is_same, case.is_equal, case.is_equal, case.is_equal];
-        assert_same(&rt, case.name, equal, expected);
-        let orders = [
-            name.name_cmp(&other),
-            compare(&name, &other),
-            name.lowercase_composed_cmp(&other),
-        ];
-        let expected = [case.by_labels, case.by_labels, case.by_octets];
-        assert_same(&rt, case.name, orders, expected);
+        assert_equality(&rt, case, name, other);
+        assert_orders(&rt, case, name, other);
     }
 }
 
@@ -178,16 +194,28 @@ const BASES: &[Base] = &[
     },
 ];
 
+/// Fails unless www.dE., which a pointer leads to, starts and ends with the base as the case says.
+fn assert_base(rt: &impl Abort, case: &Base, pointer: &ParsedName<'_>) {
+    let base = name_of(rt, case.octets);
+    assert_same(rt, case.name, pointer.starts_with(&base), case.starts);
+    assert_same(rt, case.name, pointer.ends_with(&base), case.ends);
+}
+
+/// Fails unless www.dE., in octets of its own, starts and ends with the base as the case says.
+fn assert_base_of_own_octets(rt: &impl Abort, case: &Base, own: &Name<&[u8]>) {
+    let base = name_of(rt, case.octets);
+    assert_same(rt, case.name, own.starts_with(&&base), case.starts);
+    let ends = own.ends_with(&base.as_parsed());
+    assert_same(rt, case.name, ends, case.ends);
+}
+
 #[test]
 fn starts_and_ends_by_whole_labels(rt: HostRuntime) {
     let pointer = name_at(&rt, NAMES, 8);
     let own = name_of(&rt, b"\x03www\x02dE\x00");
     for case in BASES {
-        let base = name_of(&rt, case.octets);
-        let starts = [pointer.starts_with(&base), own.starts_with(&&base)];
-        assert_same(&rt, case.name, starts, [case.starts; 2]);
-        let ends = [pointer.ends_with(&base), own.ends_with(&base.as_parsed())];
-        assert_same(&rt, case.name, ends, [case.ends; 2]);
+        assert_base(&rt, case, &pointer);
+        assert_base_of_own_octets(&rt, case, &own);
     }
 }
 
@@ -199,15 +227,28 @@ fn held_name(rt: &impl Abort, octets: [u8; 3]) -> Name<[u8; 3]> {
 #[test]
 fn compares_across_buffers(rt: HostRuntime) {
     let name = held_name(&rt, *b"\x01A\x00");
-    let same = held_name(&rt, *b"\x01a\x00");
     let other = name_of(&rt, b"\x01b\x00");
-    let answers = [name == same, name <= same, name.name_eq(&other)];
-    assert_same(&rt, "equality", answers, [true, true, false]);
+    assert_same(&rt, "equality", name.name_eq(&other), false);
+    let order = name.name_cmp(&other);
+    assert_same(&rt, "order", order, Ordering::Less);
+}
+
+#[test]
+fn compares_names_in_arrays(rt: HostRuntime) {
+    let name = held_name(&rt, *b"\x01A\x00");
+    let same = held_name(&rt, *b"\x01a\x00");
+    let answers = [name == same, name <= same];
+    assert_same(&rt, "equality", answers, [true; 2]);
+    let order = name.partial_cmp(&same);
+    assert_same(&rt, "order", order, Some(Ordering::Equal));
+}
+
+#[test]
+fn hashes_names_in_arrays(rt: HostRuntime) {
+    let name = held_name(&rt, *b"\x01A\x00");
+    let same = held_name(&rt, *b"\x01a\x00");
     let hashes = [hash_of(&same), hash_of(&name.as_parsed())];
     assert_same(&rt, "hashes", hashes, [hash_of(&name); 2]);
-    let orders = (name.name_cmp(&other), name.partial_cmp(&same));
-    let expected = (Ordering::Less, Some(Ordering::Equal));
-    assert_same(&rt, "order", orders, expected);
 }
 
 /// The first label of the name in these octets.
@@ -220,10 +261,15 @@ fn first_label<'a>(rt: &impl Abort, octets: &'a [u8]) -> Label<'a> {
 fn compares_labels_lowercased(rt: HostRuntime) {
     let label = first_label(&rt, b"\x02aB\x00");
     let same = first_label(&rt, b"\x02Ab\x00");
-    // In ASCII, the bracket is between the upper-case and the lower-case letters.
-    let bracket = first_label(&rt, b"\x02a[\x00");
     let equal = [label == same, hash_of(&label) == hash_of(&same)];
     assert_same(&rt, "equality", equal, [true; 2]);
-    let order = (compare(&label, &same), bracket < label);
-    assert_same(&rt, "order", order, (Ordering::Equal, true));
+    assert_same(&rt, "order", compare(&label, &same), Ordering::Equal);
+}
+
+/// In ASCII, the bracket is between the upper-case and the lower-case letters.
+#[test]
+fn orders_labels_lowercased(rt: HostRuntime) {
+    let label = first_label(&rt, b"\x02aB\x00");
+    let bracket = first_label(&rt, b"\x02a[\x00");
+    assert_same(&rt, "a bracket", bracket < label, true);
 }

@@ -7,9 +7,8 @@ use crate::asserts::assert_same;
 use crate::steps::append_name;
 use dns_target::{FingerprintCompressor, HashCompressor, StaticCompressor, TreeCompressor};
 use dns_wire::Composer;
-use std::alloc::{AllocError, Global};
+use std::alloc::Global;
 use std::process::Abort;
-use std::test::Fail;
 
 const ROOT: &[u8] = b"\x00";
 
@@ -48,37 +47,38 @@ const POINTER_LEN: usize = 2;
 
 /// The octets of a name by each choice for it after earlier names: a pointer in place of each
 /// suffix that ends an earlier name, and no pointer. All labels have one octet.
-fn choice_lens(alloc: Global, earlier: &[&[u8]], name: &[u8]) -> Result<Vec<usize>, AllocError> {
+fn choice_lens(rt: &impl Abort, alloc: Global, earlier: &[&[u8]], name: &[u8]) -> Vec<usize> {
     let mut lens = Vec::new(alloc);
     for count in 0..name.len() / LABEL_LEN {
         let offset = count * LABEL_LEN;
         if earlier.iter().any(|other| other.ends_with(&name[offset..])) {
-            lens.push(offset + POINTER_LEN)?;
+            lens.push(offset + POINTER_LEN).expect(rt, "memory");
         }
     }
-    lens.push(name.len())?;
-    Ok(lens)
+    lens.push(name.len()).expect(rt, "memory");
+    lens
 }
 
 /// The sum of each length and each choice.
-fn longer_lens(alloc: Global, lens: &[usize], choices: &[usize]) -> Result<Vec<usize>, AllocError> {
+fn longer_lens(rt: &impl Abort, alloc: Global, lens: &[usize], choices: &[usize]) -> Vec<usize> {
     let mut longer = Vec::new(alloc);
     for len in lens {
         for choice in choices {
-            longer.push(len.saturating_add(*choice))?;
+            let sum = len.saturating_add(*choice);
+            longer.push(sum).expect(rt, "memory");
         }
     }
-    Ok(longer)
+    longer
 }
 
 /// The octets of each compression of a list of names: one choice for each name.
-fn compression_lens(alloc: Global, names: &[&[u8]]) -> Result<Vec<usize>, AllocError> {
-    let mut lens = vec![in alloc; 0]?;
+fn compression_lens(rt: &impl Abort, alloc: Global, names: &[&[u8]]) -> Vec<usize> {
+    let mut lens = vec![in alloc; 0].expect(rt, "memory");
     for count in 0..names.len() {
-        let choices = choice_lens(alloc, &names[..count], names[count])?;
-        lens = longer_lens(alloc, &lens, &choices)?;
+        let choices = choice_lens(rt, alloc, &names[..count], names[count]);
+        lens = longer_lens(rt, alloc, &lens, &choices);
     }
-    Ok(lens)
+    lens
 }
 
 /// Fails unless the names take `len` octets on an empty target.
@@ -99,30 +99,44 @@ fn assert_written<T: Composer>(
 
 /// Checks that each compressor writes the names in as many octets as their shortest compression
 /// has. Returns the number of compressions.
-fn assert_shortest(rt: &impl Abort, alloc: Global, names: &[&[u8]]) -> Result<usize, AllocError> {
-    let lens = compression_lens(alloc, names)?;
-    let least = lens.iter().min().copied();
+fn assert_shortest(rt: &impl Abort, alloc: Global, names: &[&[u8]]) -> usize {
+    let lens = compression_lens(rt, alloc, names);
+    assert_len(rt, alloc, names, lens.iter().min().copied());
+    lens.len()
+}
+
+/// Fails unless the names take `len` octets on each compressor.
+fn assert_len(rt: &impl Abort, alloc: Global, names: &[&[u8]], len: Option<usize>) {
     let offsets = StaticCompressor::new(Vec::new(alloc));
-    assert_written(rt, "a static compressor", offsets, names, least);
+    assert_written(rt, "a static compressor", offsets, names, len);
     let tree = TreeCompressor::new(alloc, Vec::new(alloc));
-    assert_written(rt, "a tree compressor", tree, names, least);
+    assert_written(rt, "a tree compressor", tree, names, len);
     let hash = HashCompressor::new(alloc, Vec::new(alloc));
-    assert_written(rt, "a hash compressor", hash, names, least);
+    assert_written(rt, "a hash compressor", hash, names, len);
     let fingerprints = FingerprintCompressor::new(alloc, Vec::new(alloc));
-    assert_written(rt, "a fingerprint compressor", fingerprints, names, least);
-    Ok(lens.len())
+    assert_written(rt, "a fingerprint compressor", fingerprints, names, len);
 }
 
 /// Checks the same for each list of these names and one more. Returns the number of their
 /// compressions.
-fn assert_longer(rt: &impl Abort, alloc: Global, names: &[&[u8]]) -> Result<usize, AllocError> {
+fn assert_longer(rt: &impl Abort, alloc: Global, names: &[&[u8]]) -> usize {
     let mut count: usize = 0;
     for &name in NAMES {
-        let mut list = Vec::from_slice(alloc, names)?;
-        list.push(name)?;
-        count = count.saturating_add(assert_shortest(rt, alloc, &list)?);
+        let mut list = Vec::from_slice(alloc, names).expect(rt, "memory");
+        list.push(name).expect(rt, "memory");
+        count = count.saturating_add(assert_shortest(rt, alloc, &list));
     }
-    Ok(count)
+    count
+}
+
+/// Checks the same for each list of this name, any other and one more. Returns the number of their
+/// compressions.
+fn assert_longest(rt: &impl Abort, alloc: Global, first: &[u8]) -> usize {
+    let mut count: usize = 0;
+    for &second in NAMES {
+        count = count.saturating_add(assert_longer(rt, alloc, &[first, second]));
+    }
+    count
 }
 
 /// The number of compressions that all lists of no name, of one, of two and of three names have,
@@ -136,17 +150,15 @@ fn assert_longer(rt: &impl Abort, alloc: Global, names: &[&[u8]]) -> Result<usiz
 const COUNTS: [usize; 4] = [1, 13, 226, 4519];
 
 #[test]
-fn none_is_shorter_than_what_is_written(rt: HostRuntime) -> Result<(), Fail> {
+fn none_is_shorter_than_what_is_written(rt: HostRuntime) {
     let alloc = rt.alloc();
-    let none = assert_shortest(&rt, alloc, &[])?;
-    let one = assert_longer(&rt, alloc, &[])?;
+    let none = assert_shortest(&rt, alloc, &[]);
+    let one = assert_longer(&rt, alloc, &[]);
     let mut two: usize = 0;
     let mut three: usize = 0;
     for &first in NAMES {
-        two = two.saturating_add(assert_longer(&rt, alloc, &[first])?);
-        for &second in NAMES {
-            three = three.saturating_add(assert_longer(&rt, alloc, &[first, second])?);
-        }
+        two = two.saturating_add(assert_longer(&rt, alloc, &[first]));
+        three = three.saturating_add(assert_longest(&rt, alloc, first));
     }
     assert_same(
         &rt,
@@ -154,7 +166,6 @@ fn none_is_shorter_than_what_is_written(rt: HostRuntime) -> Result<(), Fail> {
         [none, one, two, three],
         COUNTS,
     );
-    Ok(())
 }
 
 /// A list of names, and the octets of each of its compressions.
@@ -208,10 +219,9 @@ const BY_HAND: &[Case] = &[
 ];
 
 #[test]
-fn compressions_by_hand(rt: HostRuntime) -> Result<(), Fail> {
+fn compressions_by_hand(rt: HostRuntime) {
     for case in BY_HAND {
-        let lens = compression_lens(rt.alloc(), case.names)?;
+        let lens = compression_lens(&rt, rt.alloc(), case.names);
         assert_same(&rt, case.name, lens.as_slice(), case.lens);
     }
-    Ok(())
 }

@@ -306,15 +306,27 @@ fn write_nothing<T: Composer>(target: &mut T) {
     }
 }
 
+/// A tree compressor with the name de.
+fn with_de(rt: &impl Abort, alloc: Global) -> TreeCompressor<Vec<u8>> {
+    let mut target = TreeCompressor::new(alloc, Vec::new(alloc));
+    take(rt, "a name", &mut target, Step::Name(DE, Ok(DE)));
+    target
+}
+
+#[test]
+fn lends_its_target(rt: HostRuntime) {
+    let row = "a tree compressor";
+    let target = with_de(&rt, rt.alloc());
+    assert_same(&rt, row, target.can_compress(), true);
+    assert_octets(&rt, row, octets_of(&target), DE);
+    assert_octets(&rt, row, target.as_target().as_slice(), DE);
+}
+
 #[test]
 fn gives_its_target(rt: HostRuntime) {
-    let row = "a tree compressor";
-    let mut target = TreeCompressor::new(rt.alloc(), Vec::new(rt.alloc()));
-    take(&rt, row, &mut target, Step::Name(DE, Ok(DE)));
-    assert_same(&rt, row, target.can_compress(), true);
-    assert_same(&rt, row, octets_of(&target), DE);
-    assert_same(&rt, row, target.as_target().as_slice(), DE);
+    let mut target = with_de(&rt, rt.alloc());
     write_nothing(&mut target);
     let clone = target.clone().expect(&rt, "a clone");
-    assert_same(&rt, row, clone.into_target().as_slice(), DE);
+    let target = clone.into_target();
+    assert_octets(&rt, "a tree compressor", target.as_slice(), DE);
 }

@@ -1,7 +1,8 @@
 //! Headers, flags and counts of messages.
-use crate::asserts::{assert_octets, assert_prints, assert_same};
+use crate::asserts::{assert_octets, assert_prints, assert_same, parser_at};
 use dns_code::{Flags, Header, HeaderCounts, HeaderSection, Opcode, Rcode};
 use dns_wire::{ParseError, Parser};
+use std::alloc::Global;
 use std::process::Abort;
 
 const SECTION: [u8; 12] = *b"\x01\x02\x00\x00\x12\x34\x56\x78\x9a\xbc\xde\xf0";
@@ -29,25 +30,38 @@ const ALL_FLAGS: Flags = Flags {
 /// Header and counts of a slice: the header is the first four octets, and the counts the others.
 #[test]
 fn takes_a_slice_of_a_message(rt: HostRuntime) {
+    let header = Header::for_message_slice(&SECTION);
+    assert_octets(&rt, "the header", header.as_slice(), b"\x01\x02\x00\x00");
+    let counts = HeaderCounts::for_message_slice(&SECTION);
+    assert_octets(&rt, "the counts", counts.as_slice(), &SECTION[4..]);
+    let section = HeaderSection::for_message_slice(&SECTION);
+    assert_octets(&rt, "the section", section.as_slice(), &SECTION);
+}
+
+#[test]
+fn has_the_parts_of_a_section(rt: HostRuntime) {
     let section = HeaderSection::for_message_slice(&SECTION);
     let header = Header::for_message_slice(&SECTION);
+    assert_same(&rt, "the header", section.header(), header);
     let counts = HeaderCounts::for_message_slice(&SECTION);
-    assert_octets(&rt, "the header", header.as_slice(), b"\x01\x02\x00\x00");
-    assert_octets(&rt, "the counts", counts.as_slice(), &SECTION[4..]);
-    assert_octets(&rt, "the section", section.as_slice(), &SECTION);
-    let parts = (section.header(), section.counts());
-    assert_same(&rt, "the parts", parts, (header, counts));
+    assert_same(&rt, "the counts", section.counts(), counts);
 }
 
 #[test]
 fn parses_a_section(rt: HostRuntime) {
     let mut parser = Parser::new(&SECTION);
-    let parsed = HeaderSection::parse(&mut parser);
+    let parsed = HeaderSection::parse(&mut parser).expect(&rt, "a section");
     let section = HeaderSection::for_message_slice(&SECTION);
-    assert_same(&rt, "a section", (parsed, parser.pos()), (Ok(section), 12));
+    assert_same(&rt, "a section", parsed, section);
+    assert_same(&rt, "after a section", parser.pos(), 12);
+}
+
+#[test]
+fn parses_no_second_section(rt: HostRuntime) {
+    let mut parser = parser_at(&rt, &SECTION, 12);
     let missing = HeaderSection::parse(&mut parser).err();
-    let short = Some(ParseError::ShortInput);
-    assert_same(&rt, "no section", (missing, parser.pos()), (short, 12));
+    assert_same(&rt, "no section", missing, Some(ParseError::ShortInput));
+    assert_same(&rt, "after no section", parser.pos(), 12);
 }
 
 #[test]
@@ -55,9 +69,8 @@ fn composes_a_section(rt: HostRuntime) {
     let section = HeaderSection::for_message_slice(&SECTION);
     let mut target = Vec::new(rt.alloc());
     let answer = section.compose(&mut target);
-    let composed = (answer, target.as_slice());
-    let expected = (Ok(()), SECTION.as_slice());
-    assert_same(&rt, "a section", composed, expected);
+    assert_same(&rt, "composing", answer, Ok(()));
+    assert_octets(&rt, "a section", target.as_slice(), &SECTION);
 }
 
 #[test]
@@ -77,16 +90,22 @@ fn assert_header(
     codes: (Opcode, Rcode),
     flags: Flags,
 ) {
-    assert_same(rt, row, (header.id(), header.z()), (id, false));
+    assert_same(rt, row, header.id(), id);
+    assert_same(rt, row, header.z(), false);
     assert_same(rt, row, (header.opcode(), header.rcode()), codes);
     assert_same(rt, row, header.flags(), flags);
 }
 
 #[test]
+fn begins_with_no_field_set(rt: HostRuntime) {
+    let codes = (Opcode::QUERY, Rcode::NOERROR);
+    let header = Header::new();
+    assert_header(&rt, "no field is set", header, 0, codes, Flags::new());
+}
+
+#[test]
 fn keeps_each_field_apart(rt: HostRuntime) {
     let mut header = Header::new();
-    let codes = (Opcode::QUERY, Rcode::NOERROR);
-    assert_header(&rt, "no field is set", header, 0, codes, Flags::new());
     header.set_id(0x1234);
     header.set_opcode(Opcode::NOTIFY);
     header.set_rcode(Rcode::REFUSED);
@@ -131,15 +150,18 @@ fn all_of(header: Header) -> [bool; 8] {
     ]
 }
 
+/// Fails unless each flag and the Z bit can be set or cleared, and the header has these octets then.
+fn assert_sets(rt: &impl Abort, row: &str, header: &mut Header, set: bool, octets: &[u8]) {
+    set_all(header, set);
+    assert_octets(rt, row, header.as_slice(), octets);
+    assert_same(rt, row, all_of(*header), [set; 8]);
+}
+
 #[test]
 fn sets_each_flag(rt: HostRuntime) {
     let mut header = Header::new();
-    set_all(&mut header, true);
-    assert_octets(&rt, "all set", header.as_slice(), b"\x00\x00\x87\xF0");
-    assert_same(&rt, "all set", all_of(header), [true; 8]);
-    set_all(&mut header, false);
-    assert_octets(&rt, "none set", header.as_slice(), b"\x00\x00\x00\x00");
-    assert_same(&rt, "none set", all_of(header), [false; 8]);
+    assert_sets(&rt, "all set", &mut header, true, b"\x00\x00\x87\xF0");
+    assert_sets(&rt, "none set", &mut header, false, b"\x00\x00\x00\x00");
 }
 
 /// A header with each flag and the Z bit set.
@@ -148,7 +170,7 @@ fn with_all_flags() -> Header {
 }
 
 #[test]
-fn clears_every_other_flag(rt: HostRuntime) {
+fn clears_qr_and_every_other_flag(rt: HostRuntime) {
     let mut header = with_all_flags();
     header.set_qr(false);
     header.set_tc(false);
@@ -156,6 +178,10 @@ fn clears_every_other_flag(rt: HostRuntime) {
     header.set_ad(false);
     let octets = b"\x00\x00\x05\x50";
     assert_octets(&rt, "AA, RD, Z and CD stay", header.as_slice(), octets);
+}
+
+#[test]
+fn clears_aa_and_every_other_flag(rt: HostRuntime) {
     let mut header = with_all_flags();
     header.set_aa(false);
     header.set_rd(false);
@@ -179,83 +205,88 @@ fn writes_four_bits_of_an_opcode(rt: HostRuntime) {
 struct FlagText {
     name: &'static str,
     text: &'static str,
-    read: Option<(Flags, &'static str)>,
+    flags: Option<Flags>,
+    printed: &'static str,
 }
 
 const FLAG_TEXTS: &[FlagText] = &[
     FlagText {
         name: "Flags texts: any order and letter case",
         text: "tC Aa CD rd",
-        read: Some((
-            Flags {
-                aa: true,
-                tc: true,
-                rd: true,
-                cd: true,
-                ..NO_FLAG
-            },
-            "AA TC RD CD",
-        )),
+        flags: Some(Flags {
+            aa: true,
+            tc: true,
+            rd: true,
+            cd: true,
+            ..NO_FLAG
+        }),
+        printed: "AA TC RD CD",
     },
     FlagText {
         name: "Flags texts: an unknown flag",
         text: "XXXX",
-        read: None,
+        flags: None,
+        printed: "",
     },
     FlagText {
         name: "Flags texts: no flag",
         text: "",
-        read: Some((NO_FLAG, "")),
+        flags: Some(NO_FLAG),
+        printed: "",
     },
     FlagText {
         name: "Flags texts: all flags",
         text: "QR AA TC RD RA AD CD",
-        read: Some((ALL_FLAGS, "QR AA TC RD RA AD CD")),
+        flags: Some(ALL_FLAGS),
+        printed: "QR AA TC RD RA AD CD",
     },
     FlagText {
         name: "Flags with extra spaces",
         text: "  qr  aa ",
-        read: Some((
-            Flags {
-                qr: true,
-                aa: true,
-                ..NO_FLAG
-            },
-            "QR AA",
-        )),
+        flags: Some(Flags {
+            qr: true,
+            aa: true,
+            ..NO_FLAG
+        }),
+        printed: "QR AA",
     },
     FlagText {
         name: "Flags with other separators: a comma",
         text: "QR,AA",
-        read: None,
+        flags: None,
+        printed: "",
     },
     FlagText {
         name: "Flags with other separators: a tab",
         text: "QR\tAA",
-        read: None,
+        flags: None,
+        printed: "",
     },
     FlagText {
         name: "two flags",
         text: "RD CD",
-        read: Some((
-            Flags {
-                rd: true,
-                cd: true,
-                ..NO_FLAG
-            },
-            "RD CD",
-        )),
+        flags: Some(Flags {
+            rd: true,
+            cd: true,
+            ..NO_FLAG
+        }),
+        printed: "RD CD",
     },
 ];
+
+/// Fails unless the text is read as its flags, which are printed as the case says.
+fn assert_flags(rt: &impl Abort, alloc: Global, case: &FlagText) {
+    let read = case.text.parse::<Flags>().ok();
+    assert_same(rt, case.name, read, case.flags);
+    if let Some(flags) = case.flags {
+        assert_prints(rt, alloc, case.name, &flags, case.printed);
+    }
+}
 
 #[test]
 fn reads_and_prints_flags(rt: HostRuntime) {
     for case in FLAG_TEXTS {
-        let read = case.text.parse::<Flags>().ok();
-        assert_same(&rt, case.name, read, case.read.map(|(flags, _)| flags));
-        if let Some((flags, printed)) = case.read {
-            assert_prints(&rt, rt.alloc(), case.name, &flags, printed);
-        }
+        assert_flags(&rt, rt.alloc(), case);
     }
 }
 
@@ -264,41 +295,54 @@ fn some_counts() -> HeaderCounts {
     HeaderCounts::for_message_slice(b"\x00\x00\x00\x00\x01\x02\x03\x04\x05\x06\x07\x08")
 }
 
+/// The counts that these are.
+const SOME_COUNTS: [u16; 4] = [0x0102, 0x0304, 0x0506, 0x0708];
+
 #[test]
-fn has_counts_by_two_names(rt: HostRuntime) {
+fn has_counts_of_a_query(rt: HostRuntime) {
     let counts = some_counts();
-    let expected = [0x0102, 0x0304, 0x0506, 0x0708];
     let query = [
         counts.qdcount(),
         counts.ancount(),
         counts.nscount(),
         counts.arcount(),
     ];
-    assert_same(&rt, "counts of a query", query, expected);
+    assert_same(&rt, "counts of a query", query, SOME_COUNTS);
+}
+
+#[test]
+fn has_counts_of_an_update(rt: HostRuntime) {
+    let counts = some_counts();
     let update = [
         counts.zocount(),
         counts.prcount(),
         counts.upcount(),
         counts.adcount(),
     ];
-    assert_same(&rt, "counts of an update", update, expected);
+    assert_same(&rt, "counts of an update", update, SOME_COUNTS);
 }
 
+/// Counts of 0x0807, 0x0605, 0x0403 and 0x0201.
+const OTHER_COUNTS: &[u8] = b"\x08\x07\x06\x05\x04\x03\x02\x01";
+
 #[test]
-fn sets_counts_by_two_names(rt: HostRuntime) {
-    let expected = b"\x08\x07\x06\x05\x04\x03\x02\x01";
+fn sets_counts_of_a_query(rt: HostRuntime) {
     let mut counts = HeaderCounts::new();
     counts.set_qdcount(0x0807);
     counts.set_ancount(0x0605);
     counts.set_nscount(0x0403);
     counts.set_arcount(0x0201);
-    assert_octets(&rt, "counts of a query", counts.as_slice(), expected);
+    assert_octets(&rt, "counts of a query", counts.as_slice(), OTHER_COUNTS);
+}
+
+#[test]
+fn sets_counts_of_an_update(rt: HostRuntime) {
     let mut update = HeaderCounts::new();
     update.set_zocount(0x0807);
     update.set_prcount(0x0605);
     update.set_upcount(0x0403);
     update.set_adcount(0x0201);
-    assert_octets(&rt, "counts of an update", update.as_slice(), expected);
+    assert_octets(&rt, "counts of an update", update.as_slice(), OTHER_COUNTS);
     update.set(HeaderCounts::new());
     assert_octets(&rt, "no counts", update.as_slice(), &[0; 8]);
 }
@@ -330,16 +374,16 @@ fn lower(counts: &mut HeaderCounts) {
 }
 
 #[test]
-fn counts_up_and_down(rt: HostRuntime) {
+fn counts_up(rt: HostRuntime) {
     let mut counts = some_counts();
-    assert_same(
-        &rt,
-        "Counts go up: no error",
-        raise(&mut counts),
-        [false; 4],
-    );
+    let refused = raise(&mut counts);
+    assert_same(&rt, "Counts go up: no error", refused, [false; 4]);
     let raised = b"\x01\x03\x03\x05\x05\x07\x07\x09";
     assert_octets(&rt, "Counts go up", counts.as_slice(), raised);
+}
+
+#[test]
+fn counts_down(rt: HostRuntime) {
     let mut counts = some_counts();
     lower(&mut counts);
     let lowered = b"\x01\x01\x03\x03\x05\x05\x07\x07";
@@ -376,26 +420,35 @@ const NEARLY_FULL: &[NearlyFull] = &[
     },
 ];
 
+/// Fails unless the message's counts can be raised to 65,535 each, and no further.
+fn assert_raised(rt: &impl Abort, case: &NearlyFull) {
+    let message = case.message;
+    let mut counts = HeaderCounts::for_message_slice(message);
+    assert_same(rt, case.name, raise(&mut counts), case.refused);
+    assert_same(rt, case.name, raise(&mut counts), [true; 4]);
+    assert_octets(rt, case.name, counts.as_slice(), &[0xff; 8]);
+}
+
 #[test]
 fn raises_each_count_to_65535(rt: HostRuntime) {
     for case in NEARLY_FULL {
-        let message = case.message;
-        let mut counts = HeaderCounts::for_message_slice(message);
-        assert_same(&rt, case.name, raise(&mut counts), case.refused);
-        assert_same(&rt, case.name, raise(&mut counts), [true; 4]);
-        assert_octets(&rt, case.name, counts.as_slice(), &[0xff; 8]);
+        assert_raised(&rt, case);
     }
 }
 
 #[test]
-fn prints_errors(rt: HostRuntime) {
-    let alloc = rt.alloc();
+fn prints_count_errors(rt: HostRuntime) {
     let overflow = HeaderCounts::for_message_slice(&[0xff; 12])
         .inc_qdcount()
         .err()
         .expect(&rt, "no overflow");
     let text = "increasing a header count lead to an overflow";
-    assert_prints(&rt, alloc, "a full count", &overflow, text);
+    assert_prints(&rt, rt.alloc(), "a full count", &overflow, text);
+}
+
+#[test]
+fn prints_flag_errors(rt: HostRuntime) {
     let token = "XXXX".parse::<Flags>().err().expect(&rt, "no error");
-    assert_prints(&rt, alloc, "an unknown flag", &token, "illegal flags token");
+    let text = "illegal flags token";
+    assert_prints(&rt, rt.alloc(), "an unknown flag", &token, text);
 }

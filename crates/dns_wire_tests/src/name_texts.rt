@@ -1,8 +1,8 @@
 //! Names in presentation format, read and printed.
-use crate::asserts::{assert_prints, assert_same, name_at, name_of};
+use crate::asserts::{assert_octets, assert_prints, assert_same, name_at, name_of};
 use arrayvec::ArrayVec;
 use dns_wire::name::{FromStrError, PresentationError};
-use dns_wire::{Name, ToName};
+use dns_wire::{Name, ParsedName, ToName};
 use std::alloc::Global;
 use std::fmt::Display;
 use std::process::Abort;
@@ -115,15 +115,22 @@ fn assert_read<T: ToName + Display + Drop>(
     case: &Case,
     read: Result<T, FromStrError>,
 ) {
-    let expected = case.octets.map_err(FromStrError::Presentation);
     match read {
         Ok(name) => {
-            let octets = name.as_parsed().uncompressed();
-            assert_same(rt, case.name, Ok(octets.as_slice()), expected);
+            assert_name(rt, case, &name.as_parsed());
             assert_prints(rt, alloc, case.name, &name, case.printed);
         }
-        Err(fault) => assert_same(rt, case.name, Err(fault), expected),
+        Err(fault) => {
+            let expected = case.octets.err().map(FromStrError::Presentation);
+            assert_same(rt, case.name, Some(fault), expected);
+        }
     }
+}
+
+/// Fails unless the name is that of the case.
+fn assert_name(rt: &impl Abort, case: &Case, name: &ParsedName<'_>) {
+    let expected = case.octets.expect(rt, case.name);
+    assert_octets(rt, case.name, name.uncompressed().as_slice(), expected);
 }
 
 #[test]
@@ -196,13 +203,17 @@ const FAULTS: &[Fault] = &[
     },
 ];
 
+/// Fails unless the error is printed as its text.
+fn assert_fault(rt: &impl Abort, alloc: Global, case: &Fault) {
+    assert_prints(rt, alloc, case.name, &case.error, case.text);
+    if let FromStrError::Presentation(error) = &case.error {
+        assert_prints(rt, alloc, case.name, error, case.text);
+    }
+}
+
 #[test]
 fn prints_errors(rt: HostRuntime) {
-    let alloc = rt.alloc();
     for case in FAULTS {
-        assert_prints(&rt, alloc, case.name, &case.error, case.text);
-        if let FromStrError::Presentation(error) = &case.error {
-            assert_prints(&rt, alloc, case.name, error, case.text);
-        }
+        assert_fault(&rt, rt.alloc(), case);
     }
 }

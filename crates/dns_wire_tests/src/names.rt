@@ -4,6 +4,7 @@ use crate::asserts::{assert_octets, assert_prints, assert_same, name_at, name_of
 use dns_wire::{
     Composer, FormError, Label, LabelIter, Name, ParseError, ParsedName, Parser, ToName, ToNameExt,
 };
+use std::alloc::Global;
 use std::process::Abort;
 
 const BAD_LABEL: ParseError = ParseError::Form(FormError::BAD_LABEL);
@@ -121,17 +122,19 @@ fn assert_parsed(
     offset: usize,
 ) {
     match ParsedName::parse(parser) {
-        Ok(name) => {
-            let octets = name.uncompressed();
-            assert_same(rt, row, Ok(octets.as_slice()), expected);
-            let is_root = octets.as_slice() == b"\x00".as_slice();
-            let shape = (name.compose_len(), name.is_root());
-            assert_same(rt, row, shape, (octets.len(), is_root));
-            assert_same(rt, row, name.label_count(), name.iter_labels().count());
-        }
-        Err(fault) => assert_same(rt, row, Err(fault), expected),
+        Ok(name) => assert_name(rt, row, name, expected.expect(rt, row)),
+        Err(fault) => assert_same(rt, row, Some(fault), expected.err()),
     }
     assert_same(rt, row, parser.pos(), offset);
+}
+
+/// Fails unless the name has these octets uncompressed.
+fn assert_name(rt: &impl Abort, row: &str, name: ParsedName<'_>, octets: &[u8]) {
+    assert_octets(rt, row, name.uncompressed().as_slice(), octets);
+    assert_same(rt, row, name.compose_len(), octets.len());
+    let is_root = octets == b"\x00".as_slice();
+    assert_same(rt, row, name.is_root(), is_root);
+    assert_same(rt, row, name.label_count(), name.iter_labels().count());
 }
 
 /// Skips a name, and checks that the parser is at offset `offset` then.
@@ -143,23 +146,33 @@ fn assert_skipped(
     offset: usize,
 ) {
     let skipped = ParsedName::skip(parser).err();
-    assert_same(rt, row, (skipped, parser.pos()), (fault, offset));
+    assert_same(rt, row, skipped, fault);
+    assert_same(rt, row, parser.pos(), offset);
+}
+
+/// Fails unless a name is parsed as the case says.
+fn assert_parses(rt: &impl Abort, case: &Case) {
+    let offset = if case.parsed.is_ok() {
+        case.skipped.unwrap_or(case.offset)
+    } else {
+        case.offset
+    };
+    let mut parser = parser_at(rt, case.message, case.offset);
+    assert_parsed(rt, case.name, &mut parser, case.parsed, offset);
+}
+
+/// Fails unless a name is skipped as the case says.
+fn assert_skips(rt: &impl Abort, case: &Case) {
+    let offset = case.skipped.unwrap_or(case.offset);
+    let mut parser = parser_at(rt, case.message, case.offset);
+    assert_skipped(rt, case.name, &mut parser, case.skipped.err(), offset);
 }
 
 #[test]
 fn parses_and_skips(rt: HostRuntime) {
     for case in CASES {
-        let row = case.name;
-        let after = case.skipped.unwrap_or(case.offset);
-        let parsed = if case.parsed.is_ok() {
-            after
-        } else {
-            case.offset
-        };
-        let mut parser = parser_at(&rt, case.message, case.offset);
-        assert_parsed(&rt, row, &mut parser, case.parsed, parsed);
-        let mut parser = parser_at(&rt, case.message, case.offset);
-        assert_skipped(&rt, row, &mut parser, case.skipped.err(), after);
+        assert_parses(&rt, case);
+        assert_skips(&rt, case);
     }
 }
 
@@ -214,10 +227,19 @@ fn has_at_most_255_octets(rt: HostRuntime) {
     let longest = longest_name();
     let mut parser = Parser::new(&longest);
     assert_parsed(&rt, "Longest name", &mut parser, Ok(&longest), 255);
+}
+
+#[test]
+fn has_no_256_octets(rt: HostRuntime) {
     let longer = longer_name();
     let refused = Name::from_octets(longer.as_slice()).err();
     assert_same(&rt, "One octet too long", refused, Some(LONG_NAME));
-    // The size is checked before the octets are read.
+}
+
+/// The size is checked before the octets are read.
+#[test]
+fn parses_no_256_octets(rt: HostRuntime) {
+    let longer = longer_name();
     for len in [256, 200] {
         let row = if len == 256 {
             "One octet too long: parsed"
@@ -232,9 +254,9 @@ fn has_at_most_255_octets(rt: HostRuntime) {
 /// Fails unless there is a label with these octets.
 fn assert_label(rt: &impl Abort, row: &str, label: Option<Label<'_>>, octets: &[u8]) {
     let label = label.expect(rt, row);
-    assert_same(rt, row, label.as_slice(), octets);
-    let shape = (label.len(), label.is_root());
-    assert_same(rt, row, shape, (octets.len(), octets.is_empty()));
+    assert_octets(rt, row, label.as_slice(), octets);
+    assert_same(rt, row, label.len(), octets.len());
+    assert_same(rt, row, label.is_root(), octets.is_empty());
 }
 
 fn assert_no_label(rt: &impl Abort, labels: &mut LabelIter<'_>) {
@@ -255,13 +277,17 @@ const LABELS: &[(&str, &[u8])] = &[
 
 #[test]
 fn goes_over_labels(rt: HostRuntime) {
-    let name = name_at(&rt, EXAMPLE, 15);
-    let mut labels = name.iter_labels();
+    let mut labels = name_at(&rt, EXAMPLE, 15).iter_labels();
     for &(row, text) in LABELS {
         assert_label(&rt, row, labels.next(), text);
     }
     assert_no_label(&rt, &mut labels);
-    let longest = name.iter_labels().map(|label| label.len()).max();
+}
+
+#[test]
+fn finds_the_longest_label(rt: HostRuntime) {
+    let labels = name_at(&rt, EXAMPLE, 15).iter_labels();
+    let longest = labels.map(|label| label.len()).max();
     assert_same(&rt, "the longest label", longest, Some(7));
 }
 
@@ -283,31 +309,46 @@ const SUFFIXES: &[(&str, usize)] = &[
     (".", 1),
 ];
 
+/// Fails unless the name is printed as `text`, with a final dot, and has so many labels.
+fn assert_suffix(rt: &impl Abort, alloc: Global, text: &str, name: ParsedName<'_>, count: usize) {
+    assert_prints(rt, alloc, text, &name.fmt_with_dot(), text);
+    assert_same(rt, text, name.label_count(), count);
+}
+
 #[test]
 fn goes_over_suffixes(rt: HostRuntime) {
-    let name = name_at(&rt, EXAMPLE, 15);
-    let mut suffixes = name.iter_suffixes();
-    let mut ancestor = Some(name);
+    let mut suffixes = name_at(&rt, EXAMPLE, 15).iter_suffixes();
     for &(text, count) in SUFFIXES {
         let suffix = suffixes.next().expect(&rt, text);
-        assert_prints(&rt, rt.alloc(), text, &suffix.fmt_with_dot(), text);
-        assert_same(&rt, text, suffix.label_count(), count);
-        assert_same(&rt, text, ancestor, Some(suffix));
+        assert_suffix(&rt, rt.alloc(), text, suffix, count);
+    }
+    assert_same(&rt, "after the root", suffixes.next(), None);
+}
+
+#[test]
+fn goes_over_ancestors(rt: HostRuntime) {
+    let name = name_at(&rt, EXAMPLE, 15);
+    let mut ancestor = Some(name);
+    for suffix in name.iter_suffixes() {
+        assert_same(&rt, "a suffix", ancestor, Some(suffix));
         ancestor = suffix.parent();
     }
     assert_same(&rt, "the parent of the root", ancestor, None);
-    assert_same(&rt, "after the root", suffixes.next(), None);
 }
 
 #[test]
 fn goes_over_suffixes_of_own_octets(rt: HostRuntime) {
     let name = name_of(&rt, b"\x03WwW\x02De\x00");
     assert_same(&rt, "the labels", name.label_count(), 3);
-    let mut suffixes = name.iter_suffixes();
-    let first = suffixes.next().map(|suffix| suffix.label_count());
-    assert_same(&rt, "the labels of the first suffix", first, Some(3));
+    let first = name.iter_suffixes().next().expect(&rt, "a suffix");
+    let count = first.label_count();
+    assert_same(&rt, "the labels of the first suffix", count, 3);
     let parent = name.parent().expect(&rt, "a parent");
     assert_prints(&rt, rt.alloc(), "the parent", &parent.fmt_with_dot(), "De.");
+}
+
+#[test]
+fn has_a_root(rt: HostRuntime) {
     let root = Name::root_slice();
     assert_same(&rt, "the root label", root.label_count(), 1);
     assert_same(&rt, "the parent of the root", root.parent(), None);
@@ -379,6 +420,10 @@ fn takes_whole_octets_alone(rt: HostRuntime) {
         let fault = Name::from_octets(case.octets).err();
         assert_same(&rt, case.name, fault, case.fault);
     }
+}
+
+#[test]
+fn keeps_its_octets(rt: HostRuntime) {
     let name = name_of(&rt, b"\x02Ab\x00");
     assert_octets(&rt, "a name", name.as_slice(), b"\x02Ab\x00");
     let root = Name::root_slice();
@@ -393,16 +438,23 @@ fn assert_is_ab<N: ToName>(rt: &impl Abort, row: &str, name: &N, lent: Option<&[
     assert_same(rt, row, name.as_flat_slice(), lent);
 }
 
+/// Ab., uncompressed.
+const AB: &[u8] = b"\x02Ab\x00";
+
 #[test]
 fn represents_a_name(rt: HostRuntime) {
+    let name = name_of(&rt, AB);
+    assert_is_ab(&rt, "a name", &name, Some(AB));
+    assert_is_ab(&rt, "a name by reference", &&name, Some(AB));
+    let alias = Alias { target: name };
+    assert_is_ab(&rt, "a type of the test's own", &alias, Some(AB));
+}
+
+#[test]
+fn represents_a_parsed_name(rt: HostRuntime) {
     let octets = b"\x02Ab\x00\xC0\x00".as_slice();
-    let ab = Some(b"\x02Ab\x00".as_slice());
-    let name = name_of(&rt, b"\x02Ab\x00");
-    assert_is_ab(&rt, "a name", &name, ab);
-    assert_is_ab(&rt, "a name by reference", &&name, ab);
-    assert_is_ab(&rt, "a parsed name", &name_at(&rt, octets, 0), ab);
+    assert_is_ab(&rt, "a parsed name", &name_at(&rt, octets, 0), Some(AB));
     assert_is_ab(&rt, "a pointer", &name_at(&rt, octets, 4), None);
-    assert_is_ab(&rt, "a type of the test's own", &Alias { target: name }, ab);
 }
 
 /// A type of the test's own that represents a name: it wraps one.
@@ -428,9 +480,8 @@ fn another_type_represents_a_name(rt: HostRuntime) {
     };
     let mut target = Vec::new(rt.alloc());
     let answer = target.append_compressed_name(&alias);
-    let appended = (answer, target.as_slice());
-    let expected = (Ok(()), b"\x01A\x00".as_slice());
-    assert_same(&rt, "an alias appended", appended, expected);
+    assert_same(&rt, "an alias appended", answer, Ok(()));
+    assert_octets(&rt, "an alias", target.as_slice(), b"\x01A\x00");
     let is_equal = alias.name_eq(&name_of(&rt, b"\x01a\x00"));
     assert_same(&rt, "an alias compared", is_equal, true);
 }

@@ -62,16 +62,26 @@ fn assert_converts<T: OctetsFrom<S> + Octets, S>(
 }
 
 #[test]
-fn converts_octets(rt: HostRuntime) {
+fn converts_vectors(rt: HostRuntime) {
     let alloc = rt.alloc();
     let vec = in_memory(&rt, alloc, b"abc");
     assert_converts::<&[u8], _>(&rt, alloc, "a vector to a slice", &vec);
     assert_converts::<Vec<u8>, _>(&rt, alloc, "a vector by reference", &vec);
     assert_converts::<Vec<u8>, _>(&rt, alloc, "a vector", vec);
+}
+
+#[test]
+fn converts_slices_and_arrays(rt: HostRuntime) {
+    let alloc = rt.alloc();
     assert_converts::<Vec<u8>, _>(&rt, alloc, "an array to a vector", *b"abc");
     let slice = b"abc".as_slice();
     assert_converts::<Vec<u8>, _>(&rt, alloc, "a slice to a vector", slice);
     assert_converts::<&[u8], _>(&rt, alloc, "a slice", slice);
+}
+
+#[test]
+fn converts_array_vectors(rt: HostRuntime) {
+    let alloc = rt.alloc();
     let row = "an array by reference to an array vector";
     assert_converts::<ArrayVec<u8, 3>, _>(&rt, alloc, row, b"abc");
     let full = ArrayVec::<u8, 3>::from(*b"abc");
@@ -130,13 +140,15 @@ fn converts_borrowed_names(rt: HostRuntime) {
     let row = "a slice to an array vector";
     assert_names::<Name<ArrayVec<u8, 13>>, _>(&rt, alloc, row, slice, &name);
     assert_names::<Name<&[u8]>, _>(&rt, alloc, "a slice", slice, &name);
-    let short = gives_name::<Name<ArrayVec<u8, 12>>, _>(alloc, slice, &name);
-    assert_same(
-        &rt,
-        "a capacity of twelve octets",
-        short,
-        Err(AppendError::ShortBuf),
-    );
+}
+
+#[test]
+fn refuses_names_that_exceed_the_capacity(rt: HostRuntime) {
+    let name = name_at(&rt, POINTED, 5);
+    let slice = name_of(&rt, &PLAIN);
+    let short = gives_name::<Name<ArrayVec<u8, 12>>, _>(rt.alloc(), slice, &name);
+    let expected = Err(AppendError::ShortBuf);
+    assert_same(&rt, "a capacity of twelve octets", short, expected);
 }
 
 #[test]
@@ -149,6 +161,12 @@ fn converts_names_of_their_own_octets(rt: HostRuntime) {
     let row = "an array vector by reference";
     assert_names::<Name<ArrayVec<u8, 13>>, _>(&rt, alloc, row, &held, &name);
     assert_names::<Name<Vec<u8>>, _>(&rt, alloc, "an array vector to a vector", held, &name);
+}
+
+#[test]
+fn converts_names_in_memory(rt: HostRuntime) {
+    let alloc = rt.alloc();
+    let name = name_at(&rt, POINTED, 5);
     let long = name_in_memory(&rt, alloc);
     assert_names::<Name<&[u8]>, _>(&rt, alloc, "a vector to a slice", &long, &name);
 }
@@ -194,21 +212,22 @@ fn held_clone_of(name: &Name<ArrayVec<u8, 13>>) -> Result<Name<ArrayVec<u8, 13>>
     name.clone()
 }
 
-/// Name conversions and clones: clones of names.
+/// Name conversions and clones: copies and clones of names in slices.
 #[test]
-fn clones_names(rt: HostRuntime) {
+fn clones_slices(rt: HostRuntime) {
     let slice = name_of(&rt, &PLAIN);
-    let held = held_name(&rt);
-    assert_same(
-        &rt,
-        "a copy of a slice",
-        copy_of(&slice).octets_eq(&slice),
-        true,
-    );
-    let held_clone = held_clone_of(&held).expect(&rt, "a clone");
-    let is_equal = held_clone.octets_eq(&slice);
-    assert_same(&rt, "an array vector, which never fails", is_equal, true);
+    let is_equal = copy_of(&slice).octets_eq(&slice);
+    assert_same(&rt, "a copy of a slice", is_equal, true);
     assert_same(&rt, "a slice", clones(&slice), Ok(true));
+}
+
+/// Name conversions and clones: clones of names in octets of their own.
+#[test]
+fn clones_names_of_their_own_octets(rt: HostRuntime) {
+    let held = held_name(&rt);
+    let held_clone = held_clone_of(&held).expect(&rt, "a clone");
+    let is_equal = held_clone.octets_eq(&name_of(&rt, &PLAIN));
+    assert_same(&rt, "an array vector, which never fails", is_equal, true);
     assert_same(&rt, "an array vector", clones(&held), Ok(true));
     let cloned = clones(&name_in_memory(&rt, rt.alloc()));
     assert_same(&rt, "a vector", cloned, Ok(true));

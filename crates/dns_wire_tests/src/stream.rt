@@ -44,12 +44,12 @@ fn growing(rt: &impl Abort, alloc: Global) -> StreamTarget<Vec<u8>>
 #[test]
 fn has_capacity_for_the_length(rt: HostRuntime) {
     let refused = StreamTarget::new(ArrayVec::<u8, 1>::new()).err();
-    assert_same(
-        &rt,
-        "No room for prefix or header: a capacity of one octet",
-        refused,
-        Some(SHORT),
-    );
+    let row = "No room for prefix or header: a capacity of one octet";
+    assert_same(&rt, row, refused, Some(SHORT));
+}
+
+#[test]
+fn is_empty_after_the_length(rt: HostRuntime) {
     let target = fixed(&rt, ArrayVec::<u8, 2>::from(*b"ab"));
     assert_message(&rt, "a capacity of two octets", &target, b"", b"\x00\x00");
 }
@@ -59,18 +59,34 @@ const ABC: &[Step] = &[
     Step::Name(b"\x01C\x00", Ok(b"\x01C\x00")),
 ];
 
+/// A stream target with the message of these steps.
+fn with_abc(rt: &impl Abort, alloc: Global) -> StreamTarget<Vec<u8>> {
+    let mut target = growing(rt, alloc);
+    assert_steps(rt, "appended", &mut target, ABC);
+    target
+}
+
 #[test]
 fn reports_its_length(rt: HostRuntime) {
     let row = "appended";
-    let mut target = growing(&rt, rt.alloc());
-    assert_steps(&rt, row, &mut target, ABC);
+    let target = with_abc(&rt, rt.alloc());
     assert_same(&rt, row, target.can_compress(), false);
     assert_message(&rt, row, &target, b"ab\x01C\x00", b"\x00\x05ab\x01C\x00");
+}
+
+#[test]
+fn is_cut_at_its_length(rt: HostRuntime) {
+    let mut target = with_abc(&rt, rt.alloc());
     target.truncate(usize::MAX);
     target.truncate(usize::MAX - 1);
     target.truncate(5);
     let row = "cut at its length or above";
     assert_message(&rt, row, &target, b"ab\x01C\x00", b"\x00\x05ab\x01C\x00");
+}
+
+#[test]
+fn is_cut_to_one_octet(rt: HostRuntime) {
+    let mut target = with_abc(&rt, rt.alloc());
     target.truncate(1);
     assert_message(&rt, "cut to one octet", &target, b"a", b"\x00\x01a");
     let target = target.into_target();
@@ -86,12 +102,8 @@ fn writes_over_its_message(rt: HostRuntime) {
     target.truncate(1);
     assert_message(&rt, "cut to one octet", &target, b"a", b"\x00\x01a");
     assert_message(&rt, "its clone", &clone, b"ad", b"\x00\x02ad");
-    assert_octets(
-        &rt,
-        "its clone as a slice",
-        AsSlice::as_slice(&clone),
-        b"ad",
-    );
+    let slice = AsSlice::as_slice(&clone);
+    assert_octets(&rt, "its clone as a slice", slice, b"ad");
 }
 
 /// One further octet fits, and none after it.
@@ -111,18 +123,28 @@ fn clones_a_target_of_fixed_size(rt: HostRuntime) {
 /// All but one of the octets that a message may have, and two that exceed them.
 const NEARLY_FULL: &[Step] = &[Step::Fill(65_534), Step::Octets(b"ab", Err(SHORT))];
 
+/// Fails unless the target has a message of this length, after these octets of the length.
+fn assert_length(
+    rt: &impl Abort,
+    row: &str,
+    target: &StreamTarget<Vec<u8>>,
+    len: usize,
+    prefix: &[u8],
+) {
+    assert_same(rt, row, target.as_dgram_slice().len(), len);
+    let is_prefix = target.as_stream_slice().starts_with(prefix);
+    assert_same(rt, row, is_prefix, true);
+}
+
 #[test]
 fn is_full_at_65535_octets(rt: HostRuntime) {
     let row = "one octet less";
     let mut target = growing(&rt, rt.alloc());
     assert_steps(&rt, row, &mut target, NEARLY_FULL);
-    let is_prefix = target.as_stream_slice().starts_with(b"\xFF\xFE");
-    assert_same(&rt, row, is_prefix, true);
+    assert_length(&rt, row, &target, 65_534, b"\xFF\xFE");
     let row = "the most octets";
     assert_steps(&rt, row, &mut target, ONE_MORE);
-    let is_prefix = target.as_stream_slice().starts_with(b"\xFF\xFF");
-    let full = (is_prefix, target.as_dgram_slice().len());
-    assert_same(&rt, row, full, (true, 65_535));
+    assert_length(&rt, row, &target, 65_535, b"\xFF\xFF");
 }
 
 const AB: &[Step] = &[

@@ -1,10 +1,10 @@
 //! TTLs: arithmetic, other units, and reading.
-use crate::asserts::assert_same;
+use crate::asserts::{assert_octets, assert_same};
 use dns_item::Ttl;
 use dns_wire::{ParseError, Parser};
 use std::time::Duration;
 
-/// TTL arithmetic: sums and differences, and the cap of a week.
+/// TTL arithmetic: sums and differences.
 #[test]
 fn adds_and_subtracts_within_32_bits(rt: HostRuntime) {
     let second = Ttl::from_secs(1);
@@ -13,26 +13,43 @@ fn adds_and_subtracts_within_32_bits(rt: HostRuntime) {
     let sum = second.saturating_add(Ttl::MAX);
     assert_same(&rt, "a saturating sum past 32 bits", sum, Ttl::MAX);
     let minute = Ttl::from_mins(1);
-    let differences = (second.checked_sub(minute), second.saturating_sub(minute));
-    assert_same(&rt, "differences", differences, (None, Ttl::ZERO));
+    let difference = second.checked_sub(minute);
+    assert_same(&rt, "a checked difference below 0", difference, None);
+    let difference = second.saturating_sub(minute);
+    assert_same(
+        &rt,
+        "a saturating difference below 0",
+        difference,
+        Ttl::ZERO,
+    );
+}
+
+/// TTL arithmetic: the cap of a week.
+#[test]
+fn caps_at_a_week(rt: HostRuntime) {
     let capped = Ttl::from_days(50).cap().as_secs();
     assert_same(&rt, "capped to a week", capped, 604_800);
 }
 
-/// TTL arithmetic: products and quotients.
+/// TTL arithmetic: products.
 #[test]
-fn multiplies_and_divides_within_32_bits(rt: HostRuntime) {
+fn multiplies_within_32_bits(rt: HostRuntime) {
     let product = Ttl::from_secs(u32::MAX - 1).saturating_mul(2);
     assert_same(&rt, "a product past 32 bits", product, Ttl::MAX);
     let minute = Ttl::from_mins(1);
-    let quotients = [minute.checked_div(2), minute.checked_div(0)];
-    let expected = [Some(Ttl::from_secs(30)), None];
-    assert_same(&rt, "quotients", quotients, expected);
-    let products = [
-        Ttl::from_secs(1).checked_mul(60),
-        minute.checked_mul(u32::MAX),
-    ];
-    assert_same(&rt, "products", products, [Some(Ttl::from_secs(60)), None]);
+    let product = Ttl::from_secs(1).checked_mul(60);
+    assert_same(&rt, "a product", product, Some(Ttl::from_secs(60)));
+    let product = minute.checked_mul(u32::MAX);
+    assert_same(&rt, "a checked product past 32 bits", product, None);
+}
+
+/// TTL arithmetic: quotients.
+#[test]
+fn divides(rt: HostRuntime) {
+    let minute = Ttl::from_mins(1);
+    let half = minute.checked_div(2);
+    assert_same(&rt, "a quotient", half, Some(Ttl::from_secs(30)));
+    assert_same(&rt, "a divisor of 0", minute.checked_div(0), None);
 }
 
 #[test]
@@ -60,10 +77,18 @@ fn has_operators(rt: HostRuntime) {
     ttl += Ttl::MINUTE;
     ttl *= 2;
     assert_same(&rt, "assigning operators", ttl.as_secs(), 165_720);
-    ttl = ttl / 2 + Ttl::MINUTE * 3;
+}
+
+#[test]
+fn has_further_operators(rt: HostRuntime) {
+    let mut ttl = Ttl::from_secs(165_720) / 2 + Ttl::MINUTE * 3;
     ttl -= Ttl::SECOND;
     ttl /= 7;
     assert_same(&rt, "all operators", ttl.as_secs(), 11_862);
+}
+
+#[test]
+fn knows_zero(rt: HostRuntime) {
     let zeros = [Ttl::default().is_zero(), Ttl::SECOND.is_zero()];
     assert_same(&rt, "no seconds", zeros, [true, false]);
 }
@@ -78,6 +103,10 @@ fn reports_other_units(rt: HostRuntime) {
         units,
         [49_710, 1_193_046, 71_582_788],
     );
+}
+
+#[test]
+fn takes_other_units(rt: HostRuntime) {
     let days = Ttl::from_days(49_710).as_secs();
     assert_same(&rt, "Most days", days, 4_294_944_000);
     assert_same(&rt, "hours", Ttl::from_hours(2).as_minutes(), 120);
@@ -92,14 +121,20 @@ fn converts_durations(rt: HostRuntime) {
 }
 
 #[test]
-fn writes_and_reads_four_octets(rt: HostRuntime) {
+fn writes_four_octets(rt: HostRuntime) {
     let mut target = Vec::new(rt.alloc());
     let answer = Ttl::HOUR.compose(&mut target);
     assert_same(&rt, "composing", answer, Ok(()));
-    let octets = b"\x00\x00\x0E\x10".as_slice();
-    assert_same(&rt, "composed", target.as_slice(), octets);
+    let octets = b"\x00\x00\x0E\x10";
+    assert_octets(&rt, "composed", target.as_slice(), octets);
+}
+
+#[test]
+fn reads_four_octets(rt: HostRuntime) {
     let mut parser = Parser::new(b"\x00\x00\x0E\x10\x00");
-    let read = [Ttl::parse(&mut parser), Ttl::parse(&mut parser)];
-    let expected = [Ok(Ttl::HOUR), Err(ParseError::ShortInput)];
-    assert_same(&rt, "read", (read, parser.pos()), (expected, 4));
+    let read = Ttl::parse(&mut parser);
+    assert_same(&rt, "read", read, Ok(Ttl::HOUR));
+    let short = Ttl::parse(&mut parser);
+    assert_same(&rt, "cut", short, Err(ParseError::ShortInput));
+    assert_same(&rt, "after both", parser.pos(), 4);
 }
