@@ -1,4 +1,5 @@
 //! Registered numbers and their names.
+use crate::asserts::assert_same;
 use dns_number::{Class, Opcode, OptRcode, OptionCode, Rcode, Rtype};
 use std::process::Abort;
 
@@ -36,68 +37,58 @@ fn names_types(rt: HostRuntime) {
     }
 }
 
-/// Fails unless a number has this registered name.
-fn assert_name(rt: &impl Abort, row: &str, name: Option<&str>, expected: Option<&str>) {
-    assert_eq!(rt; name, expected, "{row}");
-}
-
 #[test]
 fn names_classes_and_opcodes(rt: HostRuntime) {
     let name = Class::from_int(254).registered_name();
-    assert_name(&rt, "class 254", name, Some("NONE"));
+    assert_same(&rt, "class 254", name, Some("NONE"));
     let name = Class::from_int(2).registered_name();
-    assert_name(&rt, "class 2", name, None);
+    assert_same(&rt, "class 2", name, None);
     let name = Opcode::from_int(5).registered_name();
-    assert_name(&rt, "opcode 5", name, Some("Update"));
+    assert_same(&rt, "opcode 5", name, Some("Update"));
     let name = Opcode::from_int(3).registered_name();
-    assert_name(&rt, "opcode 3", name, None);
+    assert_same(&rt, "opcode 3", name, None);
 }
 
 #[test]
 fn names_rcodes(rt: HostRuntime) {
     let name = Rcode::masked_from_int(9).registered_name();
-    assert_name(&rt, "rcode 9", name, Some("NotAuth"));
+    assert_same(&rt, "rcode 9", name, Some("NotAuth"));
     let name = Rcode::masked_from_int(15).registered_name();
-    assert_name(&rt, "rcode 15", name, None);
+    assert_same(&rt, "rcode 15", name, None);
     let name = OptRcode::from_parts(Rcode::NOERROR, 1).registered_name();
-    assert_name(&rt, "extended rcode 16", name, Some("BADVERS"));
+    assert_same(&rt, "extended rcode 16", name, Some("BADVERS"));
 }
 
 #[test]
 fn names_option_codes(rt: HostRuntime) {
     let name = OptionCode::from_int(8).registered_name();
-    assert_name(&rt, "option 8", name, Some("edns-client-subnet"));
+    assert_same(&rt, "option 8", name, Some("edns-client-subnet"));
     let name = OptionCode::from_int(65001).registered_name();
-    assert_name(&rt, "option 65001", name, None);
-}
-
-/// Fails unless a constant has this number.
-fn assert_number(rt: &impl Abort, row: &str, number: u16, expected: u16) {
-    assert_eq!(rt; number, expected, "{row}");
+    assert_same(&rt, "option 65001", name, None);
 }
 
 #[test]
 fn has_types_and_classes(rt: HostRuntime) {
-    assert_number(&rt, "SRV", Rtype::SRV.to_int(), 33);
-    assert_number(&rt, "DNSKEY", Rtype::DNSKEY.to_int(), 48);
-    assert_number(&rt, "SVCB", Rtype::SVCB.to_int(), 64);
-    assert_number(&rt, "CAA", Rtype::CAA.to_int(), 257);
-    assert_number(&rt, "NONE", Class::NONE.to_int(), 254);
-    assert_number(&rt, "ANY", Class::ANY.to_int(), 255);
+    assert_same(&rt, "SRV", Rtype::SRV.to_int(), 33);
+    assert_same(&rt, "DNSKEY", Rtype::DNSKEY.to_int(), 48);
+    assert_same(&rt, "SVCB", Rtype::SVCB.to_int(), 64);
+    assert_same(&rt, "CAA", Rtype::CAA.to_int(), 257);
+    assert_same(&rt, "NONE", Class::NONE.to_int(), 254);
+    assert_same(&rt, "ANY", Class::ANY.to_int(), 255);
 }
 
 #[test]
 fn has_opcodes_and_rcodes(rt: HostRuntime) {
-    assert_number(&rt, "UPDATE", Opcode::UPDATE.to_int().into(), 5);
-    assert_number(&rt, "DSO", Opcode::DSO.to_int().into(), 6);
-    assert_number(&rt, "FORMERR", Rcode::FORMERR.to_int().into(), 1);
-    assert_number(&rt, "YXDOMAIN", Rcode::YXDOMAIN.to_int().into(), 6);
+    assert_same(&rt, "UPDATE", Opcode::UPDATE.to_int(), 5);
+    assert_same(&rt, "DSO", Opcode::DSO.to_int(), 6);
+    assert_same(&rt, "FORMERR", Rcode::FORMERR.to_int(), 1);
+    assert_same(&rt, "YXDOMAIN", Rcode::YXDOMAIN.to_int(), 6);
 }
 
 #[test]
 fn has_extended_rcodes_and_options(rt: HostRuntime) {
-    assert_number(&rt, "BADVERS", OptRcode::BADVERS.to_int(), 16);
-    assert_number(&rt, "BADCOOKIE", OptRcode::BADCOOKIE.to_int(), 23);
-    assert_number(&rt, "COOKIE", OptionCode::COOKIE.to_int(), 10);
-    assert_number(&rt, "PADDING", OptionCode::PADDING.to_int(), 12);
+    assert_same(&rt, "BADVERS", OptRcode::BADVERS.to_int(), 16);
+    assert_same(&rt, "BADCOOKIE", OptRcode::BADCOOKIE.to_int(), 23);
+    assert_same(&rt, "COOKIE", OptionCode::COOKIE.to_int(), 10);
+    assert_same(&rt, "PADDING", OptionCode::PADDING.to_int(), 12);
 }

@@ -1,4 +1,5 @@
 //! Serials: sums, comparisons and texts.
+use crate::asserts::assert_same;
 use dns_serial::Serial;
 use std::cmp::Ordering;
 use std::process::Abort;
@@ -26,29 +27,19 @@ const COMPARISONS: &[(&str, u32, u32, Option<Ordering>)] = &[
     ("just above half", 0, 2_147_483_649, Some(Ordering::Greater)),
 ];
 
-/// Fails unless two serials compare like this.
-fn assert_order(rt: &impl Abort, row: &str, serial: u32, other: u32, order: Option<Ordering>) {
-    let found = Serial::from_int(serial).serial_cmp(Serial::from_int(other));
-    assert_eq!(rt; found, order, "{row}");
-}
-
 #[test]
 fn compares(rt: HostRuntime) {
     for &(row, serial, other, order) in COMPARISONS {
-        assert_order(&rt, row, serial, other, order);
+        let found = Serial::from_int(serial).serial_cmp(Serial::from_int(other));
+        assert_same(&rt, row, found, order);
     }
-}
-
-/// Fails unless a serial is this number.
-fn assert_number(rt: &impl Abort, row: &str, number: u32, expected: u32) {
-    assert_eq!(rt; number, expected, "{row}");
 }
 
 /// Fails unless a sum is the serial of this number.
 fn assert_sum(rt: &impl Abort, row: &str, sum: Serial, expected: u32) {
-    assert_eq!(rt; sum, Serial::from(expected), "{row}");
-    assert_number(rt, row, sum.into(), expected);
-    assert_number(rt, row, sum.into_int(), expected);
+    assert_same(rt, row, sum, Serial::from(expected));
+    assert_same(rt, row, u32::from(sum), expected);
+    assert_same(rt, row, sum.into_int(), expected);
 }
 
 #[test]
@@ -65,5 +56,5 @@ fn adds(rt: HostRuntime) {
 fn prints(rt: HostRuntime) {
     let serial = Serial::from(0x8000_0000);
     let text = serial.to_string(rt.alloc()).expect(&rt, "memory");
-    assert_eq!(rt; text.as_str(), "2147483648");
+    assert_same(&rt, "a text", text.as_str(), "2147483648");
 }
