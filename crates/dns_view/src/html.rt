@@ -39,6 +39,7 @@ const HEAD: &str = "<!DOCTYPE html>
 /// its colour. `--p` has the offset of a pointer, `--f`, and the lower offset where it leads, `--t`:
 /// of its cell, and of its row in the list if that draws the arrow too.
 /// A part that draws an arrow is laid out whole: any other cuts off what leaves its box.
+/// On paper the page is black on white, without arrows.
 const STYLE: &str = "</title>
 <style>
 :root { color-scheme: light dark; --page: #fff; --text: #111; --dim: #5a6570; --arrow: #b3261e;
@@ -49,6 +50,7 @@ const STYLE: &str = "</title>
 --field: #57481a; --header: #2b4166; --name: #2c5224; --pointer: #2f7a1c; --data: #6b3f20;
 --option: #553a6e; --fault: #8c2b2b; --edge: #aaa; }
 }
+@media print { * { --text: #000; --dim: #000; --arrow: none; background: none !important; } }
 body { margin: 1em; background: var(--page); color: var(--text); font-family: sans-serif; }
 h1 { font-size: 1.1em; overflow-wrap: anywhere; }
 .legend { display: flex; flex-wrap: wrap; gap: 6px; }
