@@ -1,5 +1,5 @@
 //! What rows mean, in words.
-use crate::codes::{OpcodeName, OptionName, RcodeName};
+use crate::codes::{Mnemonic, OptionName};
 use crate::option::OptionData;
 use crate::quoted::{Quoted, octet_count, second_count};
 use crate::rdata::{RdataField, Words};
@@ -229,8 +229,8 @@ fn write_flags<W: fmt::Write>(f: &mut fmt::Formatter<W>, message: &[u8]) -> fmt:
         return Ok(());
     }
     let header = Header::for_message_slice(message);
-    let opcode = OpcodeName(header.opcode());
-    let rcode = RcodeName(u16::from(header.rcode().to_int()));
+    let opcode = Mnemonic::of_opcode(header.opcode());
+    let rcode = Mnemonic::of_rcode(OptRcode::from(header.rcode()));
     f.write_str(if header.qr() {
         "response (QR)"
     } else {
@@ -297,7 +297,7 @@ fn write_extended<W: fmt::Write>(
         return Ok(());
     }
     let header = Header::for_message_slice(message);
-    let rcode = RcodeName(OptRcode::from_parts(header.rcode(), *higher).to_int());
+    let rcode = Mnemonic::of_rcode(OptRcode::from_parts(header.rcode(), *higher));
     write!(f, ", with that of the header {rcode}")
 }
 
@@ -351,11 +351,11 @@ fn write_number<W: fmt::Write>(
             write!(f, "{word} count {number}")
         }
         Field::Type => {
-            let rtype = Rtype::from_int(short_of(octets));
+            let rtype = Mnemonic::of_type(Rtype::from_int(short_of(octets)));
             write!(f, "type {rtype}")
         }
         Field::Class => {
-            let class = Class::from_int(short_of(octets));
+            let class = Mnemonic::of_class(Class::from_int(short_of(octets)));
             write!(f, "class {class}")
         }
         Field::Ttl => {

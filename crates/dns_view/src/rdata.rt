@@ -1,11 +1,11 @@
 //! Fields of RDATA in words: their names in `dns_fields::TABLE`, and their values.
+use crate::codes::Mnemonic;
 use crate::meaning::number_of;
 use crate::quoted::{Quoted, octet_count, second_count, write_address};
+use crate::types::{write_types, write_window};
 use base64::display::Base64Display;
 use base64::engine::general_purpose::STANDARD;
-use dns_fields_text::{
-    AddressPrefixes, ParameterText, Parameters, PrefixText, SmallTypeMap, TypeMap, TypeName,
-};
+use dns_fields_text::{AddressPrefixes, ParameterText, Parameters, PrefixText, SmallTypeMap};
 use dns_message::code::Rtype;
 use dns_message::fields::Kind;
 use dns_value_text::{Base32, Eui, Hex, Location, Locator64, Timestamp};
@@ -87,7 +87,7 @@ impl RdataField<'_> {
             (Kind::Time, _) => write_value(f, &Timestamp(number)),
             (Kind::RecordType, [high, low]) => {
                 let rtype = Rtype::from_int(u16::from_be_bytes([*high, *low]));
-                write_value(f, &TypeName(rtype))
+                write_value(f, &Mnemonic::of_type(rtype))
             }
             _ => self.write_address(f),
         }
@@ -120,16 +120,22 @@ impl RdataField<'_> {
         }
         match self.kind {
             Kind::TypeBitMap => {
-                let types = TypeMap(self.octets);
-                write!(f, ":{types}")
+                f.write_str(":")?;
+                write_types(f, self.octets)
             }
-            Kind::SmallTypeBitMap => match SmallTypeMap::from_octets(self.octets) {
-                Some(types) => write!(f, ":{types}"),
-                None => self.write_count(f),
-            },
+            Kind::SmallTypeBitMap => self.write_small_types(f),
             Kind::ServiceParameters => write_parameters(f, self.octets),
             _ => self.write_prefixes(f),
         }
+    }
+
+    /// Prints the types of a bit map of one window.
+    fn write_small_types<W: fmt::Write>(&self, f: &mut fmt::Formatter<W>) -> fmt::Result {
+        if SmallTypeMap::from_octets(self.octets).is_none() {
+            return self.write_count(f);
+        }
+        f.write_str(":")?;
+        write_window(f, 0, self.octets)
     }
 
     fn write_prefixes<W: fmt::Write>(&self, f: &mut fmt::Formatter<W>) -> fmt::Result {

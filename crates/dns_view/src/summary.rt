@@ -1,5 +1,5 @@
 //! What a message is, in one line.
-use crate::codes::{OpcodeName, RcodeName};
+use crate::codes::Mnemonic;
 use crate::meaning::{FaultWords, number_of, write_name};
 use crate::quoted::octet_count;
 use dns_message::code::{Class, Opcode, OptRcode, Rtype};
@@ -54,7 +54,7 @@ impl<'a> Summary<'a> {
         let id = header.id();
         write!(f, "{word} {id}")?;
         if header.opcode() != Opcode::QUERY {
-            let opcode = OpcodeName(header.opcode());
+            let opcode = Mnemonic::of_opcode(header.opcode());
             write!(f, ", {opcode}")?;
         }
         Ok(())
@@ -71,11 +71,12 @@ impl<'a> Summary<'a> {
         if let [high, low] = self.octets_of_field(Field::Class) {
             let class = Class::from_int(u16::from_be_bytes([*high, *low]));
             if class != Class::IN {
+                let class = Mnemonic::of_class(class);
                 write!(f, " {class}")?;
             }
         }
         if let [high, low] = self.octets_of_field(Field::Type) {
-            let rtype = Rtype::from_int(u16::from_be_bytes([*high, *low]));
+            let rtype = Mnemonic::of_type(Rtype::from_int(u16::from_be_bytes([*high, *low])));
             write!(f, " {rtype}")?;
         }
         Ok(())
@@ -97,10 +98,10 @@ impl<'a> Summary<'a> {
     /// Prints the RCODE, extended by that of an OPT record.
     fn write_rcode<W: fmt::Write>(&self, f: &mut fmt::Formatter<W>, header: Header) -> fmt::Result {
         let rcode = match self.octets_of_field(Field::ExtendedRcode) {
-            [higher] => OptRcode::from_parts(header.rcode(), *higher).to_int(),
-            _ => u16::from(header.rcode().to_int()),
+            [higher] => OptRcode::from_parts(header.rcode(), *higher),
+            _ => OptRcode::from(header.rcode()),
         };
-        let rcode = RcodeName(rcode);
+        let rcode = Mnemonic::of_rcode(rcode);
         write!(f, ", {rcode}")
     }
 

@@ -4,7 +4,6 @@ ghost use Rattle.std.specs.Prelude.{◌<◌, IfOk, IsTrue, length};
 use crate::asserts::assert_holds;
 use dns_view::rows;
 use std::alloc::{AllocError, Global};
-use std::test::Fail;
 
 /// Whether one row shows the whole message. It does if the message has fewer than 12 octets.
 fn is_one_row(alloc: Global, octets: &[u8]) -> Result<bool, AllocError>
@@ -14,10 +13,9 @@ fn is_one_row(alloc: Global, octets: &[u8]) -> Result<bool, AllocError>
 }
 
 #[test]
-fn reports_a_short_message_by_one_row(rt: HostRuntime) -> Result<(), Fail> {
-    let is_one = is_one_row(rt.alloc(), &[0; 11])?;
+fn reports_a_short_message_by_one_row(rt: HostRuntime) {
+    let is_one = is_one_row(rt.alloc(), &[0; 11]).expect(&rt, "memory");
     assert_holds(&rt, "eleven octets", is_one);
-    let is_one = is_one_row(rt.alloc(), &[0; 12])?;
+    let is_one = is_one_row(rt.alloc(), &[0; 12]).expect(&rt, "memory");
     assert_holds(&rt, "twelve octets", !is_one);
-    Ok(())
 }

@@ -1,6 +1,7 @@
 //! Faults, each at its octet, and one row for all octets after it.
-use crate::printed::{Case, HEADER_LINES, Labels, assert_messages, printed, questions};
-use std::test::Fail;
+use crate::printed::{Case, HEADER_LINES, assert_messages, header, printed, push_labels};
+use std::alloc::Global;
+use std::process::Abort;
 
 /// Fewer octets than a header section has (RFC 1035 section 4.1.1).
 const SHORT_MESSAGE: Case = Case {
@@ -237,50 +238,44 @@ const FAULTS: &[Case] = &[
     OCTETS_AFTER_THE_ITEMS_UNREAD,
 ];
 
-/// The count of questions, for each name the lengths of its labels and the octets after them, and
-/// the last lines.
-struct Long {
-    name: &'static str,
-    count: u8,
-    names: &'static [Labels<'static>],
-    lines: &'static str,
-}
+/// The last lines for a name of 256 octets with its fifth label. A name has at most 255 octets (RFC
+/// 1035 section 2.3.4).
+const LONG_LABEL: &str = "
+   265                           FAULT: with this label the name has more than
+                                 255 octets
+   265  01 78 00 00 01 00 01     unread, 7 octets
+";
 
-/// Names of more than 255 octets (RFC 1035 section 2.3.4).
-const LONG_NAMES: &[Long] = &[
-    Long {
-        name: "256 octets with the fifth label",
-        count: 1,
-        names: &[(&[63, 63, 63, 60, 1], &[0, 0, 1, 0, 1])],
-        lines: "\n   265                           FAULT: with this label the name has more than\n                                 255 octets\n   265  01 78 00 00 01 00 01     unread, 7 octets\n",
-    },
-    Long {
-        name: "259 octets with the name of 67 that the pointer leads to",
-        count: 2,
-        names: &[
-            (&[63, 1], &[0, 0, 1, 0, 1]),
-            (&[63, 63, 63], &[0xc0, 12, 0, 1, 0, 1]),
-        ],
-        lines: "\n   275                           FAULT: pointer to 12, with which the name has\n                                 more than 255 octets\n   275  c0 0c 00 01 00 01        unread, 6 octets\n",
-    },
-];
+/// The last lines for a name of 259 octets with the one of 67 that its pointer leads to.
+const LONG_POINTER: &str = "
+   275                           FAULT: pointer to 12, with which the name has
+                                 more than 255 octets
+   275  c0 0c 00 01 00 01        unread, 6 octets
+";
 
 #[test]
-fn marks_faults(rt: HostRuntime) -> Result<(), Fail> {
-    assert_messages(&rt, rt.alloc(), 0, &[SHORT_MESSAGE])?;
-    assert_messages(&rt, rt.alloc(), HEADER_LINES, FAULTS)
+fn marks_faults(rt: HostRuntime) {
+    assert_messages(&rt, rt.alloc(), 0, &[SHORT_MESSAGE]);
+    assert_messages(&rt, rt.alloc(), HEADER_LINES, FAULTS);
+}
+
+/// Fails unless the text of a message ends with these lines.
+fn assert_end(rt: &impl Abort, alloc: Global, octets: &[u8], lines: &str) {
+    let printed = printed(rt, alloc, octets);
+    assert!(rt; printed.ends_with(lines), "printed\n{printed}");
 }
 
 #[test]
-fn marks_long_names(rt: HostRuntime) -> Result<(), Fail> {
-    for case in LONG_NAMES {
-        let octets = questions(rt.alloc(), case.count, case.names)?;
-        let printed = printed(rt.alloc(), &octets)?;
-        assert!(rt;
-            printed.ends_with(case.lines),
-            "{}: printed\n{printed}",
-            case.name
-        );
-    }
-    Ok(())
+fn marks_a_label_that_makes_a_name_long(rt: HostRuntime) {
+    let mut octets = header(&rt, rt.alloc(), 1);
+    push_labels(&rt, &mut octets, &[63, 63, 63, 60, 1], &[0, 0, 1, 0, 1]);
+    assert_end(&rt, rt.alloc(), &octets, LONG_LABEL);
+}
+
+#[test]
+fn marks_a_pointer_that_makes_a_name_long(rt: HostRuntime) {
+    let mut octets = header(&rt, rt.alloc(), 2);
+    push_labels(&rt, &mut octets, &[63, 1], &[0, 0, 1, 0, 1]);
+    push_labels(&rt, &mut octets, &[63, 63, 63], &[0xc0, 12, 0, 1, 0, 1]);
+    assert_end(&rt, rt.alloc(), &octets, LONG_POINTER);
 }

@@ -1,9 +1,8 @@
 //! The page of a large message, which stays small.
 use crate::asserts::assert_holds;
-use crate::printed::page;
+use crate::printed::{page, push_octets};
 use std::alloc::Global;
 use std::process::Abort;
-use std::test::Fail;
 
 /// A message that begins with some octets and goes on with others, again and again, and a line of
 /// the list of its page.
@@ -55,50 +54,49 @@ responsible mailbox, pointer to 12: ..., error mailbox, labe...</a><a id=37 ",
 };
 
 /// A message of at least 16,400 octets.
-fn repeated(alloc: Global, front: &[u8], item: &[u8]) -> Result<Vec<u8>, Fail> {
-    let mut octets = Vec::from_slice(alloc, front)?;
+fn repeated(rt: &impl Abort, alloc: Global, front: &[u8], item: &[u8]) -> Vec<u8> {
+    let mut octets = Vec::from_slice(alloc, front).expect(rt, "memory");
     for _ in 0..16_400 {
         if octets.len() >= 16_400 {
             break;
         }
-        octets.extend_from_slice(item)?;
+        push_octets(rt, &mut octets, item);
     }
-    Ok(octets)
+    octets
 }
 
 /// The page of a message. Fails unless it has at most forty times the octets of the message.
-fn small_page(rt: &impl Abort, alloc: Global, name: &str, octets: &[u8]) -> Result<String, Fail> {
-    let page = page(alloc, octets)?;
+fn small_page(rt: &impl Abort, alloc: Global, name: &str, octets: &[u8]) -> String {
+    let page = page(rt, alloc, octets);
     assert_holds(rt, name, page.len() as u128 <= 40 * octets.len() as u128);
-    Ok(page)
+    page
 }
 
 /// Fails unless the page of a message is small and has its line.
-fn assert_small(rt: &impl Abort, alloc: Global, case: &Large) -> Result<(), Fail> {
-    let octets = repeated(alloc, case.front, case.item)?;
-    let page = small_page(rt, alloc, case.line, &octets)?;
+fn assert_small(rt: &impl Abort, alloc: Global, case: &Large) {
+    let octets = repeated(rt, alloc, case.front, case.item);
+    let page = small_page(rt, alloc, case.line, &octets);
     assert_holds(rt, case.line, page.contains(case.line));
-    Ok(())
 }
 
 #[test]
-fn joins_questions(rt: HostRuntime) -> Result<(), Fail> {
-    assert_small(&rt, rt.alloc(), &ROOTS)
+fn joins_questions(rt: HostRuntime) {
+    assert_small(&rt, rt.alloc(), &ROOTS);
 }
 
 #[test]
-fn cuts_off_names(rt: HostRuntime) -> Result<(), Fail> {
-    assert_small(&rt, rt.alloc(), &POINTERS)
+fn cuts_off_names(rt: HostRuntime) {
+    assert_small(&rt, rt.alloc(), &POINTERS);
 }
 
 #[test]
-fn joins_options(rt: HostRuntime) -> Result<(), Fail> {
-    assert_small(&rt, rt.alloc(), &OPTIONS)
+fn joins_options(rt: HostRuntime) {
+    assert_small(&rt, rt.alloc(), &OPTIONS);
 }
 
 #[test]
-fn joins_records(rt: HostRuntime) -> Result<(), Fail> {
-    assert_small(&rt, rt.alloc(), &RECORDS)
+fn joins_records(rt: HostRuntime) {
+    assert_small(&rt, rt.alloc(), &RECORDS);
 }
 
 /// Records for the root, whose fields share a link of the grid: a header with 65,535 answers, and
@@ -117,51 +115,55 @@ const CELLS: &[&str] = &[
 ];
 
 #[test]
-fn parts_fields_in_the_grid(rt: HostRuntime) -> Result<(), Fail> {
-    let octets = repeated(rt.alloc(), ANSWERS, ADDRESS)?;
-    let page = small_page(&rt, rt.alloc(), "addresses", &octets)?;
+fn parts_fields_in_the_grid(rt: HostRuntime) {
+    let octets = repeated(&rt, rt.alloc(), ANSWERS, ADDRESS);
+    let page = small_page(&rt, rt.alloc(), "addresses", &octets);
     for cells in CELLS {
         assert_holds(&rt, cells, page.contains(*cells));
     }
-    Ok(())
 }
 
 /// An NSEC record for the root up to its types, which have 8,704 octets.
 const NSEC: &[u8] = b"\0\0\x2f\0\x01\0\0\0\x3c\x22\x01\0";
 
+/// A header with two answers.
+const TWO_ANSWERS: &[u8] = b"\0\x01\x84\0\0\0\0\x02\0\0\0\0";
+
+/// Appends the record, with all types.
+fn push_all_types(rt: &impl Abort, octets: &mut Vec<u8>) {
+    push_octets(rt, octets, NSEC);
+    for window in 0..=255 {
+        push_octets(rt, octets, &[window, 32]);
+        push_octets(rt, octets, &[255; 32]);
+    }
+}
+
 /// The words for the record, where its types begin and where they are cut off.
 const TYPES: &[&str] = &[
-    "\towner, root label: ., type TYPE47, class IN, TTL 60 seconds, data length 8705, \
+    "\towner, root label: ., type NSEC, class IN, TTL 60 seconds, data length 8705, \
 next, root label: ., types: TYPE0 A NS ",
-    " TYPE8844 TYPE8845 TY...</a>",
+    " TYPE8850 TYPE8851 TYPE885...</a>",
 ];
 
 #[test]
-fn cuts_off_types(rt: HostRuntime) -> Result<(), Fail> {
-    let mut octets = Vec::from_slice(rt.alloc(), b"\0\x01\x84\0\0\0\0\x02\0\0\0\0")?;
-    for _ in 0..2 {
-        octets.extend_from_slice(NSEC)?;
-        for window in 0..=255 {
-            octets.extend_from_slice(&[window, 32])?;
-            octets.extend_from_slice(&[255; 32])?;
-        }
-    }
-    let page = small_page(&rt, rt.alloc(), "all types", &octets)?;
+fn cuts_off_types(rt: HostRuntime) {
+    let mut octets = Vec::from_slice(rt.alloc(), TWO_ANSWERS).expect(&rt, "memory");
+    push_all_types(&rt, &mut octets);
+    push_all_types(&rt, &mut octets);
+    let page = small_page(&rt, rt.alloc(), "all types", &octets);
     for words in TYPES {
         assert_holds(&rt, words, page.contains(*words));
     }
-    Ok(())
 }
 
 /// A message of 16,384 octets isn't large.
 #[test]
-fn is_large_above_16_384_octets(rt: HostRuntime) -> Result<(), Fail> {
+fn is_large_above_16_384_octets(rt: HostRuntime) {
     let row = "\tname, root label: .</a><a id=13 ";
     let line = "\tname, root label: ., type A, class IN</a>";
-    let octets = repeated(rt.alloc(), QUESTIONS, ROOT)?;
-    let small = page(rt.alloc(), octets.get(..16_384).unwrap_or(&[]))?;
+    let octets = repeated(&rt, rt.alloc(), QUESTIONS, ROOT);
+    let small = page(&rt, rt.alloc(), octets.get(..16_384).unwrap_or(&[]));
     assert_holds(&rt, row, small.contains(row));
-    let large = page(rt.alloc(), octets.get(..16_385).unwrap_or(&[]))?;
+    let large = page(&rt, rt.alloc(), octets.get(..16_385).unwrap_or(&[]));
     assert_holds(&rt, line, large.contains(line));
-    Ok(())
 }

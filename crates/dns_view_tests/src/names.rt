@@ -1,7 +1,8 @@
 //! Names: their labels, and where pointers lead.
 use crate::asserts::assert_holds;
-use crate::printed::{Case, HEADER_LINES, assert_messages, assert_narrow, printed, questions};
-use std::test::Fail;
+use crate::printed::{
+    Case, HEADER_LINES, assert_messages, assert_narrow, header, printed, push_labels,
+};
 
 /// The names of RFC 1035 section 4.1.4: F.ISI.ARPA, FOO.F.ISI.ARPA, ARPA and the root.
 const POINTERS_LEAD: Case = Case {
@@ -80,20 +81,20 @@ const ODD_OCTETS_OF_LABELS: Case = Case {
 const NAMES: &[Case] = &[POINTERS_LEAD, POINTER_TO_A_POINTER, ODD_OCTETS_OF_LABELS];
 
 #[test]
-fn reports_names(rt: HostRuntime) -> Result<(), Fail> {
-    assert_messages(&rt, rt.alloc(), HEADER_LINES, NAMES)
+fn reports_names(rt: HostRuntime) {
+    assert_messages(&rt, rt.alloc(), HEADER_LINES, NAMES);
 }
 
 /// A name of 255 octets, the maximum (RFC 1035 section 2.3.4): no line has more than 80 columns.
 #[test]
-fn reports_the_longest_name(rt: HostRuntime) -> Result<(), Fail> {
-    let octets = questions(rt.alloc(), 1, &[(&[63, 63, 63, 61], &[0, 0, 1, 0, 1])])?;
-    let printed = printed(rt.alloc(), &octets)?;
+fn reports_the_longest_name(rt: HostRuntime) {
+    let mut octets = header(&rt, rt.alloc(), 1);
+    push_labels(&rt, &mut octets, &[63, 63, 63, 61], &[0, 0, 1, 0, 1]);
+    let printed = printed(&rt, rt.alloc(), &octets);
     assert_narrow(&rt, "narrow lines", &printed);
     // Each label takes eight lines, with eight octets a line. The root label takes seven: one for
     // the words, and six for the text of the name.
     let len = 6 + 1 + 4 * 8 + 7 + 2;
     assert_holds(&rt, "the number of lines", printed.lines().count() == len);
     assert_holds(&rt, "no fault", !printed.contains("FAULT"));
-    Ok(())
 }

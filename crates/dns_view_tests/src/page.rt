@@ -1,9 +1,8 @@
 //! The HTML page.
 use crate::asserts::{assert_holds, assert_text};
-use crate::printed::page;
+use crate::printed::{header, page, push_octets};
 use std::alloc::Global;
 use std::process::Abort;
-use std::test::Fail;
 
 /// A question for `a<b>&.c`, an answer that points to it from its owner and its RDATA, an answer
 /// whose owner points to that RDATA, and one octet after the items.
@@ -104,8 +103,8 @@ const ROWS: &[&str] = &[
 ];
 
 #[test]
-fn shows_a_message(rt: HostRuntime) -> Result<(), Fail> {
-    let page = page(rt.alloc(), &MESSAGE)?;
+fn shows_a_message(rt: HostRuntime) {
+    let page = page(&rt, rt.alloc(), &MESSAGE);
     assert_holds(&rt, "a page", page.starts_with("<!DOCTYPE html>\n"));
     for case in COUNTS {
         assert_count(&rt, case.name, &page, case.text, case.count);
@@ -114,7 +113,6 @@ fn shows_a_message(rt: HostRuntime) -> Result<(), Fail> {
     for row in ROWS {
         assert_count(&rt, row, &page, row, 1);
     }
-    Ok(())
 }
 
 /// Fails unless the page has the text this number of times.
@@ -123,24 +121,22 @@ fn assert_count(rt: &impl Abort, row: &str, page: &str, text: &str, count: usize
 }
 
 /// The page of a question for the root, and of `count` questions whose names point to it.
-fn page_of_pointers(alloc: Global, count: u8) -> Result<String, Fail> {
-    let header = [0, 1, 0, 0, 0, count.saturating_add(1), 0, 0, 0, 0, 0, 0];
-    let mut octets = Vec::from_slice(alloc, &header)?;
-    octets.extend_from_slice(&[0, 0, 1, 0, 1])?;
+fn page_of_pointers(rt: &impl Abort, alloc: Global, count: u8) -> String {
+    let mut octets = header(rt, alloc, count.saturating_add(1));
+    push_octets(rt, &mut octets, &[0, 0, 1, 0, 1]);
     for _ in 0..count {
-        octets.extend_from_slice(&[0xc0, 12, 0, 1, 0, 1])?;
+        push_octets(rt, &mut octets, &[0xc0, 12, 0, 1, 0, 1]);
     }
-    page(alloc, &octets)
+    page(rt, alloc, &octets)
 }
 
 #[test]
-fn draws_all_arrows_below_twenty(rt: HostRuntime) -> Result<(), Fail> {
-    let few = page_of_pointers(rt.alloc(), 19)?;
+fn draws_all_arrows_below_twenty(rt: HostRuntime) {
+    let few = page_of_pointers(&rt, rt.alloc(), 19);
     assert_count(&rt, "19 pointers", &few, "<main class=few>", 1);
-    let many = page_of_pointers(rt.alloc(), 20)?;
+    let many = page_of_pointers(&rt, rt.alloc(), 20);
     assert_count(&rt, "20 pointers", &many, "<main>", 1);
     assert_count(&rt, "20 pointers, in grid and list", &many, ",12>", 40);
-    Ok(())
 }
 
 /// Texts where a part begins: of a row whose octets are in two parts of the grid, and of the list.
@@ -152,8 +148,8 @@ const PARTS: &[&str] = &[
 ];
 
 #[test]
-fn begins_parts(rt: HostRuntime) -> Result<(), Fail> {
-    let page = page_of_pointers(rt.alloc(), 45)?;
+fn begins_parts(rt: HostRuntime) {
+    let page = page_of_pointers(&rt, rt.alloc(), 45);
     assert_count(
         &rt,
         "two parts of the grid and five of the list",
@@ -164,7 +160,6 @@ fn begins_parts(rt: HostRuntime) -> Result<(), Fail> {
     for part in PARTS {
         assert_count(&rt, part, &page, part, 1);
     }
-    Ok(())
 }
 
 /// A question for `1.2.3`, and an answer whose character strings are "", "a", "bc", "" and "".
@@ -185,12 +180,11 @@ const JOINED: &[&str] = &[
 ];
 
 #[test]
-fn joins_tiny_rows(rt: HostRuntime) -> Result<(), Fail> {
-    let page = page(rt.alloc(), TINY)?;
+fn joins_tiny_rows(rt: HostRuntime) {
+    let page = page(&rt, rt.alloc(), TINY);
     for row in JOINED {
         assert_count(&rt, row, &page, row, 1);
     }
-    Ok(())
 }
 
 /// A message, and the first line of its page.
@@ -209,12 +203,17 @@ const FIRSTS: &[First] = &[
     First {
         name: "a class",
         octets: b"\0\x01\0\0\0\x01\0\0\0\0\0\0\0\0\x10\0\xfe",
-        line: "query 1, . CLASS254 TXT",
+        line: "query 1, . NONE TXT",
     },
     First {
         name: "an opcode",
         octets: b"\0\x01\x20\0\0\x01\0\0\0\0\0\0\0\0\x06\0\x01",
         line: "query 1, NOTIFY, . SOA",
+    },
+    First {
+        name: "another opcode, and another type",
+        octets: b"\0\x01\x28\0\0\x01\0\0\0\0\0\0\0\0\x41\0\x01",
+        line: "query 1, UPDATE, . HTTPS",
     },
     First {
         name: "an rcode",
@@ -224,7 +223,12 @@ const FIRSTS: &[First] = &[
     First {
         name: "an extended rcode",
         octets: b"\0\x01\x80\0\0\x01\0\0\0\0\0\x01\0\0\x01\0\x01\0\0\x29\x04\xd0\x01\0\0\0\0\0",
-        line: "response 1, . A, RCODE16 (bad version), 0 answers",
+        line: "response 1, . A, BADVERS, 0 answers",
+    },
+    First {
+        name: "an extended rcode that isn't registered",
+        octets: b"\0\x01\x80\x08\0\x01\0\0\0\0\0\x01\0\0\x01\0\x01\0\0\x29\x04\xd0\xbb\0\0\0\0\0",
+        line: "response 1, . A, RCODE3000, 0 answers",
     },
     First {
         name: "no question",
@@ -249,12 +253,11 @@ const FIRSTS: &[First] = &[
 ];
 
 #[test]
-fn says_what_it_is(rt: HostRuntime) -> Result<(), Fail> {
+fn says_what_it_is(rt: HostRuntime) {
     for case in FIRSTS {
-        let page = page(rt.alloc(), case.octets)?;
-        let (_, body) = page.split_once("<h1>").ok_or("no first line")?;
-        let (line, _) = body.split_once("</h1>").ok_or("no end of the first line")?;
+        let page = page(&rt, rt.alloc(), case.octets);
+        let (_, body) = page.split_once("<h1>").expect(&rt, case.name);
+        let (line, _) = body.split_once("</h1>").expect(&rt, case.name);
         assert_text(&rt, case.name, line, case.line);
     }
-    Ok(())
 }

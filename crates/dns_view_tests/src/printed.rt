@@ -3,7 +3,6 @@ use crate::asserts::assert_text;
 use dns_view::{print_page, print_text, rows};
 use std::alloc::Global;
 use std::process::Abort;
-use std::test::Fail;
 
 /// A message, and the text that is printed for it.
 #[derive(Clone, Copy)]
@@ -18,58 +17,48 @@ pub(crate) struct Case {
 pub(crate) const HEADER_LINES: usize = 6;
 
 /// What is printed for a message as text.
-pub(crate) fn printed(alloc: Global, octets: &[u8]) -> Result<String, Fail> {
-    let rows = rows(alloc, octets)?;
+pub(crate) fn printed(rt: &impl Abort, alloc: Global, octets: &[u8]) -> String {
+    let rows = rows(alloc, octets).expect(rt, "memory");
     let mut output = Vec::new(alloc);
-    print_text(alloc, &mut output, octets, &rows)?;
-    Ok(String::from_utf8(output)?)
+    print_text(alloc, &mut output, octets, &rows).expect(rt, "memory");
+    String::from_utf8(output).expect(rt, "UTF-8")
 }
 
 /// What is printed for a message as a page.
-pub(crate) fn page(alloc: Global, octets: &[u8]) -> Result<String, Fail> {
-    let rows = rows(alloc, octets)?;
+pub(crate) fn page(rt: &impl Abort, alloc: Global, octets: &[u8]) -> String {
+    let rows = rows(alloc, octets).expect(rt, "memory");
     let mut output = Vec::new(alloc);
-    print_page(alloc, &mut output, octets, &rows)?;
-    Ok(String::from_utf8(output)?)
+    print_page(alloc, &mut output, octets, &rows).expect(rt, "memory");
+    String::from_utf8(output).expect(rt, "UTF-8")
 }
 
-/// The lengths of labels, and the octets after them.
-pub(crate) type Labels<'a> = (&'a [u8], &'a [u8]);
-
-/// A message with a count of questions, whose names are labels of `x`.
-pub(crate) fn questions(alloc: Global, count: u8, names: &[Labels<'_>]) -> Result<Vec<u8>, Fail> {
-    let mut octets = Vec::from_slice(alloc, &[0, 0, 0, 0, 0, count, 0, 0, 0, 0, 0, 0])?;
-    for (lens, after) in names {
-        push_labels(&mut octets, lens)?;
-        octets.extend_from_slice(after)?;
-    }
-    Ok(octets)
+/// The octets of a header that counts questions.
+pub(crate) fn header(rt: &impl Abort, alloc: Global, count: u8) -> Vec<u8> {
+    let octets = [0, 0, 0, 0, 0, count, 0, 0, 0, 0, 0, 0];
+    Vec::from_slice(alloc, &octets).expect(rt, "memory")
 }
 
-fn push_labels(octets: &mut Vec<u8>, lens: &[u8]) -> Result<(), Fail> {
+pub(crate) fn push_octets(rt: &impl Abort, octets: &mut Vec<u8>, others: &[u8]) {
+    octets.extend_from_slice(others).expect(rt, "memory");
+}
+
+/// Appends labels of `x` with these lengths, and the octets after them.
+pub(crate) fn push_labels(rt: &impl Abort, octets: &mut Vec<u8>, lens: &[u8], after: &[u8]) {
     for len in lens {
-        octets.push(*len)?;
-        for _ in 0..*len {
-            octets.push(b'x')?;
-        }
+        push_octets(rt, octets, &[*len]);
+        push_octets(rt, octets, &[b'x'; 255][..usize::from(*len)]);
     }
-    Ok(())
+    push_octets(rt, octets, after);
 }
 
 /// Checks that the text of each message is printed after a number of lines, and that no line has
 /// more than 80 columns.
-pub(crate) fn assert_messages(
-    rt: &impl Abort,
-    alloc: Global,
-    before: usize,
-    cases: &[Case],
-) -> Result<(), Fail> {
+pub(crate) fn assert_messages(rt: &impl Abort, alloc: Global, before: usize, cases: &[Case]) {
     for case in cases {
-        let printed = printed(alloc, case.octets)?;
+        let printed = printed(rt, alloc, case.octets);
         assert_narrow(rt, case.name, &printed);
         assert_text(rt, case.name, text_after(&printed, before), case.text);
     }
-    Ok(())
 }
 
 /// The text without its first lines.

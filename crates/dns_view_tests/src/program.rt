@@ -4,7 +4,6 @@ use crate::runs::words_of;
 use dns_view::{file_of, tool};
 use std::alloc::Global;
 use std::process::Abort;
-use std::test::Fail;
 
 /// What the program prints to standard output and to standard error, and its exit status.
 #[derive(Drop)]
@@ -15,18 +14,33 @@ struct Ended {
 }
 
 /// Runs the program with arguments and an input.
-fn run(alloc: Global, words: &str, input: &[u8]) -> Result<Ended, Fail> {
+fn run(rt: &impl Abort, alloc: Global, words: &str, input: &[u8]) -> Ended {
     let mut output = Vec::new(alloc);
     let mut errors = Vec::new(alloc);
-    let words = words_of(alloc, words)?;
+    let words = words_of(rt, alloc, words);
     let status = tool(alloc, &words, input, &mut output, &mut errors);
-    let printed = String::from_utf8(output)?;
-    let errors = String::from_utf8(errors)?;
-    Ok(Ended {
+    let printed = String::from_utf8(output).expect(rt, "UTF-8");
+    let errors = String::from_utf8(errors).expect(rt, "UTF-8");
+    Ended {
         status,
         printed,
         errors,
-    })
+    }
+}
+
+/// Fails unless a run ended with this status and printed these texts to standard output and to
+/// standard error.
+fn assert_ended(
+    rt: &impl Abort,
+    row: &str,
+    ended: &Ended,
+    status: u8,
+    printed: &str,
+    errors: &str,
+) {
+    assert_text(rt, row, &ended.printed, printed);
+    assert_text(rt, row, &ended.errors, errors);
+    assert_status(rt, row, ended.status, status);
 }
 
 /// A question for the root.
@@ -62,16 +76,13 @@ const END: &str =
     "    13  00 ff                    type ANY\n    15  00 01                    class IN\n";
 
 #[test]
-fn prints_the_same_for_octets_and_digits(rt: HostRuntime) -> Result<(), Fail> {
-    let first = run(rt.alloc(), "", OCTETS)?;
+fn prints_the_same_for_octets_and_digits(rt: HostRuntime) {
+    let first = run(&rt, rt.alloc(), "", OCTETS);
     assert_holds(&rt, "the last rows", first.printed.ends_with(END));
     for case in QUESTIONS {
-        let ended = run(rt.alloc(), "", case.input)?;
-        assert_status(&rt, case.name, ended.status, 0);
-        assert_text(&rt, case.name, &ended.printed, &first.printed);
-        assert_text(&rt, case.name, &ended.errors, "");
+        let ended = run(&rt, rt.alloc(), "", case.input);
+        assert_ended(&rt, case.name, &ended, 0, &first.printed, "");
     }
-    Ok(())
 }
 
 /// A run of the program: the arguments, separated by spaces, the input, what is printed to standard output and
@@ -240,76 +251,74 @@ const LINES: &[(&str, &[u8], &str)] = &[
 ];
 
 #[test]
-fn prints_lines(rt: HostRuntime) -> Result<(), Fail> {
+fn prints_lines(rt: HostRuntime) {
     for (name, input, lines) in LINES {
-        let ended = run(rt.alloc(), "--short", input)?;
-        assert_status(&rt, name, ended.status, 0);
-        assert_text(&rt, name, &ended.printed, lines);
-        assert_text(&rt, name, &ended.errors, "");
+        let ended = run(&rt, rt.alloc(), "--short", input);
+        assert_ended(&rt, name, &ended, 0, lines, "");
     }
-    Ok(())
 }
 
 #[test]
-fn prints_runs(rt: HostRuntime) -> Result<(), Fail> {
+fn prints_runs(rt: HostRuntime) {
     for case in RUNS {
-        let ended = run(rt.alloc(), case.words, case.input)?;
-        assert_text(&rt, case.name, &ended.printed, case.printed);
-        assert_text(&rt, case.name, &ended.errors, case.errors);
-        assert_status(&rt, case.name, ended.status, case.status);
+        let ended = run(&rt, rt.alloc(), case.words, case.input);
+        assert_ended(
+            &rt,
+            case.name,
+            &ended,
+            case.status,
+            case.printed,
+            case.errors,
+        );
     }
-    Ok(())
 }
+
+/// How the help begins.
+const HELP_START: &str = "usage: dnsview [--html | --short] [FILE]\n\nPrints";
 
 /// Arguments that ask for help.
 const HELPS: &[&str] = &["--help", "-h", "answer.bin -h", "--version --text --help"];
 
 #[test]
-fn prints_help(rt: HostRuntime) -> Result<(), Fail> {
+fn prints_help(rt: HostRuntime) {
     for words in HELPS {
-        let ended = run(rt.alloc(), words, b"")?;
+        let ended = run(&rt, rt.alloc(), words, b"");
         assert_status(&rt, words, ended.status, 0);
-        let is_usage = ended
-            .printed
-            .starts_with("usage: dnsview [--html | --short] [FILE]\n\nPrints");
+        let is_usage = ended.printed.starts_with(HELP_START);
         assert_holds(&rt, words, is_usage);
-        assert_holds(
-            &rt,
-            words,
-            ended.printed.contains("\nExample: dnsview --html "),
-        );
+        let has_example = ended.printed.contains("\nExample: dnsview --html ");
+        assert_holds(&rt, words, has_example);
         assert_text(&rt, words, &ended.errors, "");
     }
-    Ok(())
 }
 
-/// Fails unless this is the file that a view is asked of.
-fn assert_file(rt: &impl Abort, alloc: Global, words: &str, file: &str) -> Result<(), Fail> {
-    let arguments = words_of(alloc, words)?;
-    let found = file_of(&arguments).map_or("", |file| file.as_str());
-    assert_text(rt, words, found, file);
-    Ok(())
-}
-
-#[test]
-fn finds_the_file(rt: HostRuntime) -> Result<(), Fail> {
-    assert_file(&rt, rt.alloc(), "", "")?;
-    assert_file(&rt, rt.alloc(), "--html", "")?;
-    assert_file(&rt, rt.alloc(), "answer.bin", "answer.bin")?;
-    assert_file(&rt, rt.alloc(), "answer.bin --html", "answer.bin")?;
-    assert_file(&rt, rt.alloc(), "--html -", "-")?;
-    assert_file(&rt, rt.alloc(), "--short answer.bin", "answer.bin")?;
+/// Arguments, and the file that a view is asked of.
+const FILES: &[(&str, &str)] = &[
+    ("", ""),
+    ("--html", ""),
+    ("answer.bin", "answer.bin"),
+    ("answer.bin --html", "answer.bin"),
+    ("--html -", "-"),
+    ("--short answer.bin", "answer.bin"),
     // No view is asked for.
-    assert_file(&rt, rt.alloc(), "answer.bin --help", "")?;
-    assert_file(&rt, rt.alloc(), "answer.bin query.bin", "")
+    ("answer.bin --help", ""),
+    ("answer.bin query.bin", ""),
+];
+
+#[test]
+fn finds_the_file(rt: HostRuntime) {
+    for (words, file) in FILES {
+        let arguments = words_of(&rt, rt.alloc(), words);
+        let found = file_of(&arguments).map_or("", |file| file.as_str());
+        assert_text(&rt, words, found, file);
+    }
 }
 
 #[test]
-fn prints_a_page(rt: HostRuntime) -> Result<(), Fail> {
-    let ended = run(rt.alloc(), "--html", b"000000000000000000000000")?;
+fn prints_a_page(rt: HostRuntime) {
+    let ended = run(&rt, rt.alloc(), "--html", b"000000000000000000000000");
     assert_status(&rt, "a page", ended.status, 0);
     let page = ended.printed;
     let is_page = page.starts_with("<!DOCTYPE html>\n") && page.ends_with("</html>\n");
     assert_holds(&rt, "the first and the last line", is_page);
-    Ok(())
 }

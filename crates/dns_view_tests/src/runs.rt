@@ -1,6 +1,6 @@
 //! Runs of a program.
 use std::alloc::Global;
-use std::test::Fail;
+use std::process::Abort;
 
 /// A run of a program: the arguments after its name, separated by spaces, standard input, what is
 /// printed, and the exit status.
@@ -14,10 +14,11 @@ pub(crate) struct Run<'a> {
 }
 
 /// Arguments that are separated by spaces, as a program takes them.
-pub(crate) fn words_of(alloc: Global, words: &str) -> Result<Vec<String>, Fail> {
+pub(crate) fn words_of(rt: &impl Abort, alloc: Global, words: &str) -> Vec<String> {
     let mut strings = Vec::new(alloc);
     for word in words.split_whitespace() {
-        strings.push(String::from_str(alloc, word)?)?;
+        let word = String::from_str(alloc, word).expect(rt, "memory");
+        strings.push(word).expect(rt, "memory");
     }
-    Ok(strings)
+    strings
 }

@@ -10,50 +10,43 @@ use dns_message::message::Message;
 use dns_message::tool;
 use std::alloc::Global;
 use std::process::Abort;
-use std::test::Fail;
 
 const SHOW: &str = "show";
 
 #[test]
-fn shows_worked_examples(rt: HostRuntime) -> Result<(), Fail> {
+fn shows_worked_examples(rt: HostRuntime) {
     for example in examples::EXAMPLES {
-        assert_run(&rt, rt.alloc(), *example)?;
+        assert_run(&rt, rt.alloc(), example);
     }
-    Ok(())
 }
 
 #[test]
-fn shows_what_name_servers_sent(rt: HostRuntime) -> Result<(), Fail> {
-    assert_captures(&rt, rt.alloc(), knotd::CAPTURES)?;
-    assert_captures(&rt, rt.alloc(), named::CAPTURES)?;
-    assert_captures(&rt, rt.alloc(), nsd::CAPTURES)
+fn shows_what_name_servers_sent(rt: HostRuntime) {
+    assert_captures(&rt, rt.alloc(), knotd::CAPTURES);
+    assert_captures(&rt, rt.alloc(), named::CAPTURES);
+    assert_captures(&rt, rt.alloc(), nsd::CAPTURES);
 }
 
-fn assert_run(rt: &impl Abort, alloc: Global, case: Run<'_>) -> Result<(), Fail> {
+fn assert_run(rt: &impl Abort, alloc: Global, case: &Run<'_>) {
+    let words = words_of(rt, alloc, case.words);
     let mut output = Vec::new(alloc);
-    let ended = tool(
-        alloc,
-        &words_of(alloc, case.words)?,
-        case.input,
-        &mut output,
-    );
-    assert_text(rt, case.name, &String::from_utf8(output)?, case.printed);
+    let ended = tool(alloc, &words, case.input, &mut output);
+    let printed = String::from_utf8(output).expect(rt, case.name);
+    assert_text(rt, case.name, &printed, case.printed);
     assert_status(rt, case.name, ended, case.status);
-    Ok(())
 }
 
 /// Checks captures. Each one comes after `> `: a line that says what it is, a line with the octets
 /// in hexadecimal, and the lines that are printed.
-fn assert_captures(rt: &impl Abort, alloc: Global, captures: &str) -> Result<(), Fail> {
+fn assert_captures(rt: &impl Abort, alloc: Global, captures: &str) {
     for capture in captures.split("> ").skip(1) {
-        assert_capture(rt, alloc, capture)?;
+        assert_capture(rt, alloc, capture);
     }
-    Ok(())
 }
 
-fn assert_capture(rt: &impl Abort, alloc: Global, capture: &str) -> Result<(), Fail> {
-    let (name, rest) = capture.split_once('\n').ok_or("no digits")?;
-    let (digits, printed) = rest.split_once('\n').ok_or("no lines")?;
+fn assert_capture(rt: &impl Abort, alloc: Global, capture: &str) {
+    let (name, rest) = capture.split_once('\n').expect(rt, "a line of digits");
+    let (digits, printed) = rest.split_once('\n').expect(rt, name);
     let run = Run {
         name,
         words: SHOW,
@@ -61,37 +54,32 @@ fn assert_capture(rt: &impl Abort, alloc: Global, capture: &str) -> Result<(), F
         printed,
         status: 0,
     };
-    assert_run(rt, alloc, run)?;
-    assert_opt(rt, alloc, name, digits, printed)
+    assert_run(rt, alloc, &run);
+    assert_opt(rt, alloc, name, digits, printed);
 }
 
 /// Checks that `Message::opt` returns the OPT record that is printed, or `None` if there is none.
-fn assert_opt(
-    rt: &impl Abort,
-    alloc: Global,
-    row: &str,
-    digits: &str,
-    text: &str,
-) -> Result<(), Fail> {
-    let message = Message::from_octets(hex::decode(alloc, digits.as_bytes())?)?;
-    let line = opt_line(alloc, &message)?;
+fn assert_opt(rt: &impl Abort, alloc: Global, row: &str, digits: &str, text: &str) {
+    let octets = hex::decode(alloc, digits.as_bytes()).expect(rt, row);
+    let message = Message::from_octets(octets).expect(rt, row);
+    let line = opt_line(rt, alloc, &message);
     assert!(rt; text.contains(" OPT ") != line.is_empty(), "{row}: {line}");
     assert!(rt; text.contains(line.as_str()), "{row}: {line}");
-    Ok(())
 }
 
 /// The line of the OPT record that `Message::opt` returns; empty if it returns none.
-fn opt_line(alloc: Global, message: &Message<Vec<u8>>) -> Result<String, Fail> {
+fn opt_line(rt: &impl Abort, alloc: Global, message: &Message<Vec<u8>>) -> String {
     let Some(opt) = message.opt() else {
-        return Ok(String::new(alloc));
+        return String::new(alloc);
     };
     let data = opt.opt().data();
     let space = if data.is_empty() { "" } else { " " };
-    let digits = hex::encode(alloc, data)?;
-    Ok(format!(in alloc;
+    let digits = hex::encode(alloc, data).expect(rt, "memory");
+    format!(in alloc;
         "additional . {} CLASS{} OPT \\# {}{space}{digits}\n",
         opt.as_record().ttl().as_secs(),
         opt.udp_payload_size(),
         data.len()
-    )?)
+    )
+    .expect(rt, "memory")
 }
