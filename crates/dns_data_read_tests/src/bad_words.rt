@@ -144,6 +144,6 @@ fn target_error(rt: &impl Abort, alloc: Global, count: usize) -> Option<TextErro
 /// Record data has at most 65,535 octets.
 #[test]
 fn long_data(rt: HostRuntime) {
-    let longer = target_error(&rt, rt.alloc(), 65536);
+    let longer = target_error(&rt, rt.alloc(), 65532);
     assert_longest(&rt, longer, target_error(&rt, rt.alloc(), 65531));
 }
