@@ -2,6 +2,8 @@
 //!
 //! Nothing is kept between two calls: the caller owns the message, the cursor and each buffer. Each
 //! function returns for all arguments, and reports errors as numbers. Only `dnsm_build` allocates.
+//!
+//! `no_mangle` marks the functions that C calls. `examples/c/library` exports them.
 #![tactic(auto)]
 
 mod build;

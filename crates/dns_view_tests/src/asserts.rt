@@ -12,6 +12,11 @@ pub(crate) fn assert_text(rt: &impl Abort, row: &str, printed: &str, expected: &
     assert!(rt; printed == expected, "{row}: printed\n{printed}");
 }
 
+/// Fails unless the printed text contains this one.
+pub(crate) fn assert_contains(rt: &impl Abort, printed: &str, text: &str) {
+    assert!(rt; printed.contains(text), "{text}: printed\n{printed}");
+}
+
 /// Fails unless the program exited with this status.
 pub(crate) fn assert_status(rt: &impl Abort, row: &str, ended: u8, expected: u8) {
     assert!(rt; ended == expected, "{row}: status {ended}");

@@ -150,7 +150,7 @@ fn all_of(header: Header) -> [bool; 8] {
     ]
 }
 
-/// Fails unless each flag and the Z bit can be set or cleared, and the header has these octets then.
+/// Fails unless each flag and the Z bit can be set or cleared. The header has these octets then.
 fn assert_sets(rt: &impl Abort, row: &str, header: &mut Header, set: bool, octets: &[u8]) {
     set_all(header, set);
     assert_octets(rt, row, header.as_slice(), octets);

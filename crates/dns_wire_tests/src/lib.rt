@@ -1,9 +1,10 @@
-//! Tests of the layers below messages: octets, names, codes, headers and TTLs as they are read and
-//! printed, and targets to which names and octets are appended and from which they are cut away.
-//! The expected values come from outside this library.
+//! Tests of the layers below messages: octets, names, codes, headers, TTLs and serials as they are
+//! read and printed, and targets to which names and octets are appended and from which they are cut
+//! away. The expected values come from outside this library.
 //!
 //! Nothing is exported. A module tests what it is named after; `asserts` and `steps` have what many
-//! tests use, and `callers` proved callers. The rows of a table have names, which failures print.
+//! tests use, and `callers` and `serials` proved callers. The rows of a table have names, which
+//! failures print.
 #![tactic(auto)]
 
 #[cfg(test)]
@@ -30,6 +31,10 @@ mod names;
 mod octets;
 #[cfg(test)]
 mod parser;
+#[cfg(test)]
+mod registry;
+#[cfg(test)]
+mod serials;
 #[cfg(test)]
 mod steps;
 #[cfg(test)]

@@ -1,25 +1,19 @@
 //! Values that are printed.
+use crate::asserts::{assert_holds, assert_text};
 use dns_value_text::{Base32, Eui, Hex, Location, Locator64, Quoted, Tag, Timestamp};
 use std::alloc::Global;
 use std::fmt::Display;
 use std::process::Abort;
-use std::test::Fail;
 
 /// Fails unless the value is printed as `text`.
-fn assert_prints<T: Display>(
-    rt: &impl Abort,
-    alloc: Global,
-    value: &T,
-    text: &str,
-) -> Result<(), Fail> {
-    let printed = format!(in alloc; "{value}")?;
-    assert_eq!(rt; printed.as_str(), text);
-    Ok(())
+fn assert_prints<T: Display>(rt: &impl Abort, alloc: Global, value: &T, text: &str) {
+    let printed = value.to_string(alloc).expect(rt, text);
+    assert_text(rt, text, printed.as_str(), text);
 }
 
 /// The digest of RFC 4034 section 5.4.
 #[test]
-fn octets_in_hexadecimal(rt: HostRuntime) -> Result<(), Fail> {
+fn octets_in_hexadecimal(rt: HostRuntime) {
     let digest =
         b"\x2B\xB1\x83\xAF\x5F\x22\x58\x81\x79\xA5\x3B\x0A\x98\x63\x1F\xAD\x1A\x29\x21\x18";
     assert_prints(
@@ -42,11 +36,10 @@ const BASE32: &[(&[u8], &str)] = &[
 ];
 
 #[test]
-fn octets_in_base32(rt: HostRuntime) -> Result<(), Fail> {
+fn octets_in_base32(rt: HostRuntime) {
     for (octets, text) in BASE32 {
-        assert_prints(&rt, rt.alloc(), &Base32(octets), text)?;
+        assert_prints(&rt, rt.alloc(), &Base32(octets), text);
     }
-    Ok(())
 }
 
 /// The times of RFC 4034 section 3.3, the first and the last, and days around leap days.
@@ -61,37 +54,34 @@ const TIMES: &[(u32, &str)] = &[
 ];
 
 #[test]
-fn times(rt: HostRuntime) -> Result<(), Fail> {
+fn times(rt: HostRuntime) {
     for (seconds, text) in TIMES {
-        assert_prints(&rt, rt.alloc(), &Timestamp(*seconds), text)?;
+        assert_prints(&rt, rt.alloc(), &Timestamp(*seconds), text);
     }
-    Ok(())
 }
 
 #[test]
-fn strings_in_quotes(rt: HostRuntime) -> Result<(), Fail> {
+fn strings_in_quotes(rt: HostRuntime) {
     let string = Quoted(b"a\"b\\c\x07\xC8 d");
     assert_prints(&rt, rt.alloc(), &string, "\"a\\\"b\\\\c\\007\\200 d\"")
 }
 
 /// A tag of RFC 8659 section 4.1, and octets that are no tag.
 #[test]
-fn tags(rt: HostRuntime) -> Result<(), Fail> {
-    let Some(tag) = Tag::from_octets(b"issue") else {
-        panic!(rt; "no tag");
-    };
-    assert_prints(&rt, rt.alloc(), &tag, "issue")?;
-    assert!(rt; Tag::from_octets(b"is-sue").is_none());
-    Ok(())
+fn tags(rt: HostRuntime) {
+    let tag = Tag::from_octets(b"issue").expect(&rt, "a tag");
+    assert_prints(&rt, rt.alloc(), &tag, "issue");
+    let is_none = Tag::from_octets(b"is-sue").is_none();
+    assert_holds(&rt, "is-sue", is_none);
 }
 
 /// The examples of RFC 7043 sections 3.2 and 4.2, and of RFC 6742 section 2.3.
 #[test]
-fn addresses(rt: HostRuntime) -> Result<(), Fail> {
+fn addresses(rt: HostRuntime) {
     let eui48 = Eui(b"\x00\x00\x5E\x00\x53\x2A");
-    assert_prints(&rt, rt.alloc(), &eui48, "00-00-5e-00-53-2a")?;
+    assert_prints(&rt, rt.alloc(), &eui48, "00-00-5e-00-53-2a");
     let eui64 = Eui(b"\x00\x00\x5E\xEF\x10\x00\x00\x2A");
-    assert_prints(&rt, rt.alloc(), &eui64, "00-00-5e-ef-10-00-00-2a")?;
+    assert_prints(&rt, rt.alloc(), &eui64, "00-00-5e-ef-10-00-00-2a");
     let locator = Locator64(*b"\x20\x01\x0D\xB8\x11\x40\x10\x00");
     assert_prints(&rt, rt.alloc(), &locator, "2001:0db8:1140:1000")
 }
@@ -109,12 +99,9 @@ const LOCATIONS: &[(&[u8], &str)] = &[
 ];
 
 #[test]
-fn locations(rt: HostRuntime) -> Result<(), Fail> {
+fn locations(rt: HostRuntime) {
     for (octets, text) in LOCATIONS {
-        let Some(location) = Location::from_octets(octets) else {
-            panic!(rt; "no location");
-        };
-        assert_prints(&rt, rt.alloc(), &location, text)?;
+        let location = Location::from_octets(octets).expect(&rt, text);
+        assert_prints(&rt, rt.alloc(), &location, text);
     }
-    Ok(())
 }

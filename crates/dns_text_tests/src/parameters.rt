@@ -1,7 +1,6 @@
 //! Words of service parameters.
+use crate::reading::{assert_bad, assert_reads};
 use dns_parameters_read::read_parameters;
-use dns_value_text::TextError;
-use std::test::Fail;
 
 /// The parameters of RFC 9460 appendix D.2.
 const PARAMETERS: &[(&[&str], &[u8])] = &[
@@ -39,14 +38,10 @@ const PARAMETERS: &[(&[&str], &[u8])] = &[
 ];
 
 #[test]
-fn parameters(rt: HostRuntime) -> Result<(), Fail> {
+fn parameters(rt: HostRuntime) {
     for (words, octets) in PARAMETERS {
-        let Ok(read) = read_parameters(rt.alloc(), words) else {
-            panic!(rt; "no parameters");
-        };
-        assert_eq!(rt; read.as_slice(), *octets);
+        assert_reads(&rt, words, read_parameters(rt.alloc(), words), octets);
     }
-    Ok(())
 }
 
 /// The parameters of RFC 9460 appendix D.3, but for one that is only inconsistent with the others.
@@ -63,14 +58,10 @@ const NOT_PARAMETERS: &[&[&str]] = &[
 ];
 
 #[test]
-fn words_of_no_parameters(rt: HostRuntime) -> Result<(), Fail> {
+fn words_of_no_parameters(rt: HostRuntime) {
     for words in NOT_PARAMETERS {
-        assert_eq!(rt;
-            read_parameters(rt.alloc(), words).err(),
-            Some(TextError::BadWord)
-        );
+        assert_bad(&rt, words, read_parameters(rt.alloc(), words));
     }
-    Ok(())
 }
 
 /// Other keys and values, as RFC 9848 section 3, RFC 9461 section 5 and RFC 9540 section 4 have them.
@@ -84,14 +75,10 @@ const OTHERS: &[(&str, &[u8])] = &[
 ];
 
 #[test]
-fn other_parameters(rt: HostRuntime) -> Result<(), Fail> {
+fn other_parameters(rt: HostRuntime) {
     for (word, octets) in OTHERS {
-        let Ok(read) = read_parameters(rt.alloc(), &[*word]) else {
-            panic!(rt; "no parameters");
-        };
-        assert_eq!(rt; read.as_slice(), *octets, "{word}");
+        assert_reads(&rt, &[*word], read_parameters(rt.alloc(), &[*word]), octets);
     }
-    Ok(())
 }
 
 /// Malformed keys and values.
@@ -113,13 +100,8 @@ const MALFORMED: &[&str] = &[
 ];
 
 #[test]
-fn malformed_parameters(rt: HostRuntime) -> Result<(), Fail> {
+fn malformed_parameters(rt: HostRuntime) {
     for word in MALFORMED {
-        assert_eq!(rt;
-            read_parameters(rt.alloc(), &[*word]).err(),
-            Some(TextError::BadWord),
-            "{word}"
-        );
+        assert_bad(&rt, &[*word], read_parameters(rt.alloc(), &[*word]));
     }
-    Ok(())
 }

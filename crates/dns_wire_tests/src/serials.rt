@@ -1,4 +1,7 @@
-//! Serials: sums, comparisons and texts.
+//! Serials: sums, comparisons and texts, and a proved caller.
+ghost use Rattle.std.specs.Prelude.{◌↔◌, IsTrue};
+ghost use Rattle.dns_serial.specs.Serials.{IsLess};
+
 use crate::asserts::assert_same;
 use dns_serial::Serial;
 use std::cmp::Ordering;
@@ -57,4 +60,20 @@ fn prints(rt: HostRuntime) {
     let serial = Serial::from(0x8000_0000);
     let text = serial.to_string(rt.alloc()).expect(&rt, "memory");
     assert_same(&rt, "a text", text.as_str(), "2147483648");
+}
+
+/// Whether a secondary server has to transfer a zone that it holds.
+fn needs_transfer(held: Serial, offered: Serial) -> bool
+    ensures { IsTrue result ↔ IsLess held offered }
+{
+    held.serial_cmp(offered) == Some(Ordering::Less)
+}
+
+#[test]
+fn transfers_newer_zones(rt: HostRuntime) {
+    let held = Serial::from(u32::MAX);
+    let needs = needs_transfer(held, held.add(2));
+    assert_same(&rt, "a newer zone", needs, true);
+    let needs = needs_transfer(held, held);
+    assert_same(&rt, "the same zone", needs, false);
 }

@@ -1,9 +1,9 @@
 //! Words of gateways, relays, host identities, and octets after their length.
+use crate::asserts::assert_octets;
+use crate::reading::{assert_bad, assert_reads};
 use dns_fields_read::{
     read_base64_words, read_gateway, read_hex_words, read_host_identity, read_relay, read_sized,
 };
-use dns_value_text::TextError;
-use std::test::Fail;
 
 /// The gateways of RFC 4025 section 3.2, after their precedence. Their keys are the same.
 const GATEWAYS: &[(&[&str], &[u8])] = &[
@@ -20,19 +20,15 @@ const GATEWAYS: &[(&[&str], &[u8])] = &[
 ];
 
 #[test]
-fn gateways(rt: HostRuntime) -> Result<(), Fail> {
+fn gateways(rt: HostRuntime) {
     for (words, octets) in GATEWAYS {
-        let Ok(read) = read_gateway(rt.alloc(), words) else {
-            panic!(rt; "no gateway");
-        };
-        assert_eq!(rt; read.as_slice(), *octets);
+        assert_reads(&rt, words, read_gateway(rt.alloc(), words), octets);
     }
-    Ok(())
 }
 
 /// The first gateway of RFC 4025 section 3.2, with its key in two words.
 #[test]
-fn keys(rt: HostRuntime) -> Result<(), Fail> {
+fn keys(rt: HostRuntime) {
     let words = [
         "1",
         "2",
@@ -40,14 +36,9 @@ fn keys(rt: HostRuntime) -> Result<(), Fail> {
         "AQNRU3mG7TVTO2BkR47usntb102uFJtu",
         "gbo6BSGvgqt4AQ==",
     ];
-    let Ok(read) = read_gateway(rt.alloc(), &words) else {
-        panic!(rt; "no gateway");
-    };
-    assert_eq!(rt;
-        read.as_slice(),
-        b"\x01\x02\xc0\x00\x02&\x01\x03QSy\x86\xed5S;`dG\x8e\xee\xb2{[\xd7M\xae\x14\x9bn\x81\xba:\x05!\xaf\x82\xabx\x01".as_slice()
-    );
-    Ok(())
+    let octets =
+        b"\x01\x02\xc0\x00\x02&\x01\x03QSy\x86\xed5S;`dG\x8e\xee\xb2{[\xd7M\xae\x14\x9bn\x81\xba:\x05!\xaf\x82\xabx\x01";
+    assert_reads(&rt, &words, read_gateway(rt.alloc(), &words), octets);
 }
 
 /// Another type, gateways of another type than the number says, a number of more than 8 bits,
@@ -66,14 +57,10 @@ const NOT_GATEWAYS: &[&[&str]] = &[
 ];
 
 #[test]
-fn words_of_no_gateway(rt: HostRuntime) -> Result<(), Fail> {
+fn words_of_no_gateway(rt: HostRuntime) {
     for words in NOT_GATEWAYS {
-        assert_eq!(rt;
-            read_gateway(rt.alloc(), words).err(),
-            Some(TextError::BadWord)
-        );
+        assert_bad(&rt, words, read_gateway(rt.alloc(), words));
     }
-    Ok(())
 }
 
 /// The relays of RFC 8777 section 4.3.2, after their precedence.
@@ -91,14 +78,10 @@ const RELAYS: &[(&[&str], &[u8])] = &[
 ];
 
 #[test]
-fn relays(rt: HostRuntime) -> Result<(), Fail> {
+fn relays(rt: HostRuntime) {
     for (words, octets) in RELAYS {
-        let Ok(read) = read_relay(rt.alloc(), words) else {
-            panic!(rt; "no relay");
-        };
-        assert_eq!(rt; read.as_slice(), *octets);
+        assert_reads(&rt, words, read_relay(rt.alloc(), words), octets);
     }
-    Ok(())
 }
 
 /// Another bit, another type, and other numbers of words.
@@ -110,14 +93,10 @@ const NOT_RELAYS: &[&[&str]] = &[
 ];
 
 #[test]
-fn words_of_no_relay(rt: HostRuntime) -> Result<(), Fail> {
+fn words_of_no_relay(rt: HostRuntime) {
     for words in NOT_RELAYS {
-        assert_eq!(rt;
-            read_relay(rt.alloc(), words).err(),
-            Some(TextError::BadWord)
-        );
+        assert_bad(&rt, words, read_relay(rt.alloc(), words));
     }
-    Ok(())
 }
 
 /// The words of the algorithm, the tag and the key in RFC 8005 section 6.
@@ -132,21 +111,19 @@ const IDENTITY_OCTETS: &[u8] =
     b"\x10\x02\x00\x84 \x01\x00\x10{\x1at\xdf6V9\xcc9\xf1\xd5x\x03\x01\x00\x01\xb7q\xca\x13nJ\xeb\\\xe4C3\xc5;=,\x13\xc2\"C\x85\x1f\xc7\x08\xbc\xce)\xf7\xe2\xebW\x87\xb5\xf5l\xca\xd3O\x82#\xac\xc1\x09\x04\xdd\xb5k.\xc4\xa6\xd6#/;P\xea\x09O\x09\x14\xb3\xb9A\xbb\xe5)\xafX,6\xbb\xad\xef\xda\xf2\xad\xaf\x9bI\x11\x90o[%\"`<aRr\xb8\x80\xec\x8f\xb90\xccn\xe3\x9cDM\xaau\xb1g\x8f\x00ZK$\x99\xd1\xdaT3\xf8\x05\xc7\xa5\xad27\xac\xc5\xdd\\^C";
 
 #[test]
-fn identities(rt: HostRuntime) -> Result<(), Fail> {
-    let Ok(read) = read_host_identity(rt.alloc(), &IDENTITY) else {
-        panic!(rt; "no identity");
-    };
-    assert_eq!(rt; read.as_slice(), IDENTITY_OCTETS);
+fn identities(rt: HostRuntime) {
+    let read = read_host_identity(rt.alloc(), &IDENTITY);
+    assert_reads(&rt, &IDENTITY, read, IDENTITY_OCTETS);
+}
+
+#[test]
+fn identities_with_a_server(rt: HostRuntime) {
     let words = [IDENTITY[0], IDENTITY[1], IDENTITY[2], "rvs.example.com."];
-    let Ok(served) = read_host_identity(rt.alloc(), &words) else {
-        panic!(rt; "no identity");
-    };
-    let Some((identity, servers)) = served.split_at_checked(IDENTITY_OCTETS.len()) else {
-        panic!(rt; "no servers");
-    };
-    assert_eq!(rt; identity, IDENTITY_OCTETS);
-    assert_eq!(rt; servers, b"\x03rvs\x07example\x03com\x00".as_slice());
-    Ok(())
+    let served = read_host_identity(rt.alloc(), &words).expect(&rt, "an identity");
+    let parts = served.split_at_checked(IDENTITY_OCTETS.len());
+    let (identity, servers) = parts.expect(&rt, "a server");
+    assert_octets(&rt, "the identity", identity, IDENTITY_OCTETS);
+    assert_octets(&rt, "the server", servers, b"\x03rvs\x07example\x03com\x00");
 }
 
 /// A number of more than 8 bits, tags and keys that aren't digits, missing words, and a server
@@ -162,27 +139,23 @@ const NOT_IDENTITIES: &[&[&str]] = &[
 ];
 
 #[test]
-fn words_of_no_identity(rt: HostRuntime) -> Result<(), Fail> {
+fn words_of_no_identity(rt: HostRuntime) {
     for words in NOT_IDENTITIES {
-        assert_eq!(rt;
-            read_host_identity(rt.alloc(), words).err(),
-            Some(TextError::BadWord)
-        );
+        assert_bad(&rt, words, read_host_identity(rt.alloc(), words));
     }
-    Ok(())
 }
 
+/// Octets after their length, and their words.
+const SIZED: &[(&[&str], &[u8])] = &[
+    (&["6", "Zm9vYmFy"], b"\x00\x06foobar"),
+    (&["0"], b"\x00\x00"),
+];
+
 #[test]
-fn octets_after_their_length(rt: HostRuntime) -> Result<(), Fail> {
-    let Ok(read) = read_sized(rt.alloc(), &["6", "Zm9vYmFy"]) else {
-        panic!(rt; "no octets");
-    };
-    assert_eq!(rt; read.as_slice(), b"\x00\x06foobar".as_slice());
-    let Ok(none) = read_sized(rt.alloc(), &["0"]) else {
-        panic!(rt; "no octets");
-    };
-    assert_eq!(rt; none.as_slice(), b"\x00\x00".as_slice());
-    Ok(())
+fn octets_after_their_length(rt: HostRuntime) {
+    for (words, octets) in SIZED {
+        assert_reads(&rt, words, read_sized(rt.alloc(), words), octets);
+    }
 }
 
 /// Other numbers, and other numbers of words.
@@ -197,30 +170,24 @@ const NOT_SIZED: &[&[&str]] = &[
 ];
 
 #[test]
-fn words_of_other_numbers(rt: HostRuntime) -> Result<(), Fail> {
+fn words_of_other_numbers(rt: HostRuntime) {
     for words in NOT_SIZED {
-        assert_eq!(rt;
-            read_sized(rt.alloc(), words).err(),
-            Some(TextError::BadWord)
-        );
+        assert_bad(&rt, words, read_sized(rt.alloc(), words));
     }
-    Ok(())
 }
 
 /// Digits that are split, as in RFC 4034 section 2.3.
 #[test]
-fn split_digits(rt: HostRuntime) -> Result<(), Fail> {
-    let Ok(read) = read_base64_words(rt.alloc(), &["Zm9", "vYm", "Fy"]) else {
-        panic!(rt; "no octets");
-    };
-    assert_eq!(rt; read.as_slice(), b"foobar".as_slice());
-    let Ok(read) = read_hex_words(rt.alloc(), &["666", "f6F"]) else {
-        panic!(rt; "no octets");
-    };
-    assert_eq!(rt; read.as_slice(), b"foo".as_slice());
-    assert_eq!(rt;
-        read_base64_words(rt.alloc(), &["Zm9", "vYm"]).err(),
-        Some(TextError::BadWord)
+fn split_digits(rt: HostRuntime) {
+    let words = ["Zm9", "vYm", "Fy"];
+    assert_reads(
+        &rt,
+        &words,
+        read_base64_words(rt.alloc(), &words),
+        b"foobar",
     );
-    Ok(())
+    let words = ["Zm9", "vYm"];
+    assert_bad(&rt, &words, read_base64_words(rt.alloc(), &words));
+    let words = ["666", "f6F"];
+    assert_reads(&rt, &words, read_hex_words(rt.alloc(), &words), b"foo");
 }

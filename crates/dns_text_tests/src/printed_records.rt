@@ -1,4 +1,5 @@
 //! Records as lines.
+use crate::asserts::assert_text;
 use dns_code::{Class, Rtype};
 use dns_data::ParseAnyRecordData;
 use dns_fields::FieldData;
@@ -23,14 +24,18 @@ fn prints_records(rt: HostRuntime) {
     let data = exchange_of(&rt, b"\x00\x0a\x06VENERA\x03ISI\x03EDU\x00");
     let owner = name_of(&rt, b"\x03ISI\x03EDU\x00");
     let record = Record::new(owner, Class::IN, Ttl::from_secs(3600), data);
-    let text = format!(in rt.alloc(); "{}", RecordText(&record)).expect(&rt, "memory");
-    assert_eq!(rt; text.as_str(), "ISI.EDU. 3600 IN MX 10 VENERA.ISI.EDU.");
+    let text = RecordText(&record)
+        .to_string(rt.alloc())
+        .expect(&rt, "memory");
+    let expected = "ISI.EDU. 3600 IN MX 10 VENERA.ISI.EDU.";
+    assert_text(&rt, "the record", text.as_str(), expected);
 }
 
 /// Characters with a meaning in zone files are escaped, as dnspython does.
 #[test]
 fn escapes_names(rt: HostRuntime) {
     let name = name_of(&rt, b"\x04a;b(\x05\")@$\\\x03c.\x01\x00");
-    let text = format!(in rt.alloc(); "{}", ZoneName(name)).expect(&rt, "memory");
-    assert_eq!(rt; text.as_str(), "a\\;b\\(.\\\"\\)\\@\\$\\\\.c\\.\\001.");
+    let text = ZoneName(name).to_string(rt.alloc()).expect(&rt, "memory");
+    let expected = "a\\;b\\(.\\\"\\)\\@\\$\\\\.c\\.\\001.";
+    assert_text(&rt, "the name", text.as_str(), expected);
 }

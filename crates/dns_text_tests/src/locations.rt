@@ -1,4 +1,5 @@
 //! Words of locations.
+use crate::reading::assert_words;
 use dns_fields_read::read_location;
 
 /// The octets of a location as a number.
@@ -38,7 +39,7 @@ const EXAMPLES: &[(&[&str], u128)] = &[
 #[test]
 fn examples(rt: HostRuntime) {
     for (words, octets) in EXAMPLES {
-        assert_eq!(rt; number_of(words), Some(*octets), "{octets:x}");
+        assert_words(&rt, words, number_of(words) == Some(*octets));
     }
 }
 
@@ -82,7 +83,7 @@ const BOUNDS: &[(&[&str], u128)] = &[
 #[test]
 fn bounds(rt: HostRuntime) {
     for (words, octets) in BOUNDS {
-        assert_eq!(rt; number_of(words), Some(*octets), "{octets:x}");
+        assert_words(&rt, words, number_of(words) == Some(*octets));
     }
 }
 
@@ -100,7 +101,7 @@ const NOT_ANGLES: &[&[&str]] = &[
 #[test]
 fn words_of_no_angle(rt: HostRuntime) {
     for words in NOT_ANGLES {
-        assert!(rt; read_location(words).is_none());
+        assert_words(&rt, words, read_location(words).is_none());
     }
 }
 
@@ -117,7 +118,7 @@ const OTHER_WORDS: &[&[&str]] = &[
 #[test]
 fn other_words(rt: HostRuntime) {
     for words in OTHER_WORDS {
-        assert!(rt; read_location(words).is_none());
+        assert_words(&rt, words, read_location(words).is_none());
     }
 }
 
@@ -137,6 +138,6 @@ const NOT_LENGTHS: &[&[&str]] = &[
 #[test]
 fn words_of_no_length(rt: HostRuntime) {
     for words in NOT_LENGTHS {
-        assert!(rt; read_location(words).is_none());
+        assert_words(&rt, words, read_location(words).is_none());
     }
 }

@@ -1,4 +1,5 @@
 //! Words of numbers, addresses and names.
+use crate::asserts::{assert_holds, assert_octets};
 use dns_fields_read::{
     read_eui48, read_eui64, read_ipv4, read_ipv6, read_locator, read_name, read_time, read_type,
 };
@@ -21,7 +22,7 @@ const TIMES: &[(&str, Option<u32>)] = &[
 #[test]
 fn times(rt: HostRuntime) {
     for (word, seconds) in TIMES {
-        assert_eq!(rt; read_time(word), *seconds, "{word}");
+        assert_holds(&rt, word, read_time(word) == *seconds);
     }
 }
 
@@ -41,45 +42,45 @@ const TYPES: &[(&str, Option<u16>)] = &[
 fn types(rt: HostRuntime) {
     for (word, number) in TYPES {
         let read = read_type(word).map(|rtype: Rtype| rtype.to_int());
-        assert_eq!(rt; read, *number, "{word}");
+        assert_holds(&rt, word, read == *number);
     }
 }
 
 #[test]
 fn addresses(rt: HostRuntime) {
-    assert_eq!(rt; read_ipv4(b"10.1.0.52"), Some([10, 1, 0, 52]));
-    assert_eq!(rt; read_ipv4(b"256.1.0.52"), None);
-    assert_eq!(rt;
-        read_ipv6(b"::ffff:192.0.2.1"),
-        Some([0, 0, 0, 0, 0, 0, 0, 0, 0, 0, 255, 255, 192, 0, 2, 1])
-    );
-    assert_eq!(rt; read_ipv6(b"2001:db8:::1"), None);
+    let address = read_ipv4(b"10.1.0.52");
+    assert_holds(&rt, "IPv4", address == Some([10, 1, 0, 52]));
+    let address = read_ipv4(b"256.1.0.52");
+    assert_holds(&rt, "IPv4 with the number 256", address.is_none());
+    let address = read_ipv6(b"::ffff:192.0.2.1").map(u128::from_be_bytes);
+    assert_holds(&rt, "IPv6", address == Some(0xffff_c000_0201));
+    let address = read_ipv6(b"2001:db8:::1");
+    assert_holds(&rt, "IPv6 with three colons", address.is_none());
 }
 
 /// The address of RFC 7043 section 3.2, and malformed ones.
-const EUI48: &[(&[u8], Option<[u8; 6]>)] = &[
-    (b"00-00-5e-00-53-2a", Some([0, 0, 0x5e, 0, 0x53, 0x2a])),
-    (b"00-00-5E-00-53-2A", Some([0, 0, 0x5e, 0, 0x53, 0x2a])),
-    (b"00-00-5e-00-53", None),
-    (b"00-00-5e-00-53-2a-", None),
-    (b"00:00:5e:00:53:2a", None),
+const EUI48: &[(&str, Option<[u8; 6]>)] = &[
+    ("00-00-5e-00-53-2a", Some([0, 0, 0x5e, 0, 0x53, 0x2a])),
+    ("00-00-5E-00-53-2A", Some([0, 0, 0x5e, 0, 0x53, 0x2a])),
+    ("00-00-5e-00-53", None),
+    ("00-00-5e-00-53-2a-", None),
+    ("00:00:5e:00:53:2a", None),
 ];
 
 #[test]
 fn eui48_addresses(rt: HostRuntime) {
     for (word, octets) in EUI48 {
-        assert_eq!(rt; read_eui48(word), *octets);
+        assert_holds(&rt, word, read_eui48(word.as_bytes()) == *octets);
     }
 }
 
 /// The address of RFC 7043 section 4.2.
 #[test]
 fn eui64_addresses(rt: HostRuntime) {
-    assert_eq!(rt;
-        read_eui64(b"00-00-5e-ef-10-00-00-2a"),
-        Some([0, 0, 0x5e, 0xef, 0x10, 0, 0, 0x2a])
-    );
-    assert_eq!(rt; read_eui64(b"00-00-5e-00-53-2a"), None);
+    let address = read_eui64(b"00-00-5e-ef-10-00-00-2a").map(u64::from_be_bytes);
+    assert_holds(&rt, "EUI-64", address == Some(0x5eef_1000_002a));
+    let address = read_eui64(b"00-00-5e-00-53-2a");
+    assert_holds(&rt, "EUI-48", address.is_none());
 }
 
 /// The locator of RFC 6742 section 2.2.2, numbers without leading zeros, and malformed ones.
@@ -102,22 +103,29 @@ const LOCATORS: &[(&str, Option<[u8; 8]>)] = &[
 #[test]
 fn locators(rt: HostRuntime) {
     for (word, octets) in LOCATORS {
-        assert_eq!(rt; read_locator(word), *octets, "{word}");
+        assert_holds(&rt, word, read_locator(word) == *octets);
     }
 }
 
 #[test]
+fn reads_a_name(rt: HostRuntime) {
+    let name = read_name("Action\\.domains.ISI.EDU.").expect(&rt, "a name");
+    let octets = b"\x0eAction.domains\x03ISI\x03EDU\x00";
+    assert_octets(&rt, "the name", name.as_slice(), octets);
+}
+
+/// Words, and whether each is a name.
+const NAMES: &[(&str, bool)] = &[
+    ("ISI..EDU.", false),
+    ("@", false),
+    ("\\@", true),
+    ("\"ISI.EDU.\"", false),
+    ("\\\"ISI.EDU.", true),
+];
+
+#[test]
 fn names(rt: HostRuntime) {
-    let Some(name) = read_name("Action\\.domains.ISI.EDU.") else {
-        panic!(rt; "no name");
-    };
-    assert_eq!(rt;
-        name.as_slice(),
-        b"\x0eAction.domains\x03ISI\x03EDU\x00".as_slice()
-    );
-    assert!(rt; read_name("ISI..EDU.").is_none());
-    assert!(rt; read_name("@").is_none());
-    assert!(rt; read_name("\\@").is_some());
-    assert!(rt; read_name("\"ISI.EDU.\"").is_none());
-    assert!(rt; read_name("\\\"ISI.EDU.").is_some());
+    for (word, is_name) in NAMES {
+        assert_holds(&rt, word, read_name(word).is_some() == *is_name);
+    }
 }

@@ -1,4 +1,5 @@
 //! A row of a test: how record data prints, and that its text reads back.
+use crate::asserts::{assert_holds, assert_octets, assert_text};
 use dns_code::Rtype;
 use dns_data::{ComposeRecordData, ParseAnyRecordData};
 use dns_data_read::from_text;
@@ -23,8 +24,8 @@ pub(crate) fn both_ways(rt: &impl Abort, alloc: Global, rows: &[Row]) {
 /// Asserts that the record data prints as its text.
 fn assert_prints(rt: &impl Abort, alloc: Global, row: &Row) {
     let data = data_of(rt, row);
-    let text = format!(in alloc; "{}", DataText(&data)).expect(rt, "memory");
-    assert_eq!(rt; text.as_str(), row.3, "in {}", row.0);
+    let text = DataText(&data).to_string(alloc).expect(rt, "memory");
+    assert_text(rt, row.0, text.as_str(), row.3);
 }
 
 /// The record data in the octets. Asserts that no octet is left over.
@@ -32,7 +33,7 @@ fn data_of(rt: &impl Abort, row: &Row) -> FieldData<'static> {
     let mut parser = Parser::new(row.2);
     let data = FieldData::parse_any_rdata(Rtype::from_int(row.1), &mut parser);
     let data = data.expect(rt, row.0);
-    assert!(rt; parser.remaining() == 0, "in {}", row.0);
+    assert_holds(rt, row.0, parser.remaining() == 0);
     data
 }
 
@@ -41,7 +42,7 @@ fn assert_reads(rt: &impl Abort, alloc: Global, row: &Row) {
     let data = read(rt, alloc, row);
     let mut octets = Vec::new(alloc);
     data.compose_rdata(&mut octets).expect(rt, "memory");
-    assert_eq!(rt; octets.as_slice(), row.2, "in {}", row.0);
+    assert_octets(rt, row.0, octets.as_slice(), row.2);
 }
 
 /// The record data that the text reads as.

@@ -1,25 +1,18 @@
 //! Lines and their words.
+use crate::asserts::{assert_holds, assert_text};
 use dns_line_words::split_words;
 use std::alloc::Global;
 use std::process::Abort;
-use std::test::Fail;
 
 /// Fails unless the line has these words.
-fn assert_splits(rt: &impl Abort, alloc: Global, line: &str, words: &[&str]) -> Result<(), Fail> {
-    let Ok(split) = split_words(alloc, line) else {
-        assert_eq!(rt; line, "a line of words");
-        return Ok(());
-    };
-    assert_eq!(rt; split.len(), words.len());
-    for (word, expected) in split.as_slice().iter().zip(words) {
-        assert_eq!(rt; *word, *expected);
-    }
-    Ok(())
+fn assert_splits(rt: &impl Abort, alloc: Global, line: &str, words: &[&str]) {
+    let split = split_words(alloc, line).expect(rt, line);
+    assert_holds(rt, line, split.as_slice() == words);
 }
 
 /// The lines of RFC 1035 section 5.3, with the SOA record over several lines.
 #[test]
-fn start_of_authority(rt: HostRuntime) -> Result<(), Fail> {
+fn start_of_authority(rt: HostRuntime) {
     let line = "@   IN  SOA     VENERA      Action\\.domains (\n\
                                  20     ; SERIAL\n\
                                  7200   ; REFRESH\n\
@@ -62,11 +55,10 @@ const LINES: &[(&str, &[&str])] = &[
 ];
 
 #[test]
-fn lines(rt: HostRuntime) -> Result<(), Fail> {
+fn lines(rt: HostRuntime) {
     for (line, words) in LINES {
-        assert_splits(&rt, rt.alloc(), line, words)?;
+        assert_splits(&rt, rt.alloc(), line, words);
     }
-    Ok(())
 }
 
 /// Records over several lines, each with its words.
@@ -82,21 +74,22 @@ const RECORDS: &[(&str, &[&str])] = &[
 ];
 
 #[test]
-fn records_over_lines(rt: HostRuntime) -> Result<(), Fail> {
+fn records_over_lines(rt: HostRuntime) {
     for (line, words) in RECORDS {
-        assert_splits(&rt, rt.alloc(), line, words)?;
+        assert_splits(&rt, rt.alloc(), line, words);
     }
-    Ok(())
 }
 
 /// Fails if the line has words.
-fn assert_bad(rt: &impl Abort, alloc: Global, line: &str) -> Result<(), Fail> {
-    let Err(error) = split_words(alloc, line) else {
-        assert_eq!(rt; line, "a line that has no words");
-        return Ok(());
-    };
-    assert_eq!(rt; format!(in alloc; "{error}")?.as_str(), "bad word");
-    Ok(())
+fn assert_bad(rt: &impl Abort, alloc: Global, line: &str) {
+    assert_holds(rt, line, split_words(alloc, line).is_err());
+}
+
+#[test]
+fn says_why(rt: HostRuntime) {
+    let error = split_words(rt.alloc(), "(").err().expect(&rt, "an error");
+    let text = error.to_string(rt.alloc()).expect(&rt, "memory");
+    assert_text(&rt, "the error", text.as_str(), "bad word");
 }
 
 /// Texts with a word after the end of the line, or with parentheses that don't match.
@@ -124,14 +117,13 @@ const UNMATCHED: &[&str] = &[
 ];
 
 #[test]
-fn lines_that_end_and_parentheses(rt: HostRuntime) -> Result<(), Fail> {
+fn lines_that_end_and_parentheses(rt: HostRuntime) {
     for line in BROKEN {
-        assert_bad(&rt, rt.alloc(), line)?;
+        assert_bad(&rt, rt.alloc(), line);
     }
     for line in UNMATCHED {
-        assert_bad(&rt, rt.alloc(), line)?;
+        assert_bad(&rt, rt.alloc(), line);
     }
-    Ok(())
 }
 
 /// Lines with a quote or a backslash that is open at the end.
@@ -149,9 +141,8 @@ const OPEN: &[&str] = &[
 ];
 
 #[test]
-fn open_quotes_and_backslashes(rt: HostRuntime) -> Result<(), Fail> {
+fn open_quotes_and_backslashes(rt: HostRuntime) {
     for line in OPEN {
-        assert_bad(&rt, rt.alloc(), line)?;
+        assert_bad(&rt, rt.alloc(), line);
     }
-    Ok(())
 }

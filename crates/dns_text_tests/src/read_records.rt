@@ -1,4 +1,6 @@
 //! Records from words.
+use crate::asserts::{assert_holds, assert_octets};
+use crate::reading::assert_words;
 use dns_code::{Class, Rtype};
 use dns_data::ComposeRecordData;
 use dns_data_read::read_record;
@@ -13,10 +15,10 @@ const MAIL_EXCHANGE: &[&str] = &["ISI.EDU.", "3600", "IN", "MX", "10", "VENERA.I
 #[test]
 fn mail_exchange(rt: HostRuntime) {
     let record = read_record(rt.alloc(), MAIL_EXCHANGE).expect(&rt, "a record");
-    let owner = b"\x03ISI\x03EDU\0".as_slice();
-    assert!(rt; record.owner().as_slice() == owner, "the owner");
-    assert!(rt; record.ttl() == Ttl::from_secs(3600), "the TTL");
-    assert!(rt; record.class() == Class::IN, "the class");
+    let owner = b"\x03ISI\x03EDU\0";
+    assert_octets(&rt, "the owner", record.owner().as_slice(), owner);
+    assert_holds(&rt, "the TTL", record.ttl() == Ttl::from_secs(3600));
+    assert_holds(&rt, "the class", record.class() == Class::IN);
 }
 
 #[test]
@@ -27,11 +29,11 @@ fn mail_exchange_data(rt: HostRuntime) {
 
 /// Fails unless the record data are those of the record.
 fn assert_exchange<D: ComposeRecordData>(rt: &impl Abort, alloc: Global, data: &D) {
-    assert!(rt; data.rtype() == Rtype::MX, "the type");
+    assert_holds(rt, "the type", data.rtype() == Rtype::MX);
     let mut octets = Vec::new(alloc);
     data.compose_rdata(&mut octets).expect(rt, "memory");
-    let expected = b"\0\x0a\x06VENERA\x03ISI\x03EDU\0".as_slice();
-    assert_eq!(rt; octets.as_slice(), expected);
+    let expected = b"\0\x0a\x06VENERA\x03ISI\x03EDU\0";
+    assert_octets(rt, "the RDATA", octets.as_slice(), expected);
 }
 
 /// Another order; a TTL, owners and a type that don't exist; and missing words.
@@ -67,7 +69,6 @@ fn is_bad(alloc: Global, words: &[&str]) -> bool {
 #[test]
 fn bad_records(rt: HostRuntime) {
     for words in BAD {
-        let is_bad = is_bad(rt.alloc(), words);
-        assert!(rt; is_bad, "{words:?}");
+        assert_words(&rt, words, is_bad(rt.alloc(), words));
     }
 }

@@ -1,4 +1,6 @@
 //! Words that aren't record data of a type.
+use crate::asserts::assert_holds;
+use crate::reading::assert_words;
 use dns_code::Rtype;
 use dns_data_read::from_text;
 use dns_value_text::TextError;
@@ -70,7 +72,7 @@ fn error_of(alloc: Global, rtype: u16, words: &[&str]) -> Option<TextError> {
 /// Fails unless the words aren't record data of the type.
 fn assert_bad(rt: &impl Abort, alloc: Global, rtype: u16, words: &[&str]) {
     let error = error_of(alloc, rtype, words);
-    assert!(rt; error == Some(TextError::BadWord), "{words:?}");
+    assert_words(rt, words, error == Some(TextError::BadWord));
 }
 
 #[test]
@@ -105,8 +107,9 @@ fn letters(rt: &impl Abort, alloc: Global, count: usize) -> String {
 
 /// Fails unless the longer words are bad, and the longest are record data.
 fn assert_longest(rt: &impl Abort, longer: Option<TextError>, longest: Option<TextError>) {
-    assert!(rt; longer == Some(TextError::BadWord), "one letter too many");
-    assert!(rt; longest.is_none(), "as many letters as there may be");
+    let is_bad = longer == Some(TextError::BadWord);
+    assert_holds(rt, "one letter too many", is_bad);
+    assert_holds(rt, "as many letters as there may be", longest.is_none());
 }
 
 /// The error of a character string of this many letters.

@@ -1,0 +1,18 @@
+//! Assertions. The `row` of an assertion is the name of a row of a table, or says what a test
+//! compares.
+use std::process::Abort;
+
+/// Fails unless the condition holds.
+pub(crate) fn assert_holds(rt: &impl Abort, row: &str, holds: bool) {
+    assert!(rt; holds, "{row}");
+}
+
+/// Fails unless the octets equal the expected ones.
+pub(crate) fn assert_octets(rt: &impl Abort, row: &str, octets: &[u8], expected: &[u8]) {
+    assert_eq!(rt; octets, expected, "{row}");
+}
+
+/// Fails unless the text is the expected one.
+pub(crate) fn assert_text(rt: &impl Abort, row: &str, text: &str, expected: &str) {
+    assert_eq!(rt; text, expected, "{row}");
+}
