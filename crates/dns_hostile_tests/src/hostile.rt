@@ -10,7 +10,7 @@ use crate::searches::{
 use crate::sections::{assert_iter, assert_questions, assert_sections};
 use crate::walks::assert_walks;
 use arrayvec::ArrayVec;
-use dns_message::tool;
+use dns_tool::tool;
 use dns_read::Message;
 use std::alloc::Global;
 use std::process::Abort;

@@ -14,6 +14,7 @@ use dns_message::fields::{DataOf, Kind, RecordFields, Value};
 use dns_message::message::Message;
 use dns_message::name::Name;
 use dns_message::wire::{Octets, ParseError, Parser};
+use std::alloc::Global;
 use std::process::Abort;
 
 const FIELDS: &[(&str, Kind)] = &[("weight", Kind::Number16), ("host", Kind::PlainName)];
@@ -92,6 +93,25 @@ fn push_host(rt: &impl Abort, builder: &mut AnswerBuilder<Vec<u8>>, octets: &[u8
     builder.push((owner, 60u32, data)).expect(rt, "memory");
 }
 
+/// The message with each host of another one, and the host once more at another owner.
+fn doubled<Octs: Octets>(
+    rt: &impl Abort,
+    alloc: Global,
+    message: &Message<Octs>,
+) -> Message<Vec<u8>> {
+    let mut builder = MessageBuilder::new_vec(alloc).expect(rt, "memory").answer();
+    let owner = Name::from_octets(*b"\x05other\x00").expect(rt, "a name");
+    let answers = message.answer().expect(rt, "answers");
+    for record in answers.limit_to::<DataOf<'_, WeightedHost>>() {
+        let record = record.expect(rt, "a record");
+        builder.push_ref(&record).expect(rt, "memory");
+        builder
+            .push((&owner, 3600u32, record.data()))
+            .expect(rt, "memory");
+    }
+    builder.into_message()
+}
+
 #[test]
 fn finds_the_greatest_weight(rt: HostRuntime) {
     let builder = MessageBuilder::new_vec(rt.alloc()).expect(&rt, "memory");
@@ -99,6 +119,15 @@ fn finds_the_greatest_weight(rt: HostRuntime) {
     for octets in HOSTS {
         push_host(&rt, &mut builder, octets);
     }
-    let greatest = greatest_weight(&builder.into_message());
+    let message = builder.into_message();
+    let greatest = greatest_weight(&message);
     assert_holds(&rt, "the greatest weight", greatest == 5);
+    let doubled = doubled(&rt, rt.alloc(), &message);
+    assert_holds(
+        &rt,
+        "twice the hosts",
+        doubled.header_counts().ancount() == 6,
+    );
+    let greatest = greatest_weight(&doubled);
+    assert_holds(&rt, "the greatest weight of both", greatest == 5);
 }

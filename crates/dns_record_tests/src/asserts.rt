@@ -19,10 +19,7 @@ pub(crate) type SliceName = Name<&'static [u8]>;
 
 /// The uncompressed name in these octets.
 pub(crate) fn name_of(rt: &impl Abort, octets: &'static [u8]) -> SliceName {
-    let Ok(name) = Name::from_octets(octets) else {
-        panic!(rt; "no name");
-    };
-    name
+    Name::from_octets(octets).expect(rt, "a name")
 }
 
 /// Opaque data.
@@ -31,18 +28,12 @@ pub(crate) fn opaque(
     rtype: Rtype,
     octets: &'static [u8],
 ) -> UnknownRecordData<&'static [u8]> {
-    let Ok(data) = UnknownRecordData::from_octets(rtype, octets) else {
-        panic!(rt; "no data");
-    };
-    data
+    UnknownRecordData::from_octets(rtype, octets).expect(rt, "data")
 }
 
 /// The RDATA of an OPT record with these options.
 pub(crate) fn options(rt: &impl Abort, octets: &'static [u8]) -> Opt<&'static [u8]> {
-    let Ok(options) = Opt::from_octets(octets) else {
-        panic!(rt; "no options");
-    };
-    options
+    Opt::from_octets(octets).expect(rt, "options")
 }
 
 /// Fails unless the condition holds.
@@ -143,10 +134,7 @@ pub(crate) fn assert_answer<R: ComposeRecord + Drop>(
 
 /// The message in these octets.
 pub(crate) fn message_of(rt: &impl Abort, octets: &'static [u8]) -> Message<&'static [u8]> {
-    let Ok(message) = Message::from_slice(octets) else {
-        panic!(rt; "no message");
-    };
-    message
+    Message::from_slice(octets).expect(rt, "a message")
 }
 
 /// The first answer, if it can be read.
@@ -159,9 +147,7 @@ pub(crate) fn first_data<'a, D: ParseRecordData<'a> + Drop>(
     rt: &impl Abort,
     message: &'a Message<&'a [u8]>,
 ) -> D {
-    let Some(answer) = first_answer(message) else {
-        panic!(rt; "no answer");
-    };
+    let answer = first_answer(message).expect(rt, "an answer");
     let Ok(Some(record)) = answer.to_record::<D>() else {
         panic!(rt; "no data");
     };

@@ -56,8 +56,5 @@ impl<'a> CharStr<'a> {
 
 /// The character string in these octets.
 pub(crate) fn string(rt: &impl Abort, octets: &'static [u8]) -> CharStr<'static> {
-    let Some(string) = CharStr::from_octets(octets) else {
-        panic!(rt; "no string");
-    };
-    string
+    CharStr::from_octets(octets).expect(rt, "a string")
 }

@@ -20,18 +20,12 @@ type ShortName = Name<ArrayVec<u8, 12>>;
 
 /// The value, converted to another type of octets.
 fn converted<T: OctetsFrom<S>, S>(rt: &impl Abort, alloc: Global, source: S) -> T {
-    let Ok(value) = T::try_octets_from(alloc, source) else {
-        panic!(rt; "not converted");
-    };
-    value
+    T::try_octets_from(alloc, source).expect(rt, "a conversion")
 }
 
 /// The value, without what it borrows from a message.
 fn flattened<T, S: FlattenInto<T>>(rt: &impl Abort, alloc: Global, source: S) -> T {
-    let Ok(value) = source.try_flatten_into(alloc) else {
-        panic!(rt; "not flattened");
-    };
-    value
+    source.try_flatten_into(alloc).expect(rt, "a name")
 }
 
 /// The record example.com. NS example.com.
@@ -110,10 +104,7 @@ const NAMES: &[u8; 18] = b"\x07example\x03com\x00\x02ns\xC0\x00";
 
 /// The next name.
 fn next_name(rt: &impl Abort, parser: &mut Parser<'static>) -> ParsedName<'static> {
-    let Ok(name) = ParsedName::parse(parser) else {
-        panic!(rt; "no name");
-    };
-    name
+    ParsedName::parse(parser).expect(rt, "a name")
 }
 
 #[test]
@@ -149,26 +140,20 @@ fn flattens_a_zone(rt: HostRuntime) {
 
 /// Fails unless a clone of the value is equal to it.
 fn assert_cloned<T: Clone + PartialEq + Drop>(rt: &impl Abort, row: &str, value: T) {
-    let Ok(clone) = value.clone() else {
-        panic!(rt; "{row}");
-    };
+    let clone = value.clone().expect(rt, row);
     assert!(rt; clone == value, "{row}");
 }
 
 /// Fails unless a clone of the name has the same octets.
 fn assert_name_cloned(rt: &impl Abort, row: &str, name: &VecName) {
-    let Ok(clone) = name.clone() else {
-        panic!(rt; "{row}");
-    };
+    let clone = name.clone().expect(rt, row);
     assert_octets(rt, row, clone.as_slice(), EXAMPLE_COM);
 }
 
 /// Fails unless a clone of the record example.com. 3600 IN A 1.2.3.4 is equal to it, and has its
 /// octets.
 fn assert_record_cloned(rt: &impl Abort, row: &str, record: &Record<VecName, A>) {
-    let Ok(clone) = record.clone() else {
-        panic!(rt; "{row}");
-    };
+    let clone = record.clone().expect(rt, row);
     let lent: &Record<VecName, A> = clone.as_ref();
     assert_holds(rt, row, lent == record);
     assert_record(
@@ -215,10 +200,7 @@ const POINTING: &[u8; 45] =
 
 /// The next record.
 fn next_record(rt: &impl Abort, parser: &mut Parser<'static>) -> ParsedRecord<'static> {
-    let Ok(record) = ParsedRecord::parse(parser) else {
-        panic!(rt; "no record");
-    };
-    record
+    ParsedRecord::parse(parser).expect(rt, "a record")
 }
 
 #[test]

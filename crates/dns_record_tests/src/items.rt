@@ -15,9 +15,7 @@ fn assert_header(
     row: &str,
     header: Result<RecordHeader<ParsedName<'_>>, ParseError>,
 ) {
-    let Ok(header) = header else {
-        panic!(rt; "{row}");
-    };
+    let header = header.expect(rt, row);
     let numbers = [
         u32::from(header.rtype().to_int()),
         u32::from(header.class().to_int()),

@@ -102,10 +102,8 @@ fn refuses_a_pointer(rt: HostRuntime) {
     let mut parser = Parser::new(b"\x00\x00\x0A\x03L64\xC0\x00");
     let advanced = parser.advance(1);
     assert_holds(&rt, "advanced", advanced.is_ok());
-    let Err(error) = Lp::parse_rdata(Rtype::from_int(107), &mut parser) else {
-        panic!(rt; "RDATA with a pointer");
-    };
-    let is_form = error == ParseError::Form(FormError::BAD_POINTER);
+    let error = Lp::parse_rdata(Rtype::from_int(107), &mut parser).err();
+    let is_form = error == Some(ParseError::Form(FormError::BAD_POINTER));
     assert_holds(&rt, "a pointer", is_form);
 }
 

@@ -1,7 +1,7 @@
 -- What `print_page` prints for rows. The words for their meanings, and those of the title, are left open.
 use Rattle.std.specs.Prelude.{◌≡◌, ℕ, ◌+◌, ◌-◌, ◌*◌, ◌/◌, ◌%◌, ◌==◌, ◌&&◌, nat_le, nat_lt, max, take, Bool, if◌then◌else◌, List, [], ◌∷◌, ◌++◌, length, count_by, codes, decimal}
 use Rattle.std.specs.List.{concat, enumerate_from, flat_map, AllZip}
-use Rattle.dns_message.specs.Headers.{header_size}
+use Rattle.dns_code.specs.HeaderSection.{header_size}
 use Rattle.dns_rows.specs.Rows.{is_item, is_pointer, row_octets, target_in}
 use Rattle.dns_view.specs.Digits.{hexadecimal, octet_text}
 use Rattle.dns_view.specs.Joined.{is_large, joined, line_row, line_rows, lines, PageLine}

@@ -4,7 +4,7 @@ use Rattle.std.specs.Char.{is_ascii_hexdigit, is_ascii_whitespace}
 use Rattle.std.specs.Io.KnownBytes.{Appends, Keeps}
 use Rattle.std.specs.List.{list_all}
 use Rattle.hex.specs.Hex.{decode_of}
-use Rattle.dns_message.specs.Headers.{header_size}
+use Rattle.dns_code.specs.HeaderSection.{header_size}
 use Rattle.dns_tool.specs.Hex.{unspaced}
 use Rattle.dns_lines.specs.ZoneLines.{zone_lines}
 use Rattle.dns_rows.specs.Shown.{short_header, ShowsMessage}

@@ -1,6 +1,6 @@
 //! Record types, classes, opcodes, RCODEs and options by the names that IANA has registered, or by
 //! their numbers.
-use dns_message::code::{Class, Opcode, OptRcode, OptionCode, Rtype};
+use dns_code::{Class, Opcode, OptRcode, OptionCode, Rtype};
 use std::fmt;
 
 /// A record type, a class, an opcode or an RCODE. It prints as its registered name, in upper case

@@ -4,10 +4,10 @@ use crate::option::OptionData;
 use crate::quoted::{Quoted, octet_count, second_count};
 use crate::rdata::{RdataField, Words};
 use dns_fields_text::Strings;
-use dns_message::code::{Class, OptRcode, Rtype};
-use dns_message::header::Header;
-use dns_message::name::ParsedName;
-use dns_message::wire::Parser;
+use dns_code::{Class, OptRcode, Rtype};
+use dns_code::Header;
+use dns_wire::ParsedName;
+use dns_wire::Parser;
 use dns_rows::{Fault, Field, Kind, NameOf, Part, Row, octets_of, target_of};
 use std::fmt;
 

@@ -10,7 +10,7 @@ use crate::html::print_page;
 use crate::request::{Form, Request, wrong_word};
 use crate::text::print_text;
 use dns_lines::print_zone_lines;
-use dns_message::message::Message;
+use dns_read::Message;
 use dns_rows::rows;
 use std::alloc::{AllocError, Global};
 use std::io::{Read, Write};

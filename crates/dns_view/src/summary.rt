@@ -2,8 +2,8 @@
 use crate::codes::Mnemonic;
 use crate::meaning::{FaultWords, number_of, write_name};
 use crate::quoted::octet_count;
-use dns_message::code::{Class, Opcode, OptRcode, Rtype};
-use dns_message::header::Header;
+use dns_code::{Class, Opcode, OptRcode, Rtype};
+use dns_code::Header;
 use dns_rows::{Field, Kind, NameOf, Part, Row, octets_of};
 use std::fmt;
 

@@ -1,6 +1,6 @@
 //! Type bit maps, printed as the mnemonics of their types.
 use crate::codes::Mnemonic;
-use dns_message::code::Rtype;
+use dns_code::Rtype;
 use std::fmt;
 
 /// Prints the types of a bit map, each after a space. Each block is a window number, a length and

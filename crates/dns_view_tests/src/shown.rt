@@ -6,8 +6,8 @@ mod nsd;
 
 use crate::asserts::{assert_status, assert_text};
 use crate::runs::{Run, words_of};
-use dns_message::message::Message;
-use dns_message::tool;
+use dns_read::Message;
+use dns_tool::tool;
 use std::alloc::Global;
 use std::process::Abort;
 

@@ -1,7 +1,6 @@
 //! Registered numbers and their names.
 use crate::asserts::assert_same;
 use dns_number::{Class, Opcode, OptRcode, OptionCode, Rcode, Rtype};
-use std::process::Abort;
 
 /// Numbers and the names of their record types.
 const TYPES: &[(u16, Option<&str>)] = &[
@@ -24,16 +23,11 @@ const TYPES: &[(u16, Option<&str>)] = &[
     (65535, None),
 ];
 
-/// Fails unless the type with this number has this registered name.
-fn assert_type(rt: &impl Abort, number: u16, name: Option<&str>) {
-    let found = Rtype::from_int(number).registered_name();
-    assert_eq!(rt; found, name, "type {number}");
-}
-
 #[test]
 fn names_types(rt: HostRuntime) {
     for &(number, name) in TYPES {
-        assert_type(&rt, number, name);
+        let found = Rtype::from_int(number).registered_name();
+        assert_same(&rt, "a type", (number, found), (number, name));
     }
 }
 

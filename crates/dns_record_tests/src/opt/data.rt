@@ -43,9 +43,7 @@ const EXPECTED: &[Expected] = &[
 /// Fails unless the iterator yields these options, and then none.
 fn assert_options(rt: &impl Abort, mut options: OptionIter<'_>) {
     for case in EXPECTED {
-        let Some((code, octets)) = options.next() else {
-            panic!(rt; "{}: no option", case.name)
-        };
+        let (code, octets) = options.next().expect(rt, case.name);
         assert_holds(rt, case.name, code == OptionCode::from_int(case.code));
         assert_octets(rt, case.name, octets, case.octets);
     }
@@ -55,15 +53,11 @@ fn assert_options(rt: &impl Abort, mut options: OptionIter<'_>) {
 
 #[test]
 fn gives_each_option(rt: HostRuntime) {
-    let Some(options) = OptionIter::new(&OPTIONS) else {
-        panic!(rt; "no options")
-    };
+    let options = OptionIter::new(&OPTIONS).expect(&rt, "options");
     assert_options(&rt, options);
     let mut parser = Parser::new(&OPTIONS);
-    let Ok(Some(opt)) = Opt::parse_rdata(Rtype::OPT, &mut parser) else {
-        panic!(rt; "no data")
-    };
-    assert_options(&rt, opt.iter());
+    let opt = Opt::parse_rdata(Rtype::OPT, &mut parser).expect(&rt, "data");
+    assert_options(&rt, opt.expect(&rt, "options").iter());
     assert_holds(&rt, "octets left", parser.remaining() == 0);
 }
 

@@ -15,10 +15,7 @@ fn message() -> Header {
 
 /// The extended rcode 19.
 pub(crate) fn badmode(rt: &impl Abort) -> OptRcode {
-    let Some(rcode) = OptRcode::checked_from_int(19) else {
-        panic!(rt; "no rcode");
-    };
-    rcode
+    OptRcode::checked_from_int(19).expect(rt, "an rcode")
 }
 
 #[test]
