@@ -1,7 +1,7 @@
 //! How a field of RDATA is shown.
 
 /// How a field of RDATA is shown.
-#[derive(Clone, Copy, Debug)]
+#[derive(Clone, Copy)]
 pub(crate) enum Form {
     /// As a name: its labels, and the root label or pointer that ends it.
     Name,

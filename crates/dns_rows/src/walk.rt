@@ -28,7 +28,7 @@ use std::alloc::Global;
 const MAX_SIZE: usize = 254;
 
 /// Why a walk ends early.
-#[derive(Clone, Copy, Debug)]
+#[derive(Clone, Copy)]
 pub(crate) enum Stop {
     Fault(Fault),
     Memory,

@@ -53,7 +53,7 @@ Exit status: 0; 1 if the number of digits is odd; 2 for a wrong argument;
 const VERSION: &str = "dnsview 1.0.0\n";
 
 /// Why the program fails.
-#[derive(Debug, Drop)]
+#[derive(Drop)]
 enum Failure {
     Reading(io::Error),
     Printing(io::Error),
@@ -72,10 +72,10 @@ impl fmt::Display for Failure {
 /// the program. Only what is wrong is printed to `errors`.
 ///
 /// Prints the rows of the message as text; with `--html` as a page. With `--short` it prints each
-/// record of the answer, authority and additional section as a line. `reader` is the file that `file_of` returns. If the input
-/// is hexadecimal digits and ASCII white space alone, it is read as digits. The exit status is 0;
-/// 1 if the number of digits is odd; 2 for a wrong argument; 3 if reading, writing or an
-/// allocation fails; and 4 if the input has no octets.
+/// record of the answer, authority and additional section as a line. `reader` is the file that
+/// `file_of` returns. If the input is hexadecimal digits and ASCII white space alone, it is read as
+/// digits. The exit status is 0; 1 if the number of digits is odd; 2 for a wrong argument; 3 if
+/// reading, writing or an allocation fails; and 4 if the input has no octets.
 pub fn tool<R: Read + Drop, W: Write + Drop, E: Write + Drop>(
     alloc: Global,
     args: &[String],
