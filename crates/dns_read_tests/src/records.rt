@@ -1,14 +1,14 @@
 //! Sections of records: what their cursors and the iterator over all of them yield.
 use crate::asserts::{
-    EXAMPLE_COM, POSITIVE_RESPONSE, answers_of, assert_holds, is_name, message_of, next_start,
-    start_of,
+    EXAMPLE_COM, POSITIVE_RESPONSE, answers_of, assert_holds, assert_octets, is_name, message_of,
+    next_start, start_of,
 };
 use crate::questions::has_sole;
 use dns_data::{A, Cname, UnknownRecordData};
 use dns_item::ParsedRecord;
 use dns_read::{Message, MessageIter, RecordSection, Section};
 use dns_wire::{FormError, ParseError, ParsedName};
-use std::test::Fail;
+use std::process::Abort;
 
 const BAD_POINTER: ParseError = ParseError::Form(FormError::BAD_POINTER);
 
@@ -113,44 +113,50 @@ fn ends_at_an_answer_that_is_cut(rt: HostRuntime) {
 }
 
 #[test]
-fn ends_at_an_additional_record_that_cant_be_read(rt: HostRuntime) -> Result<(), Fail> {
+fn ends_at_an_additional_record_that_cant_be_read(rt: HostRuntime) {
     let message = message_of(&rt, UNREADABLE_ADDITIONAL);
-    let fault = sole_fault(message.additional()?);
-    let is_last = fault == Some((BAD_POINTER, Ok(None)));
+    let additional = message.additional().expect(&rt, "a section");
+    let is_last = sole_fault(additional) == Some((BAD_POINTER, Ok(None)));
     assert_holds(&rt, "Unreadable additional record", is_last);
-    let message = message_of(&rt, &UNREADABLE_ADDITIONAL[..12]);
-    let items = given(message.iter());
-    let is_missing = items == [Some(Err(SHORT)), None, None];
-    assert_holds(
-        &rt,
-        "Missing records in `iter`: an additional record",
-        is_missing,
-    );
-    Ok(())
-}
-
-/// Whether a record is example.com. 3600 IN A 203.0.113.1, and no CNAME.
-fn is_address(record: &ParsedRecord<'_>) -> Result<bool, ParseError> {
-    let fields = (
-        record.rtype().to_int(),
-        record.class().to_int(),
-        record.ttl().as_secs(),
-        record.rdlen(),
-    );
-    let address = record.to_record::<A>()?.map(|read| read.data().octets());
-    let opaque = record.to_any_record::<UnknownRecordData<&[u8]>>()?;
-    let is_alias = record.to_record::<Cname<ParsedName<'_>>>()?.is_some();
-    Ok(
-        fields == (1, 1, 3600, 4)
-            && is_name(&record.owner(), EXAMPLE_COM)
-            && address == Some([203, 0, 113, 1])
-            && *opaque.data().data() == [203, 0, 113, 1].as_slice()
-            && !is_alias,
-    )
 }
 
 #[test]
-fn reads_an_answer(rt: HostRuntime) -> Result<(), Fail> {
+fn ends_at_a_missing_additional_record(rt: HostRuntime) {
+    let message = message_of(&rt, &UNREADABLE_ADDITIONAL[..12]);
+    let items = given(message.iter());
+    let is_missing = items == [Some(Err(SHORT)), None, None];
+    let row = "Missing records in `iter`: an additional record";
+    assert_holds(&rt, row, is_missing);
+}
+
+/// Whether a record is example.com. 3600 IN A, with RDATA of four octets.
+fn has_address_fields(record: &ParsedRecord<'_>) -> bool {
+    record.rtype().to_int() == 1
+        && record.class().to_int() == 1
+        && record.ttl().as_secs() == 3600
+        && record.rdlen() == 4
+        && is_name(&record.owner(), EXAMPLE_COM)
+}
+
+/// Fails unless the RDATA of a record is 203.0.113.1, and no CNAME.
+fn assert_address_data(rt: &impl Abort, row: &str, record: &ParsedRecord<'_>) {
+    let address = record.to_record::<A>().expect(rt, row).expect(rt, row);
+    assert_octets(rt, row, &address.data().octets(), &[203, 0, 113, 1]);
+    let opaque = record.to_any_record::<UnknownRecordData<&[u8]>>();
+    let opaque = opaque.expect(rt, row);
+    assert_octets(rt, row, opaque.data().data(), &[203, 0, 113, 1]);
+    let alias = record.to_record::<Cname<ParsedName<'_>>>().expect(rt, row);
+    assert_holds(rt, row, alias.is_none());
+}
+
+/// Fails unless a record is example.com. 3600 IN A 203.0.113.1, and no CNAME.
+fn assert_address(rt: &impl Abort, row: &str, record: &ParsedRecord<'_>) {
+    assert_holds(rt, row, has_address_fields(record));
+    assert_address_data(rt, row, record);
+}
+
+#[test]
+fn reads_an_answer(rt: HostRuntime) {
     let message = message_of(&rt, POSITIVE_RESPONSE);
     let mut answers = answers_of(&rt, &message);
     let Some(Ok(answer)) = answers.next() else {
@@ -159,9 +165,9 @@ fn reads_an_answer(rt: HostRuntime) -> Result<(), Fail> {
     assert_holds(&rt, "the offset after it", answers.pos() == 45);
     let is_answer = answers.section() == Section::Answer;
     assert_holds(&rt, "the section", is_answer);
-    assert_holds(&rt, "the record", is_address(&answer)?);
-    assert_holds(&rt, "its clone", is_address(&answer.clone()?)?);
-    Ok(())
+    assert_address(&rt, "the record", &answer);
+    let clone = answer.clone().expect(&rt, "a clone");
+    assert_address(&rt, "its clone", &clone);
 }
 
 /// An answer foo.example.com. CNAME baz.example.com., and an authority record bar.example.com. NS

@@ -4,7 +4,6 @@ use dns_data::{A, Ns};
 use dns_read::Message;
 use dns_wire::{FormError, ParseError, ParsedName};
 use std::process::Abort;
-use std::test::Fail;
 
 /// A message, and the type of its sole question.
 struct Sole {
@@ -204,21 +203,22 @@ fn without_last(mut message: Message<[u8; 39]>) -> [u8; 39] {
 }
 
 #[test]
-fn has_a_last_additional(rt: HostRuntime) -> Result<(), Fail> {
+fn has_a_last_additional(rt: HostRuntime) {
     let mut octets = *ANSWER;
     octets[7] = 0;
     octets[11] = 1;
     let found = last_address(&octets);
     assert_holds(&rt, "the last record", found == Some([1, 2, 3, 4]));
     let found = last_address(&LAST_ADDITIONAL);
-    assert_holds(
-        &rt,
-        "Last additional record: after a record that can't be read",
-        found.is_none(),
-    );
-    let octets = without_last(Message::from_octets(LAST_ADDITIONAL)?);
+    let row = "Last additional record: after a record that can't be read";
+    assert_holds(&rt, row, found.is_none());
+}
+
+#[test]
+fn removes_its_last_additional(rt: HostRuntime) {
+    let message = Message::from_octets(LAST_ADDITIONAL).expect(&rt, "a message");
+    let octets = without_last(message);
     let mut expected = LAST_ADDITIONAL;
     expected[11] = 1;
     assert_octets(&rt, "Last additional record: removed", &octets, &expected);
-    Ok(())
 }
