@@ -10,7 +10,7 @@ use dns_message::target::StaticCompressor;
 use dns_wire::Name;
 use std::alloc::Global;
 use std::cmp::Ordering;
-use std::fmt::Display;
+use std::fmt::{Debug, Display};
 use std::hash::{DefaultHasher, Hash, Hasher};
 use std::process::Abort;
 
@@ -36,6 +36,16 @@ pub(crate) fn options(rt: &impl Abort, octets: &'static [u8]) -> Opt<&'static [u
     Opt::from_octets(octets).expect(rt, "options")
 }
 
+/// Fails unless the value equals the expected one.
+pub(crate) fn assert_same<T: PartialEq + Debug + Drop>(
+    rt: &impl Abort,
+    row: &str,
+    value: T,
+    expected: T,
+) {
+    assert_eq!(rt; value, expected, "{row}");
+}
+
 /// Fails unless the condition holds.
 pub(crate) fn assert_holds(rt: &impl Abort, row: &str, holds: bool) {
     assert!(rt; holds, "{row}");
@@ -43,12 +53,12 @@ pub(crate) fn assert_holds(rt: &impl Abort, row: &str, holds: bool) {
 
 /// Fails unless the octets equal the expected ones.
 pub(crate) fn assert_octets(rt: &impl Abort, row: &str, octets: &[u8], expected: &[u8]) {
-    assert_eq!(rt; octets, expected, "{row}");
+    assert_same(rt, row, octets, expected);
 }
 
 /// Fails unless the numbers equal the expected ones.
 pub(crate) fn assert_numbers(rt: &impl Abort, row: &str, numbers: &[u32], expected: &[u32]) {
-    assert_eq!(rt; numbers, expected, "{row}");
+    assert_same(rt, row, numbers, expected);
 }
 
 /// Fails unless the question has these octets.
@@ -59,7 +69,8 @@ pub(crate) fn assert_question<Q: ComposeQuestion>(
     expected: &[u8],
 ) {
     let mut target = ArrayVec::<u8, 64>::new();
-    assert!(rt; question.compose_question(&mut target).is_ok(), "{row}");
+    let composed = question.compose_question(&mut target);
+    assert_holds(rt, row, composed.is_ok());
     assert_octets(rt, row, target.as_slice(), expected);
 }
 
@@ -71,7 +82,8 @@ pub(crate) fn assert_record<R: ComposeRecord>(
     expected: &[u8],
 ) {
     let mut target = ArrayVec::<u8, 64>::new();
-    assert!(rt; record.compose_record(&mut target).is_ok(), "{row}");
+    let composed = record.compose_record(&mut target);
+    assert_holds(rt, row, composed.is_ok());
     assert_octets(rt, row, target.as_slice(), expected);
 }
 
@@ -83,7 +95,8 @@ pub(crate) fn assert_data<D: ComposeRecordData>(
     expected: &[u8],
 ) {
     let mut target = ArrayVec::<u8, 64>::new();
-    assert!(rt; data.compose_rdata(&mut target).is_ok(), "{row}");
+    let composed = data.compose_rdata(&mut target);
+    assert_holds(rt, row, composed.is_ok());
     assert_octets(rt, row, target.as_slice(), expected);
 }
 
@@ -96,7 +109,7 @@ pub(crate) fn assert_prints<T: Display>(
     text: &str,
 ) {
     let printed = value.to_string(alloc).expect(rt, row);
-    assert_eq!(rt; printed.as_str(), text, "{row}");
+    assert_same(rt, row, printed.as_str(), text);
 }
 
 fn hash_of<T: Hash>(value: &T) -> u64 {
@@ -108,13 +121,13 @@ fn hash_of<T: Hash>(value: &T) -> u64 {
 /// Fails unless the two values are equal, compare as equal, and have the same hash.
 pub(crate) fn assert_alike<T: Ord + Hash>(rt: &impl Abort, row: &str, first: &T, second: &T) {
     let is_same = first == second && first.cmp(second) == Ordering::Equal;
-    assert!(rt; is_same && hash_of(first) == hash_of(second), "{row}");
+    assert_holds(rt, row, is_same && hash_of(first) == hash_of(second));
 }
 
 /// Fails unless the first value precedes the second, and differs from it.
 pub(crate) fn assert_less<T: Ord>(rt: &impl Abort, row: &str, first: &T, second: &T) {
     let is_less = first.cmp(second) == Ordering::Less;
-    assert!(rt; is_less && first < second && first != second, "{row}");
+    assert_holds(rt, row, is_less && first < second && first != second);
 }
 
 /// Fails unless the message with this answer has these octets, over a compressor.

@@ -1,6 +1,6 @@
 //! Comparisons of questions, records, their headers and their RDATA: equality, and two orders, that
 //! of values and that of canonical forms.
-use crate::asserts::{SliceName, assert_alike, assert_less, name_of, opaque, options};
+use crate::asserts::{SliceName, assert_alike, assert_less, assert_same, name_of, opaque, options};
 use dns_code::{Class, Rtype};
 use dns_data::{A, Cname, Ns, Soa, UnknownRecordData};
 use dns_item::{Question, Record, RecordHeader, Ttl};
@@ -18,7 +18,7 @@ fn assert_canonical_order<T: CanonicalOrd>(rt: &impl Abort, row: &str, first: &T
         first.canonical_cmp(first),
     ];
     let expected = [Ordering::Less, Ordering::Greater, Ordering::Equal];
-    assert_eq!(rt; orders, expected, "{row}");
+    assert_same(rt, row, orders, expected);
 }
 
 /// A record of 1.2.3.4.
@@ -73,8 +73,17 @@ fn orders_records_in_two_ways(rt: HostRuntime) {
         &last_name,
         &last_class,
     );
+}
+
+#[test]
+fn orders_records_of_one_owner_by_class(rt: HostRuntime) {
+    let last_class = record(&rt, b"\x01a\x00", Class::CH);
     let first_class = record(&rt, b"\x01A\x00", Class::IN);
     assert_less(&rt, "classes of one owner", &first_class, &last_class);
+}
+
+#[test]
+fn orders_owners_from_the_root(rt: HostRuntime) {
     let ending = record(&rt, b"\x01b\x00", Class::IN);
     let longer = record(&rt, b"\x01a\x01b\x00", Class::IN);
     assert_canonical_order(&rt, "owners from the root leftwards", &ending, &longer);
@@ -91,15 +100,25 @@ fn orders_headers(rt: HostRuntime) {
 }
 
 #[test]
-fn orders_data_by_its_canonical_octets(rt: HostRuntime) {
+fn orders_addresses_by_their_octets(rt: HostRuntime) {
     let low = A::from_octets(9, 255, 255, 255);
     assert_canonical_order(&rt, "addresses", &low, &A::from_octets(10, 0, 0, 0));
-    // The name with the shorter first label comes first, since its length octet is smaller.
+}
+
+/// The name with the shorter first label comes first, since its length octet is smaller.
+#[test]
+fn orders_names_by_their_canonical_octets(rt: HostRuntime) {
     let short = name_of(&rt, b"\x01Z\x00");
     let long = name_of(&rt, b"\x02aa\x00");
     assert_canonical_order(&rt, "servers", &Ns::new(short), &Ns::new(long));
     assert_canonical_order(&rt, "aliases", &Cname::new(short), &Cname::new(long));
-    // The first name decides first, and after the names the serial.
+}
+
+/// The first name decides first, and after the names the serial.
+#[test]
+fn orders_zones_by_their_canonical_octets(rt: HostRuntime) {
+    let short = name_of(&rt, b"\x01Z\x00");
+    let long = name_of(&rt, b"\x02aa\x00");
     let first = Soa::new(short, long, 9, 1, 1, 1, 1);
     assert_canonical_order(&rt, "zones", &first, &Soa::new(long, short, 1, 1, 1, 1, 1));
     assert_canonical_order(

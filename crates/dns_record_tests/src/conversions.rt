@@ -57,10 +57,14 @@ fn converts_items(rt: HostRuntime) {
 }
 
 #[test]
-fn refuses_names_that_are_too_long(rt: HostRuntime) {
+fn refuses_a_question_that_is_too_long(rt: HostRuntime) {
     let short = Question::<ShortName>::try_octets_from(rt.alloc(), question(&rt));
     let is_refused = matches!(short, Err(AppendError::ShortBuf));
     assert_holds(&rt, "a question", is_refused);
+}
+
+#[test]
+fn refuses_rdata_that_is_too_long(rt: HostRuntime) {
     let short = Record::<VecName, Ns<ShortName>>::try_octets_from(rt.alloc(), server(&rt));
     let is_refused = matches!(short, Err(AppendError::ShortBuf));
     assert_holds(&rt, "the RDATA of a record", is_refused);
@@ -73,12 +77,22 @@ fn converts_addresses(rt: HostRuntime) {
     assert_octets(&rt, "address", &address.octets(), &[1, 2, 3, 4]);
 }
 
+/// A zone that was converted.
+fn zone(rt: &impl Abort, alloc: Global) -> Soa<VecName> {
+    let source = Soa::new(name_of(rt, EXAMPLE_COM), Name::root_slice(), 1, 2, 3, 4, 5);
+    converted(rt, alloc, source)
+}
+
 #[test]
-fn converts_a_zone(rt: HostRuntime) {
-    let source = Soa::new(name_of(&rt, EXAMPLE_COM), Name::root_slice(), 1, 2, 3, 4, 5);
-    let zone: Soa<VecName> = converted(&rt, rt.alloc(), source);
+fn converts_the_names_of_a_zone(rt: HostRuntime) {
+    let zone = zone(&rt, rt.alloc());
     assert_octets(&rt, "first name", zone.mname().as_slice(), EXAMPLE_COM);
     assert_octets(&rt, "second name", zone.rname().as_slice(), b"\x00");
+}
+
+#[test]
+fn converts_the_numbers_of_a_zone(rt: HostRuntime) {
+    let zone = zone(&rt, rt.alloc());
     let numbers = [
         zone.serial(),
         zone.refresh(),
@@ -90,10 +104,14 @@ fn converts_a_zone(rt: HostRuntime) {
 }
 
 #[test]
-fn converts_data_of_octets(rt: HostRuntime) {
+fn converts_options(rt: HostRuntime) {
     let source = options(&rt, b"\x00\x03\x00\x00");
     let held: Opt<ArrayVec<u8, 4>> = converted(&rt, rt.alloc(), source);
     assert_octets(&rt, "options", held.data().as_slice(), b"\x00\x03\x00\x00");
+}
+
+#[test]
+fn converts_opaque_data(rt: HostRuntime) {
     let source = opaque(&rt, Rtype::TXT, b"\x01a");
     let held: UnknownRecordData<Vec<u8>> = converted(&rt, rt.alloc(), source);
     assert_octets(&rt, "opaque", held.data().as_slice(), b"\x01a");
@@ -141,7 +159,7 @@ fn flattens_a_zone(rt: HostRuntime) {
 /// Fails unless a clone of the value is equal to it.
 fn assert_cloned<T: Clone + PartialEq + Drop>(rt: &impl Abort, row: &str, value: T) {
     let clone = value.clone().expect(rt, row);
-    assert!(rt; clone == value, "{row}");
+    assert_holds(rt, row, clone == value);
 }
 
 /// Fails unless a clone of the name has the same octets.
@@ -169,24 +187,38 @@ fn vec_name(rt: &impl Abort, alloc: Global) -> VecName {
 }
 
 #[test]
-fn clones_data(rt: HostRuntime) {
+fn clones_servers_and_aliases(rt: HostRuntime) {
     assert_cloned(&rt, "server", Ns::new(vec_name(&rt, rt.alloc())));
     let alias = Cname::new(vec_name(&rt, rt.alloc()));
     assert_cloned(&rt, "alias", Cname::new(alias.into_cname()));
+}
+
+#[test]
+fn clones_zones(rt: HostRuntime) {
     let mname = vec_name(&rt, rt.alloc());
     let rname = vec_name(&rt, rt.alloc());
     assert_cloned(&rt, "zone", Soa::new(mname, rname, 1, 2, 3, 4, 5));
 }
 
-/// Name conversions and clones: clones of a name, a question, a record header and a record.
+/// Name conversions and clones: clones of a name and a question.
 #[test]
-fn clones_items(rt: HostRuntime) {
+fn clones_questions(rt: HostRuntime) {
     assert_name_cloned(&rt, "name", &vec_name(&rt, rt.alloc()));
     let qname = vec_name(&rt, rt.alloc());
     assert_cloned(&rt, "question", Question::new_in(qname, Rtype::A));
+}
+
+/// Name conversions and clones: clones of a record header.
+#[test]
+fn clones_headers(rt: HostRuntime) {
     let owner = vec_name(&rt, rt.alloc());
     let header = RecordHeader::new(owner, Rtype::A, Class::IN, Ttl::HOUR, 4);
     assert_cloned(&rt, "header", header);
+}
+
+/// Name conversions and clones: clones of a record.
+#[test]
+fn clones_records(rt: HostRuntime) {
     let owner = vec_name(&rt, rt.alloc());
     let data = A::from_octets(1, 2, 3, 4);
     let record = Record::new(owner, Class::IN, Ttl::HOUR, data);

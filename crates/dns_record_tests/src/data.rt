@@ -23,6 +23,11 @@ fn takes_its_own_type_alone(rt: HostRuntime) {
     assert_holds(&rt, "an address", taken);
     let taken = takes::<Cname<ParsedName<'_>>>(Rtype::NS, &octets) == Ok(false);
     assert_holds(&rt, "a server as an alias", taken);
+}
+
+#[test]
+fn takes_whole_and_opaque_data(rt: HostRuntime) {
+    let octets = [0; 24];
     let short = Err(ParseError::ShortInput);
     let taken = takes::<Soa<ParsedName<'_>>>(Rtype::SOA, &octets[..21]) == short;
     assert_holds(&rt, "a zone that is cut", taken);
@@ -42,6 +47,12 @@ fn prints_records(rt: HostRuntime) {
     *record.data_mut() = A::from_octets(192, 0, 2, 2);
     let text = "example.com. 60 CH A 192.0.2.2";
     assert_prints(&rt, alloc, "a changed record", &record, text);
+}
+
+#[test]
+fn prints_servers_and_zones(rt: HostRuntime) {
+    let alloc = rt.alloc();
+    let owner = name_of(&rt, b"\x07example\x03com\x00");
     let server = Record::new(Name::root_slice(), Class::CH, Ttl::ZERO, Ns::new(owner));
     assert_prints(&rt, alloc, "a server", &server, ". 0 CH NS example.com.");
     let soa = Soa::new(owner, owner, 1, 2, 3, 4, 5);
@@ -68,6 +79,11 @@ fn prints_errors(rt: HostRuntime) {
     assert_prints(&rt, alloc, "a name", &name, "unexpected end of input");
     let data = ReadingError::Data(LongRecordData);
     assert_prints(&rt, alloc, "RDATA", &data, "record data too long");
+}
+
+#[test]
+fn prints_errors_of_buffers_and_options(rt: HostRuntime) {
+    let alloc = rt.alloc();
     let short = ReadingError::from(ShortBuf);
     assert_prints(&rt, alloc, "a buffer", &short, "unexpected end of buffer");
     assert_prints(

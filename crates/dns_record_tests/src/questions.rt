@@ -202,20 +202,18 @@ fn compares(rt: HostRuntime) {
 }
 
 #[test]
-fn converts_errors(rt: HostRuntime) {
+fn converts_errors_of_names(rt: HostRuntime) {
     let fault = name::PresentationError::LongName;
     let error = PresentationError::from(fault);
-    assert_holds(
-        &rt,
-        "kind",
-        error.kind() == PresentationErrorEnum::BadName(fault),
-    );
+    let is_kind = error.kind() == PresentationErrorEnum::BadName(fault);
+    assert_holds(&rt, "kind", is_kind);
     let presentation = FromStrError::from(name::FromStrError::Presentation(fault));
-    assert_holds(
-        &rt,
-        "text",
-        presentation == FromStrError::Presentation(error),
-    );
+    let is_same = presentation == FromStrError::Presentation(error);
+    assert_holds(&rt, "text", is_same);
+}
+
+#[test]
+fn converts_errors_of_storing(rt: HostRuntime) {
     let short = FromStrError::from(name::FromStrError::ShortBuf);
     assert_prints(&rt, rt.alloc(), "capacity", &short, "buffer size exceeded");
     let memory = FromStrError::from(name::FromStrError::OutOfMemory);

@@ -61,17 +61,31 @@ fn gives_each_option(rt: HostRuntime) {
     assert_holds(&rt, "octets left", parser.remaining() == 0);
 }
 
+/// Fails unless the octets are options at some lengths. At every other length, an option is
+/// incomplete.
+fn assert_whole(rt: &impl Abort, octets: &[u8]) {
+    let len = octets.len();
+    let is_whole = [0, 4, 10, 14, 20].contains(&len);
+    assert!(rt; are_options(octets) == is_whole, "{len} octets");
+}
+
 #[test]
-fn refuses_a_torn_option_and_another_type(rt: HostRuntime) {
+fn has_whole_options(rt: HostRuntime) {
     for len in 0..21 {
-        // At every other length, an option is incomplete.
-        let whole = [0, 4, 10, 14, 20].contains(&len);
-        assert!(rt; are_options(&OPTIONS[..len]) == whole, "{len} octets");
+        assert_whole(&rt, &OPTIONS[..len]);
     }
+}
+
+#[test]
+fn refuses_a_torn_option(rt: HostRuntime) {
     let mut parser = Parser::new(&OPTIONS[..19]);
     let torn = Opt::parse_rdata(Rtype::OPT, &mut parser);
     let is_short = torn == Err(ParseError::ShortInput);
     assert_holds(&rt, "a torn option", is_short && parser.remaining() == 19);
+}
+
+#[test]
+fn refuses_another_type(rt: HostRuntime) {
     let mut parser = Parser::new(&OPTIONS);
     let other = Opt::parse_rdata(Rtype::A, &mut parser);
     assert_holds(

@@ -6,7 +6,6 @@ use dns_opt::{
     BadOptData, ClientSubnet, Cookie, Expire, ExtendedError, KnownOptData, SubnetAddr, TcpKeepalive,
 };
 use dns_opt_builder::OptBuilder;
-use dns_wire::AppendError;
 use std::process::Abort;
 
 /// A client cookie of eight octets.
@@ -18,20 +17,24 @@ static OCTETS: [u8; 41] = [
     27, 28, 29, 30, 31, 32, 33, 34, 35, 36, 37, 38, 39, 40, 41,
 ];
 
+/// Fails unless the octets are a cookie of `CLIENT` at allowed lengths, and none at others.
+fn assert_cookie(rt: &impl Abort, octets: &[u8]) {
+    let len = octets.len();
+    let is_allowed = len == 8 || (16..=40).contains(&len);
+    let cookie = Cookie::parse(octets).ok();
+    assert!(rt; cookie.is_some() == is_allowed, "a cookie of {len} octets");
+    if let Some(cookie) = cookie {
+        assert_holds(rt, "client", cookie.client == CLIENT);
+        assert_holds(rt, "a server cookie", cookie.server.is_some() == (len > 8));
+        let server = octets.get(8..).unwrap_or(&[]);
+        assert_octets(rt, "server", cookie.server.unwrap_or(&[]), server);
+    }
+}
+
 #[test]
 fn reads_cookies_of_allowed_lengths(rt: HostRuntime) {
     for len in 0..42 {
-        let octets = &OCTETS[..len];
-        let allowed = len == 8 || (16..=40).contains(&len);
-        if let Ok(cookie) = Cookie::parse(octets) {
-            assert!(rt; allowed, "a cookie of {len} octets");
-            assert_holds(&rt, "client", cookie.client == CLIENT);
-            assert_holds(&rt, "a server cookie", cookie.server.is_some() == (len > 8));
-            let server = octets.get(8..).unwrap_or(&[]);
-            assert_octets(&rt, "server", cookie.server.unwrap_or(&[]), server);
-        } else {
-            assert!(rt; !allowed, "no cookie of {len} octets");
-        }
+        assert_cookie(&rt, &OCTETS[..len]);
     }
 }
 
@@ -45,13 +48,19 @@ fn assert_read<T: PartialEq + Drop>(
     assert_holds(rt, row, read == Ok(value));
 }
 
-/// RFC 9018 appendix A.1: the client's cookie, and then with that of the server.
+/// RFC 9018 appendix A.1: the client's cookie.
 #[test]
-fn reads_the_cookies_of_rfc_9018(rt: HostRuntime) {
+fn reads_the_client_cookie_of_rfc_9018(rt: HostRuntime) {
     let client = *b"\x24\x64\xC4\xAB\xCF\x10\xC9\x57";
     let server = None;
     let query = Cookie::parse(b"\x24\x64\xC4\xAB\xCF\x10\xC9\x57");
     assert_read(&rt, "no server cookie", query, Cookie { client, server });
+}
+
+/// RFC 9018 appendix A.1: the client's cookie with that of the server.
+#[test]
+fn reads_the_server_cookie_of_rfc_9018(rt: HostRuntime) {
+    let client = *b"\x24\x64\xC4\xAB\xCF\x10\xC9\x57";
     let response = Cookie::parse(
         b"\x24\x64\xC4\xAB\xCF\x10\xC9\x57\x01\x00\x00\x00\x5C\xF7\x9F\x11\x1F\x81\x30\xC3\xEE\xE2\x94\x80",
     );
@@ -225,11 +234,15 @@ fn refuses_malformed_options(rt: HostRuntime) {
 }
 
 #[test]
-fn reads_numbers(rt: HostRuntime) {
+fn reads_expire(rt: HostRuntime) {
     let query = Expire::parse(b"");
     assert_read(&rt, "EXPIRE in a query", query, Expire(None));
     let week = Expire::parse(b"\x00\x09\x3A\x80");
     assert_read(&rt, "EXPIRE after a week", week, Expire(Some(604_800)));
+}
+
+#[test]
+fn reads_keepalives(rt: HostRuntime) {
     let query = TcpKeepalive::parse(b"");
     assert_read(&rt, "keepalive in a query", query, TcpKeepalive(None));
     let half_minute = TcpKeepalive(Some(300));
@@ -250,53 +263,82 @@ fn reads_texts(rt: HostRuntime) {
     let text = "no key \u{2603}";
     assert_error(&rt, "DNSSEC Bogus, with a text", octets, 6, Some(text));
     assert_error(&rt, "not UTF-8", b"\x00\x00\xFF", 0, None);
+}
+
+#[test]
+fn keeps_octets_that_are_no_text(rt: HostRuntime) {
     let other = ExtendedError::parse(b"\x00\x00\xFF").expect(&rt, "an error");
     assert_octets(&rt, "octets that aren't UTF-8", other.text_octets, b"\xFF");
 }
 
-#[test]
-fn reads_each_kind_by_its_code(rt: HostRuntime) {
-    let nsid = KnownOptData::parse(OptionCode::NSID, b"gpdns");
-    assert_read(&rt, "NSID", nsid, Some(KnownOptData::Nsid(b"gpdns")));
-    let padding = KnownOptData::parse(OptionCode::PADDING, b"\0\0");
-    let zeros = KnownOptData::Padding(b"\0\0");
-    assert_read(&rt, "padding", padding, Some(zeros));
-    let cookie = KnownOptData::parse(OptionCode::COOKIE, b"\x01\x02\x03\x04\x05\x06\x07\x08");
-    let server = None;
-    let client = KnownOptData::Cookie(Cookie {
-        client: CLIENT,
-        server,
-    });
-    assert_read(&rt, "cookie", cookie, Some(client));
-    let dau = KnownOptData::parse(OptionCode::DAU, b"\x08");
-    assert_read(&rt, "DAU isn't among them", dau, None);
+/// Fails unless an option of this code was read as this value.
+fn assert_known(
+    rt: &impl Abort,
+    row: &str,
+    code: OptionCode,
+    octets: &[u8],
+    value: Option<KnownOptData<'_>>,
+) {
+    assert_read(rt, row, KnownOptData::parse(code, octets), value);
 }
 
 #[test]
+fn reads_each_kind_by_its_code(rt: HostRuntime) {
+    let nsid = KnownOptData::Nsid(b"gpdns");
+    assert_known(&rt, "NSID", OptionCode::NSID, b"gpdns", Some(nsid));
+    let zeros = KnownOptData::Padding(b"\0\0");
+    assert_known(&rt, "padding", OptionCode::PADDING, b"\0\0", Some(zeros));
+    let row = "DAU isn't among them";
+    assert_known(&rt, row, OptionCode::DAU, b"\x08", None);
+}
+
+#[test]
+fn reads_cookies_by_their_code(rt: HostRuntime) {
+    let cookie = KnownOptData::Cookie(Cookie {
+        client: CLIENT,
+        server: None,
+    });
+    let octets = b"\x01\x02\x03\x04\x05\x06\x07\x08";
+    assert_known(&rt, "cookie", OptionCode::COOKIE, octets, Some(cookie));
+}
+
+/// A keepalive of 30 seconds, DAU, a keepalive of a malformed length, and a malformed cookie.
+const SEVERAL: &[u8] =
+    b"\x00\x0B\x00\x02\x01\x2C\x00\x05\x00\x01\x08\x00\x0B\x00\x01\x00\x00\x0A\x00\x01\x00";
+
+#[test]
 fn finds_the_first_of_a_kind(rt: HostRuntime) {
-    // A keepalive of 30 seconds, DAU, a keepalive of a malformed length, and a malformed cookie.
-    let opt = options(
-        &rt,
-        b"\x00\x0B\x00\x02\x01\x2C\x00\x05\x00\x01\x08\x00\x0B\x00\x01\x00\x00\x0A\x00\x01\x00",
-    );
+    let opt = options(&rt, SEVERAL);
     let half_minute = Some(TcpKeepalive(Some(300)));
     assert_read(&rt, "the first keepalive", opt.tcp_keepalive(), half_minute);
-    assert_holds(&rt, "cookie", opt.cookie().err() == Some(BadOptData));
-    assert_read(&rt, "no EXPIRE", opt.expire(), None);
-    assert_holds(&rt, "no NSID", opt.nsid().is_none());
     let dau = opt.first(OptionCode::DAU);
     assert_octets(&rt, "DAU", dau.unwrap_or(&[]), b"\x08");
 }
 
+#[test]
+fn finds_no_malformed_or_missing_kind(rt: HostRuntime) {
+    let opt = options(&rt, SEVERAL);
+    assert_holds(&rt, "cookie", opt.cookie().err() == Some(BadOptData));
+    assert_read(&rt, "no EXPIRE", opt.expire(), None);
+    assert_holds(&rt, "no NSID", opt.nsid().is_none());
+}
+
 /// Adds an option of each kind.
-fn add_each(opt: &mut OptBuilder) -> Result<(), AppendError> {
-    opt.nsid(b"ns1")?;
-    opt.client_subnet(20, 40, SubnetAddr::V4([192, 0, 255, 1]))?;
-    opt.expire(Some(258))?;
-    opt.cookie(CLIENT, Some(&OCTETS[..16]))?;
-    opt.tcp_keepalive(None)?;
-    opt.padding(3)?;
-    opt.extended_error(18, Some("no"))
+fn add_each(rt: &impl Abort, opt: &mut OptBuilder) {
+    add_numbers_and_octets(rt, opt);
+    let address = SubnetAddr::V4([192, 0, 255, 1]);
+    opt.client_subnet(20, 40, address).expect(rt, "memory");
+    let server = &OCTETS[..16];
+    opt.cookie(CLIENT, Some(server)).expect(rt, "memory");
+    opt.extended_error(18, Some("no")).expect(rt, "memory");
+}
+
+/// Adds options with a number, or with octets alone.
+fn add_numbers_and_octets(rt: &impl Abort, opt: &mut OptBuilder) {
+    opt.nsid(b"ns1").expect(rt, "memory");
+    opt.expire(Some(258)).expect(rt, "memory");
+    opt.tcp_keepalive(None).expect(rt, "memory");
+    opt.padding(3).expect(rt, "memory");
 }
 
 /// Fails unless the numbers and octets are those that `add_each` added.
@@ -308,7 +350,7 @@ fn assert_numbers_and_octets(rt: &impl Abort, opt: &Opt<&[u8]>) {
     assert_read(rt, "keepalive", opt.tcp_keepalive(), Some(keepalive));
 }
 
-/// Fails unless the subnet, the cookie and the extended error are those that `add_each` added.
+/// Fails unless the subnet and the cookie are those that `add_each` added.
 fn assert_parts(rt: &impl Abort, opt: &Opt<&[u8]>) {
     let subnet = ClientSubnet {
         source: 20,
@@ -321,6 +363,10 @@ fn assert_parts(rt: &impl Abort, opt: &Opt<&[u8]>) {
         server: Some(&OCTETS[..16]),
     };
     assert_read(rt, "cookie", opt.cookie(), Some(cookie));
+}
+
+/// Fails unless the extended error is that which `add_each` added.
+fn assert_added_error(rt: &impl Abort, opt: &Opt<&[u8]>) {
     let error = opt.extended_error().expect(rt, "an extended error");
     let error = error.expect(rt, "an extended error");
     assert_holds(rt, "error", error.code == 18 && error.text() == Some("no"));
@@ -329,8 +375,9 @@ fn assert_parts(rt: &impl Abort, opt: &Opt<&[u8]>) {
 #[test]
 fn reads_back_what_a_builder_wrote(rt: HostRuntime) {
     let mut builder = OptBuilder::new(rt.alloc(), Header::new());
-    add_each(&mut builder).expect(&rt, "memory");
+    add_each(&rt, &mut builder);
     let opt = Opt::from_octets(builder.option_octets()).expect(&rt, "options");
     assert_numbers_and_octets(&rt, &opt);
     assert_parts(&rt, &opt);
+    assert_added_error(&rt, &opt);
 }
