@@ -1,6 +1,7 @@
 //! Assertions, and values that many tests use. The `row` of an assertion is the name of a row of a
 //! table, or says what a test compares.
-use dns_wire::Name;
+use dns_build::{Builder, BuilderStage};
+use dns_wire::{Composer, Name};
 use std::process::Abort;
 
 /// Fails unless the condition holds.
@@ -11,6 +12,16 @@ pub(crate) fn assert_holds(rt: &impl Abort, row: &str, holds: bool) {
 /// Fails unless the octets equal the expected ones.
 pub(crate) fn assert_octets(rt: &impl Abort, row: &str, octets: &[u8], expected: &[u8]) {
     assert_eq!(rt; octets, expected, "{row}");
+}
+
+/// Fails unless the builder has this push limit.
+pub(crate) fn assert_limit<T: Composer, S: BuilderStage>(
+    rt: &impl Abort,
+    row: &str,
+    builder: &Builder<T, S>,
+    limit: Option<usize>,
+) {
+    assert_holds(rt, row, builder.push_limit() == limit);
 }
 
 /// The octets of example.com.

@@ -1,5 +1,5 @@
 //! Builders over targets that don't compress: limits and counts, moves, conversions and clones.
-use crate::asserts::{LETTER_A, ROOT, assert_holds, assert_octets, name_of};
+use crate::asserts::{LETTER_A, ROOT, assert_holds, assert_limit, assert_octets, name_of};
 use crate::steps::Answer::{CountOverflow, Done, LimitExceeded, ShortBuf};
 use crate::steps::{Ask, Call, Case, EMPTY, push_question, run};
 use arrayvec::ArrayVec;
@@ -187,9 +187,9 @@ fn lends_what_it_has(rt: HostRuntime) {
 #[test]
 fn keeps_its_limit(rt: HostRuntime) {
     let mut builder = answered(&rt, rt.alloc());
-    assert_holds(&rt, "no limit", builder.push_limit().is_none());
+    assert_limit(&rt, "no limit", &builder, None);
     builder.set_push_limit(100);
-    assert_holds(&rt, "limit", builder.builder().push_limit() == Some(100));
+    assert_limit(&rt, "limit", &builder.builder(), Some(100));
 }
 
 #[test]
@@ -257,7 +257,7 @@ fn cloned<T: CloneTarget, S: BuilderStage>(
 ) -> Builder<T, S> {
     let clone = builder.clone().expect(rt, row);
     assert_octets(rt, row, clone.as_slice(), octets);
-    assert_holds(rt, row, clone.push_limit() == Some(500));
+    assert_limit(rt, row, &clone, Some(500));
     builder
 }
 

@@ -1,5 +1,5 @@
 //! OPT records whose octets are reserved before other records are pushed (RFC 6891 section 6.1).
-use crate::asserts::{assert_holds, assert_octets};
+use crate::asserts::{assert_holds, assert_limit, assert_octets};
 use arrayvec::ArrayVec;
 use dns_build::{
     AdditionalBuilder, AnswerBuilder, Builder, BuilderStage, MessageBuilder, OptBuilder, PushError,
@@ -109,18 +109,31 @@ fn push_answers<T: Composer>(rt: &impl Abort, row: &str, builder: &mut AnswerBui
     40
 }
 
-/// Pushes the reserved record. Fails unless the message has the length of the row then, and the
-/// builder the limit from before.
+/// Reserves an OPT record without options.
+fn reserved<T: Composer, S: BuilderStage>(
+    rt: &impl Abort,
+    alloc: Global,
+    row: &str,
+    builder: &mut Builder<T, S>,
+) -> ReservedOpt {
+    let opt = gathered(rt, alloc, builder, None);
+    builder.reserve_opt(opt).expect(rt, row)
+}
+
+/// Pushes the reserved record. Fails unless the message has `len` octets then, and the builder this
+/// limit.
 fn assert_pushed<T: Composer>(
     rt: &impl Abort,
-    row: &Row,
+    row: &str,
     mut builder: AdditionalBuilder<T>,
     reserved: ReservedOpt,
+    limit: Option<usize>,
+    len: usize,
 ) {
-    builder.push_reserved(reserved).expect(rt, row.name);
-    assert_holds(rt, row.name, builder.as_slice().len() == row.len);
-    assert_holds(rt, row.name, builder.push_limit() == Some(row.limit));
-    assert_holds(rt, row.name, builder.as_message().opt().is_some());
+    builder.push_reserved(reserved).expect(rt, row);
+    assert_holds(rt, row, builder.as_slice().len() == len);
+    assert_limit(rt, row, &builder, limit);
+    assert_holds(rt, row, builder.as_message().opt().is_some());
 }
 
 /// Reserves the record of a row and pushes answers, and then the record.
@@ -131,11 +144,12 @@ fn assert_reserves<T: Composer>(
     opt: OptBuilder,
 ) {
     let reserved = builder.reserve_opt(opt).expect(rt, row.name);
-    assert_holds(rt, row.name, builder.push_limit() == Some(row.lowered));
+    assert_limit(rt, row.name, &builder, Some(row.lowered));
     let mut builder = builder.answer();
     let answers = push_answers(rt, row.name, &mut builder);
     assert_holds(rt, row.name, answers == row.answers);
-    assert_pushed(rt, row, builder.additional(), reserved);
+    let builder = builder.additional();
+    assert_pushed(rt, row.name, builder, reserved, Some(row.limit), row.len);
 }
 
 #[test]
@@ -153,35 +167,41 @@ fn leaves_the_octets_of_the_record(rt: HostRuntime) {
 #[test]
 fn needs_no_limit(rt: HostRuntime) {
     let row = "No limit";
-    let alloc = rt.alloc();
-    let builder = MessageBuilder::new_vec(alloc).expect(&rt, "memory");
+    let builder = MessageBuilder::new_vec(rt.alloc()).expect(&rt, "memory");
     let mut builder = builder.answer();
-    let opt = gathered(&rt, alloc, &builder, None);
-    let reserved = builder.reserve_opt(opt).expect(&rt, row);
-    assert_holds(&rt, row, builder.push_limit().is_none());
+    let opt = reserved(&rt, rt.alloc(), row, &mut builder);
+    assert_limit(&rt, row, &builder, None);
     assert_holds(&rt, row, push_answers(&rt, row, &mut builder) == 40);
-    let mut builder = builder.additional();
-    builder.push_reserved(reserved).expect(&rt, row);
-    assert_holds(&rt, row, builder.push_limit().is_none());
-    assert_holds(&rt, row, builder.as_slice().len() == 12 + 40 * 15 + 11);
+    let len = 12 + 40 * 15 + 11;
+    assert_pushed(&rt, row, builder.additional(), opt, None, len);
 }
 
-/// A record of 11 octets after a header section of 12.
+/// Fails unless the message is empty, and the builder has this limit.
+fn assert_empty<T: Composer, S: BuilderStage>(
+    rt: &impl Abort,
+    row: &str,
+    builder: &Builder<T, S>,
+    limit: usize,
+) {
+    assert_limit(rt, row, builder, Some(limit));
+    assert_octets(rt, row, builder.as_slice(), &[0; 12]);
+}
+
+/// Fails unless a record of 11 octets after a header section of 12 exceeds the limit.
+fn assert_exceeds(rt: &impl Abort, alloc: Global, row: &str, limit: usize) {
+    let mut builder = limited(rt, Vec::new(alloc), limit);
+    let opt = gathered(rt, alloc, &builder, None);
+    let refused = builder.reserve_opt(opt).err();
+    assert_holds(rt, row, matches!(refused, Some(PushError::LimitExceeded)));
+    assert_empty(rt, row, &builder, limit);
+}
+
 #[test]
 fn refuses_more_than_the_limit(rt: HostRuntime) {
     let alloc = rt.alloc();
-    for (row, limit) in [
-        ("One octet too many", 22),
-        ("More than the limit", 10),
-        ("None", 0),
-    ] {
-        let mut builder = limited(&rt, Vec::new(alloc), limit);
-        let opt = gathered(&rt, alloc, &builder, None);
-        let refused = builder.reserve_opt(opt).err();
-        assert_holds(&rt, row, matches!(refused, Some(PushError::LimitExceeded)));
-        assert_holds(&rt, row, builder.push_limit() == Some(limit));
-        assert_octets(&rt, row, builder.as_slice(), &[0; 12]);
-    }
+    assert_exceeds(&rt, alloc, "One octet too many", 22);
+    assert_exceeds(&rt, alloc, "More than the limit", 10);
+    assert_exceeds(&rt, alloc, "None", 0);
 }
 
 /// The limit has 512 octets and the target 16, so the record exceeds the target.
@@ -189,13 +209,11 @@ fn refuses_more_than_the_limit(rt: HostRuntime) {
 fn restores_the_limit_on_error(rt: HostRuntime) {
     let row = "A short target";
     let mut builder = limited(&rt, ArrayVec::<u8, 16>::new(), 512).additional();
-    let opt = gathered(&rt, rt.alloc(), &builder, None);
-    let reserved = builder.reserve_opt(opt).expect(&rt, row);
-    assert_holds(&rt, row, builder.push_limit() == Some(501));
-    let refused = builder.push_reserved(reserved).err();
+    let opt = reserved(&rt, rt.alloc(), row, &mut builder);
+    assert_limit(&rt, row, &builder, Some(501));
+    let refused = builder.push_reserved(opt).err();
     assert_holds(&rt, row, matches!(refused, Some(PushError::ShortBuf)));
-    assert_holds(&rt, row, builder.push_limit() == Some(512));
-    assert_octets(&rt, row, builder.as_slice(), &[0; 12]);
+    assert_empty(&rt, row, &builder, 512);
 }
 
 /// QR, RD, and the rcode 3 in the header. The record has the upper bits of the rcode 19.
@@ -214,11 +232,10 @@ fn refusal(mut header: Header) -> Header {
 fn takes_the_rcode_alone(rt: HostRuntime) {
     let row = "The rcode 19";
     let mut builder = limited(&rt, Vec::new(rt.alloc()), 512);
-    let opt = gathered(&rt, rt.alloc(), &builder, None);
-    let mut reserved = builder.reserve_opt(opt).expect(&rt, row);
+    let mut opt = reserved(&rt, rt.alloc(), row, &mut builder);
     builder.set_header(refusal(builder.header()));
-    reserved.set_rcode(OptRcode::checked_from_int(19).expect(&rt, row));
+    opt.set_rcode(OptRcode::checked_from_int(19).expect(&rt, row));
     let mut builder = builder.additional();
-    builder.push_reserved(reserved).expect(&rt, row);
+    builder.push_reserved(opt).expect(&rt, row);
     assert_octets(&rt, row, builder.as_slice(), &WITH_RCODE);
 }

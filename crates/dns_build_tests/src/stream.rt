@@ -42,16 +42,19 @@ static FULL_ARRAY: Case = Case {
     ..EMPTY
 };
 
+/// A builder over an empty target.
+fn over<T: Composer>(rt: &impl Abort, target: T) -> MessageBuilder<T> {
+    MessageBuilder::from_target(target).expect(rt, "a capacity for the header")
+}
+
+/// An empty array of octets after its length.
+fn array<const N: usize>(rt: &impl Abort) -> StreamTarget<ArrayVec<u8, N>> {
+    StreamTarget::new(ArrayVec::new()).expect(rt, "a capacity for the length")
+}
+
 #[test]
 fn fills_an_array(rt: HostRuntime) {
-    let target = StreamTarget::new(ArrayVec::<u8, 20>::new()).expect(
-        &rt,
-        "a capacity for the length and the header",
-    );
-    let builder = MessageBuilder::from_target(target).expect(
-        &rt,
-        "a capacity for the length and the header",
-    );
+    let builder = over(&rt, array::<20>(&rt));
     run_after(&rt, rt.alloc(), builder, &FULL_ARRAY, b"\x00\x11");
 }
 
@@ -74,16 +77,18 @@ static FULL: Case = Case {
     ..EMPTY
 };
 
+/// Makes the calls of a case on a builder over a stream target, however it is made.
+fn run_on_streams(rt: &impl Abort, alloc: Global, case: &Case, prefix: &[u8]) {
+    let builder = MessageBuilder::new_stream_vec(alloc).expect(rt, "memory");
+    run_after(rt, alloc, builder, case, prefix);
+    let target = StreamTarget::new_vec(alloc).expect(rt, "memory");
+    run_after(rt, alloc, over(rt, target), case, prefix);
+}
+
 #[test]
 fn fills_a_message(rt: HostRuntime) {
-    let alloc = rt.alloc();
-    for (case, prefix) in [(&TOO_LONG, b"\x00\x0C"), (&FULL, b"\xFF\xFF")] {
-        let builder = MessageBuilder::new_stream_vec(alloc).expect(&rt, "memory");
-        run_after(&rt, alloc, builder, case, prefix);
-        let target = StreamTarget::new_vec(alloc).expect(&rt, "memory");
-        let builder = MessageBuilder::from_target(target).expect(&rt, "memory");
-        run_after(&rt, alloc, builder, case, prefix);
-    }
+    run_on_streams(&rt, rt.alloc(), &TOO_LONG, b"\x00\x0C");
+    run_on_streams(&rt, rt.alloc(), &FULL, b"\xFF\xFF");
 }
 
 /// A message about example.com. with a record in each section, over a static compressor over a
@@ -122,8 +127,7 @@ fn assert_message<T: Composer>(rt: &impl Abort, target: &StreamTarget<T>) {
 #[test]
 fn compresses_after_the_length(rt: HostRuntime) {
     let target = StreamTarget::new_vec(rt.alloc()).expect(&rt, "memory");
-    let target = StaticCompressor::new(target);
-    let builder = MessageBuilder::from_target(target).expect(&rt, "memory");
+    let builder = over(&rt, StaticCompressor::new(target));
     let target = run_on(&rt, rt.alloc(), CALLS.name, builder, &CALLS);
     assert_message(&rt, target.as_target());
 }
@@ -146,15 +150,7 @@ static BETWEEN: Case = Case {
 
 #[test]
 fn refuses_a_pointer(rt: HostRuntime) {
-    let target = StreamTarget::new(ArrayVec::<u8, 33>::new()).expect(
-        &rt,
-        "a capacity for the length and the header",
-    );
-    let target = StaticCompressor::new(target);
-    let builder = MessageBuilder::from_target(target).expect(
-        &rt,
-        "a capacity for the length and the header",
-    );
+    let builder = over(&rt, StaticCompressor::new(array::<33>(&rt)));
     let target = run_on(&rt, rt.alloc(), BETWEEN.name, builder, &BETWEEN);
     assert_prefix(&rt, BETWEEN.name, target.as_target(), b"\x00\x1D");
 }
