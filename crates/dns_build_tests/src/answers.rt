@@ -1,8 +1,8 @@
 //! Answers that are started from a message: the header, the questions that can be read, and a
 //! question that is refused.
-use crate::asserts::{assert_holds, assert_octets};
+use crate::asserts::{assert_holds, assert_octets, over};
 use arrayvec::ArrayVec;
-use dns_build::{AnswerBuilder, MessageBuilder, PushError};
+use dns_build::{AnswerBuilder, PushError};
 use dns_code::Rcode;
 use dns_read::Message;
 use dns_wire::Composer;
@@ -34,11 +34,6 @@ fn assert_builder<T: Composer>(
 ) {
     let builder = builder.expect(rt, row);
     assert_octets(rt, row, builder.as_slice(), expected);
-}
-
-/// A builder over an empty target.
-fn over<T: Composer>(rt: &impl Abort, target: T) -> MessageBuilder<T> {
-    MessageBuilder::from_target(target).expect(rt, "a capacity for the header")
 }
 
 /// Checks that `start_answer` and `start_error` push the readable questions.

@@ -1,6 +1,6 @@
 //! Assertions, and values that many tests use. The `row` of an assertion is the name of a row of a
 //! table, or says what a test compares.
-use dns_build::{Builder, BuilderStage};
+use dns_build::{Builder, BuilderStage, MessageBuilder};
 use dns_wire::{Composer, Name};
 use std::process::Abort;
 
@@ -22,6 +22,11 @@ pub(crate) fn assert_limit<T: Composer, S: BuilderStage>(
     limit: Option<usize>,
 ) {
     assert_holds(rt, row, builder.push_limit() == limit);
+}
+
+/// A builder over an empty target.
+pub(crate) fn over<T: Composer>(rt: &impl Abort, target: T) -> MessageBuilder<T> {
+    MessageBuilder::from_target(target).expect(rt, "room for the header")
 }
 
 /// The octets of example.com.

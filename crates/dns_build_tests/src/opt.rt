@@ -1,6 +1,6 @@
 //! OPT records that are pushed (RFC 6891 section 6.1).
-use crate::asserts::{assert_holds, assert_octets};
-use dns_build::{AdditionalBuilder, MessageBuilder, OptBuilder, PushError};
+use crate::asserts::{assert_holds, assert_octets, over};
+use dns_build::{AdditionalBuilder, OptBuilder, PushError};
 use dns_code::{Class, OptRcode, OptionCode, Rcode};
 use dns_data::{Opt, UnknownOptData};
 use dns_item::{OptRecord, Record, Ttl};
@@ -11,8 +11,7 @@ use std::process::Abort;
 
 /// A builder at the additional section of an empty message.
 fn additional<T: Composer>(rt: &impl Abort, target: T) -> AdditionalBuilder<T> {
-    let builder = MessageBuilder::from_target(target).expect(rt, "a capacity for the header");
-    builder.additional()
+    over(rt, target).additional()
 }
 
 /// Pushes the record that a closure gathers. From offset `first` on, the message has these octets

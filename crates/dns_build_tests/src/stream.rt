@@ -1,5 +1,5 @@
 //! Messages that are built after their length, as on a TCP stream.
-use crate::asserts::{EXAMPLE_COM, ROOT, assert_holds, assert_octets, name_of};
+use crate::asserts::{EXAMPLE_COM, ROOT, assert_holds, assert_octets, name_of, over};
 use crate::steps::Answer::{Done, ShortBuf};
 use crate::steps::{Ask, Call, Case, EMPTY, run_on};
 use arrayvec::ArrayVec;
@@ -42,11 +42,6 @@ static FULL_ARRAY: Case = Case {
     ..EMPTY
 };
 
-/// A builder over an empty target.
-fn over<T: Composer>(rt: &impl Abort, target: T) -> MessageBuilder<T> {
-    MessageBuilder::from_target(target).expect(rt, "a capacity for the header")
-}
-
 /// An empty array of octets after its length.
 fn array<const N: usize>(rt: &impl Abort) -> StreamTarget<ArrayVec<u8, N>> {
     StreamTarget::new(ArrayVec::new()).expect(rt, "a capacity for the length")
@@ -77,7 +72,8 @@ static FULL: Case = Case {
     ..EMPTY
 };
 
-/// Makes the calls of a case on a builder over a stream target, however it is made.
+/// Makes the calls of a case on a builder over a stream target, made by `new_stream_vec`, and by
+/// `from_target`.
 fn run_on_streams(rt: &impl Abort, alloc: Global, case: &Case, prefix: &[u8]) {
     let builder = MessageBuilder::new_stream_vec(alloc).expect(rt, "memory");
     run_after(rt, alloc, builder, case, prefix);

@@ -10,8 +10,8 @@ use crate::searches::{
 use crate::sections::{assert_iter, assert_questions, assert_sections};
 use crate::walks::assert_walks;
 use arrayvec::ArrayVec;
-use dns_tool::tool;
 use dns_read::Message;
+use dns_tool::tool;
 use std::alloc::Global;
 use std::process::Abort;
 use std::{slice, str};

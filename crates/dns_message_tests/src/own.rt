@@ -6,7 +6,7 @@ ghost use Rattle.dns_message.specs.Fields.{own_parts_of};
 ghost use Rattle.dns_message_tests.specs.Hosts.{host_layout};
 ghost use Rattle.dns_message_tests.specs.declared.own.TheConstants.{FIELDS};
 
-use crate::asserts::assert_holds;
+use crate::asserts::{assert_holds, assert_octets};
 use dns_message::builder::{AnswerBuilder, MessageBuilder};
 use dns_message::code::Rtype;
 use dns_message::data::{ParseRecordData, UnknownRecordData};
@@ -48,8 +48,8 @@ fn read_host<'a>(
     DataOf::parse_rdata(rtype, parser)
 }
 
-/// The greatest weight in the answer section, of the hosts before the first malformed one. Returns 0
-/// if there is none.
+/// The greatest weight in the answer section, of the hosts before the first malformed one. Returns
+/// 0 if there is none.
 fn greatest_weight<Octs: Octets>(message: &Message<Octs>) -> u64 {
     let mut greatest = 0;
     let Ok(answers) = message.answer() else {
@@ -93,7 +93,19 @@ fn push_host(rt: &impl Abort, builder: &mut AnswerBuilder<Vec<u8>>, octets: &[u8
     builder.push((owner, 60u32, data)).expect(rt, "memory");
 }
 
-/// The message with each host of another one, and the host once more at another owner.
+#[test]
+fn finds_the_greatest_weight(rt: HostRuntime) {
+    let builder = MessageBuilder::new_vec(rt.alloc()).expect(&rt, "memory");
+    let mut builder = builder.answer();
+    for octets in HOSTS {
+        push_host(&rt, &mut builder, octets);
+    }
+    let greatest = greatest_weight(&builder.into_message());
+    assert_holds(&rt, "the greatest weight", greatest == 5);
+}
+
+/// A message with each host of `message` twice: as it is, and at the owner other. with a TTL of an
+/// hour.
 fn doubled<Octs: Octets>(
     rt: &impl Abort,
     alloc: Global,
@@ -103,31 +115,24 @@ fn doubled<Octs: Octets>(
     let owner = Name::from_octets(*b"\x05other\x00").expect(rt, "a name");
     let answers = message.answer().expect(rt, "answers");
     for record in answers.limit_to::<DataOf<'_, WeightedHost>>() {
-        let record = record.expect(rt, "a record");
-        builder.push_ref(&record).expect(rt, "memory");
-        builder
-            .push((&owner, 3600u32, record.data()))
-            .expect(rt, "memory");
+        let record = record.expect(rt, "a host");
+        let pushed = builder.push_ref(&record);
+        pushed.expect(rt, "memory");
+        let pushed = builder.push((&owner, 3600u32, record.data()));
+        pushed.expect(rt, "memory");
     }
     builder.into_message()
 }
 
+/// Two hosts with the same RDATA.
+const DOUBLED: &[u8] =
+    b"\x00\x00\x00\x00\x00\x00\x00\x02\x00\x00\x00\x00\x07example\x00\xFF\x00\x00\x01\x00\x00\x00\x3C\x00\x05\x00\x02\x01a\x00\x05other\x00\xFF\x00\x00\x01\x00\x00\x0E\x10\x00\x05\x00\x02\x01a\x00";
+
 #[test]
-fn finds_the_greatest_weight(rt: HostRuntime) {
+fn copies_hosts(rt: HostRuntime) {
     let builder = MessageBuilder::new_vec(rt.alloc()).expect(&rt, "memory");
     let mut builder = builder.answer();
-    for octets in HOSTS {
-        push_host(&rt, &mut builder, octets);
-    }
-    let message = builder.into_message();
-    let greatest = greatest_weight(&message);
-    assert_holds(&rt, "the greatest weight", greatest == 5);
-    let doubled = doubled(&rt, rt.alloc(), &message);
-    assert_holds(
-        &rt,
-        "twice the hosts",
-        doubled.header_counts().ancount() == 6,
-    );
-    let greatest = greatest_weight(&doubled);
-    assert_holds(&rt, "the greatest weight of both", greatest == 5);
+    push_host(&rt, &mut builder, b"\x00\x02\x01a\x00");
+    let doubled = doubled(&rt, rt.alloc(), &builder.into_message());
+    assert_octets(&rt, "a host twice", doubled.as_slice(), DOUBLED);
 }

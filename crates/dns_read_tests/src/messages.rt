@@ -99,7 +99,7 @@ fn has_a_header(rt: HostRuntime) {
 }
 
 #[test]
-fn knows_where_its_sections_start(rt: HostRuntime) {
+fn has_starts_of_sections(rt: HostRuntime) {
     let message = message_of(&rt, POSITIVE_RESPONSE);
     let starts = starts_of(&message);
     assert_holds(

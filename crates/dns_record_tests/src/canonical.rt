@@ -37,7 +37,7 @@ fn composes_a_canonical_record(rt: HostRuntime) {
     assert_canonical(&rt, "a stream target", target);
 }
 
-/// Canonical record: in lower case and without a pointer, on compressors.
+/// Canonical record: in lower case and without a pointer, on a static and a tree compressor.
 #[test]
 fn composes_a_canonical_record_on_compressors(rt: HostRuntime) {
     let alloc = rt.alloc();

@@ -25,7 +25,9 @@ fn converted<T: OctetsFrom<S>, S>(rt: &impl Abort, alloc: Global, source: S) -> 
 
 /// The value, without what it borrows from a message.
 fn flattened<T, S: FlattenInto<T>>(rt: &impl Abort, alloc: Global, source: S) -> T {
-    source.try_flatten_into(alloc).expect(rt, "a name")
+    source
+        .try_flatten_into(alloc)
+        .expect(rt, "a flattened value")
 }
 
 /// The record example.com. NS example.com.
@@ -202,7 +204,7 @@ fn clones_zones(rt: HostRuntime) {
 
 /// Name conversions and clones: clones of a name and a question.
 #[test]
-fn clones_questions(rt: HostRuntime) {
+fn clones_names_and_questions(rt: HostRuntime) {
     assert_name_cloned(&rt, "name", &vec_name(&rt, rt.alloc()));
     let qname = vec_name(&rt, rt.alloc());
     assert_cloned(&rt, "question", Question::new_in(qname, Rtype::A));

@@ -26,7 +26,7 @@ fn takes_its_own_type_alone(rt: HostRuntime) {
 }
 
 #[test]
-fn takes_whole_and_opaque_data(rt: HostRuntime) {
+fn refuses_a_cut_zone_and_takes_opaque_data(rt: HostRuntime) {
     let octets = [0; 24];
     let short = Err(ParseError::ShortInput);
     let taken = takes::<Soa<ParsedName<'_>>>(Rtype::SOA, &octets[..21]) == short;

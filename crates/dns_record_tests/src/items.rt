@@ -118,7 +118,7 @@ fn assert_triples<N: ToName + Copy>(rt: &impl Abort, owner: N, data: A) {
     assert_record(rt, "seconds", &(owner, 3600, data), ADDRESS);
 }
 
-/// Fails unless tuples of these fields have the octets of records.
+/// Fails unless tuples of these fields, with a class, have the octets of records.
 fn assert_tuples<N: ToName + Copy>(rt: &impl Abort, owner: N, data: A) {
     assert_record(
         rt,

@@ -213,7 +213,7 @@ fn converts_errors_of_names(rt: HostRuntime) {
 }
 
 #[test]
-fn converts_errors_of_storing(rt: HostRuntime) {
+fn converts_errors_of_capacity_and_memory(rt: HostRuntime) {
     let short = FromStrError::from(name::FromStrError::ShortBuf);
     assert_prints(&rt, rt.alloc(), "capacity", &short, "buffer size exceeded");
     let memory = FromStrError::from(name::FromStrError::OutOfMemory);

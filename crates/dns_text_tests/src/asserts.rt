@@ -1,5 +1,7 @@
-//! Assertions. The `row` of an assertion is the name of a row of a table, or says what a test
-//! compares.
+//! Assertions. The `row` of an assertion is the name of a row of a table, the word, line or text
+//! that a test reads or prints, or says what it compares.
+use std::alloc::Global;
+use std::fmt::Display;
 use std::process::Abort;
 
 /// Fails unless the condition holds.
@@ -12,7 +14,14 @@ pub(crate) fn assert_octets(rt: &impl Abort, row: &str, octets: &[u8], expected:
     assert_eq!(rt; octets, expected, "{row}");
 }
 
-/// Fails unless the text is the expected one.
-pub(crate) fn assert_text(rt: &impl Abort, row: &str, text: &str, expected: &str) {
-    assert_eq!(rt; text, expected, "{row}");
+/// Fails unless the value is printed as `text`.
+pub(crate) fn assert_prints<T: Display>(
+    rt: &impl Abort,
+    alloc: Global,
+    row: &str,
+    value: &T,
+    text: &str,
+) {
+    let printed = value.to_string(alloc).expect(rt, row);
+    assert_eq!(rt; printed.as_str(), text, "{row}");
 }

@@ -70,7 +70,7 @@ fn error_of(alloc: Global, rtype: u16, words: &[&str]) -> Option<TextError> {
 }
 
 /// Fails unless the words aren't record data of the type.
-fn assert_bad(rt: &impl Abort, alloc: Global, rtype: u16, words: &[&str]) {
+fn assert_no_data(rt: &impl Abort, alloc: Global, rtype: u16, words: &[&str]) {
     let error = error_of(alloc, rtype, words);
     assert_words(rt, words, error == Some(TextError::BadWord));
 }
@@ -78,21 +78,21 @@ fn assert_bad(rt: &impl Abort, alloc: Global, rtype: u16, words: &[&str]) {
 #[test]
 fn bad_words(rt: HostRuntime) {
     for (rtype, words) in BAD {
-        assert_bad(&rt, rt.alloc(), *rtype, words);
+        assert_no_data(&rt, rt.alloc(), *rtype, words);
     }
 }
 
 #[test]
 fn bad_octets(rt: HostRuntime) {
     for (rtype, words) in BAD_OCTETS {
-        assert_bad(&rt, rt.alloc(), *rtype, words);
+        assert_no_data(&rt, rt.alloc(), *rtype, words);
     }
 }
 
 #[test]
 fn bad_tags(rt: HostRuntime) {
     for tag in BAD_TAGS {
-        assert_bad(&rt, rt.alloc(), 257, &["0", tag, "ca.example"]);
+        assert_no_data(&rt, rt.alloc(), 257, &["0", tag, "ca.example"]);
     }
 }
 

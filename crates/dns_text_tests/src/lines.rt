@@ -1,6 +1,7 @@
 //! Lines and their words.
-use crate::asserts::{assert_holds, assert_text};
+use crate::asserts::{assert_holds, assert_prints};
 use dns_line_words::split_words;
+use dns_value_text::TextError;
 use std::alloc::Global;
 use std::process::Abort;
 
@@ -80,16 +81,16 @@ fn records_over_lines(rt: HostRuntime) {
     }
 }
 
-/// Fails if the line has words.
-fn assert_bad(rt: &impl Abort, alloc: Global, line: &str) {
-    assert_holds(rt, line, split_words(alloc, line).is_err());
+/// Fails unless the line is malformed.
+fn assert_malformed(rt: &impl Abort, alloc: Global, line: &str) {
+    let error = split_words(alloc, line).err();
+    assert_holds(rt, line, error == Some(TextError::BadWord));
 }
 
 #[test]
-fn says_why(rt: HostRuntime) {
-    let error = split_words(rt.alloc(), "(").err().expect(&rt, "an error");
-    let text = error.to_string(rt.alloc()).expect(&rt, "memory");
-    assert_text(&rt, "the error", text.as_str(), "bad word");
+fn prints_its_error(rt: HostRuntime) {
+    let error = TextError::BadWord;
+    assert_prints(&rt, rt.alloc(), "the error", &error, "bad word");
 }
 
 /// Texts with a word after the end of the line, or with parentheses that don't match.
@@ -119,10 +120,10 @@ const UNMATCHED: &[&str] = &[
 #[test]
 fn lines_that_end_and_parentheses(rt: HostRuntime) {
     for line in BROKEN {
-        assert_bad(&rt, rt.alloc(), line);
+        assert_malformed(&rt, rt.alloc(), line);
     }
     for line in UNMATCHED {
-        assert_bad(&rt, rt.alloc(), line);
+        assert_malformed(&rt, rt.alloc(), line);
     }
 }
 
@@ -143,6 +144,6 @@ const OPEN: &[&str] = &[
 #[test]
 fn open_quotes_and_backslashes(rt: HostRuntime) {
     for line in OPEN {
-        assert_bad(&rt, rt.alloc(), line);
+        assert_malformed(&rt, rt.alloc(), line);
     }
 }

@@ -1,27 +1,14 @@
 //! Values that are printed.
-use crate::asserts::{assert_holds, assert_text};
+use crate::asserts::{assert_holds, assert_prints};
 use dns_value_text::{Base32, Eui, Hex, Location, Locator64, Quoted, Tag, Timestamp};
-use std::alloc::Global;
-use std::fmt::Display;
-use std::process::Abort;
-
-/// Fails unless the value is printed as `text`.
-fn assert_prints<T: Display>(rt: &impl Abort, alloc: Global, value: &T, text: &str) {
-    let printed = value.to_string(alloc).expect(rt, text);
-    assert_text(rt, text, printed.as_str(), text);
-}
 
 /// The digest of RFC 4034 section 5.4.
 #[test]
 fn octets_in_hexadecimal(rt: HostRuntime) {
     let digest =
         b"\x2B\xB1\x83\xAF\x5F\x22\x58\x81\x79\xA5\x3B\x0A\x98\x63\x1F\xAD\x1A\x29\x21\x18";
-    assert_prints(
-        &rt,
-        rt.alloc(),
-        &Hex(digest),
-        "2BB183AF5F22588179A53B0A98631FAD1A292118",
-    )
+    let text = "2BB183AF5F22588179A53B0A98631FAD1A292118";
+    assert_prints(&rt, rt.alloc(), "a digest", &Hex(digest), text);
 }
 
 /// The test vectors of RFC 4648 section 10, without padding.
@@ -38,7 +25,7 @@ const BASE32: &[(&[u8], &str)] = &[
 #[test]
 fn octets_in_base32(rt: HostRuntime) {
     for (octets, text) in BASE32 {
-        assert_prints(&rt, rt.alloc(), &Base32(octets), text);
+        assert_prints(&rt, rt.alloc(), text, &Base32(octets), text);
     }
 }
 
@@ -56,21 +43,27 @@ const TIMES: &[(u32, &str)] = &[
 #[test]
 fn times(rt: HostRuntime) {
     for (seconds, text) in TIMES {
-        assert_prints(&rt, rt.alloc(), &Timestamp(*seconds), text);
+        assert_prints(&rt, rt.alloc(), text, &Timestamp(*seconds), text);
     }
 }
 
 #[test]
 fn strings_in_quotes(rt: HostRuntime) {
     let string = Quoted(b"a\"b\\c\x07\xC8 d");
-    assert_prints(&rt, rt.alloc(), &string, "\"a\\\"b\\\\c\\007\\200 d\"")
+    assert_prints(
+        &rt,
+        rt.alloc(),
+        "a string",
+        &string,
+        "\"a\\\"b\\\\c\\007\\200 d\"",
+    )
 }
 
 /// A tag of RFC 8659 section 4.1, and octets that are no tag.
 #[test]
 fn tags(rt: HostRuntime) {
     let tag = Tag::from_octets(b"issue").expect(&rt, "a tag");
-    assert_prints(&rt, rt.alloc(), &tag, "issue");
+    assert_prints(&rt, rt.alloc(), "a tag", &tag, "issue");
     let is_none = Tag::from_octets(b"is-sue").is_none();
     assert_holds(&rt, "is-sue", is_none);
 }
@@ -79,11 +72,17 @@ fn tags(rt: HostRuntime) {
 #[test]
 fn addresses(rt: HostRuntime) {
     let eui48 = Eui(b"\x00\x00\x5E\x00\x53\x2A");
-    assert_prints(&rt, rt.alloc(), &eui48, "00-00-5e-00-53-2a");
+    assert_prints(&rt, rt.alloc(), "EUI-48", &eui48, "00-00-5e-00-53-2a");
     let eui64 = Eui(b"\x00\x00\x5E\xEF\x10\x00\x00\x2A");
-    assert_prints(&rt, rt.alloc(), &eui64, "00-00-5e-ef-10-00-00-2a");
+    assert_prints(&rt, rt.alloc(), "EUI-64", &eui64, "00-00-5e-ef-10-00-00-2a");
     let locator = Locator64(*b"\x20\x01\x0D\xB8\x11\x40\x10\x00");
-    assert_prints(&rt, rt.alloc(), &locator, "2001:0db8:1140:1000")
+    assert_prints(
+        &rt,
+        rt.alloc(),
+        "a locator",
+        &locator,
+        "2001:0db8:1140:1000",
+    )
 }
 
 /// Locations of RFC 1876 section 3, as dnspython prints them.
@@ -102,6 +101,6 @@ const LOCATIONS: &[(&[u8], &str)] = &[
 fn locations(rt: HostRuntime) {
     for (octets, text) in LOCATIONS {
         let location = Location::from_octets(octets).expect(&rt, text);
-        assert_prints(&rt, rt.alloc(), &location, text);
+        assert_prints(&rt, rt.alloc(), text, &location, text);
     }
 }

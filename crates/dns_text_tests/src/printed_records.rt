@@ -1,5 +1,5 @@
 //! Records as lines.
-use crate::asserts::assert_text;
+use crate::asserts::assert_prints;
 use dns_code::{Class, Rtype};
 use dns_data::ParseAnyRecordData;
 use dns_fields::FieldData;
@@ -24,18 +24,14 @@ fn prints_records(rt: HostRuntime) {
     let data = exchange_of(&rt, b"\x00\x0a\x06VENERA\x03ISI\x03EDU\x00");
     let owner = name_of(&rt, b"\x03ISI\x03EDU\x00");
     let record = Record::new(owner, Class::IN, Ttl::from_secs(3600), data);
-    let text = RecordText(&record)
-        .to_string(rt.alloc())
-        .expect(&rt, "memory");
-    let expected = "ISI.EDU. 3600 IN MX 10 VENERA.ISI.EDU.";
-    assert_text(&rt, "the record", text.as_str(), expected);
+    let text = "ISI.EDU. 3600 IN MX 10 VENERA.ISI.EDU.";
+    assert_prints(&rt, rt.alloc(), "a record", &RecordText(&record), text);
 }
 
 /// Characters with a meaning in zone files are escaped, as dnspython does.
 #[test]
 fn escapes_names(rt: HostRuntime) {
     let name = name_of(&rt, b"\x04a;b(\x05\")@$\\\x03c.\x01\x00");
-    let text = ZoneName(name).to_string(rt.alloc()).expect(&rt, "memory");
-    let expected = "a\\;b\\(.\\\"\\)\\@\\$\\\\.c\\.\\001.";
-    assert_text(&rt, "the name", text.as_str(), expected);
+    let text = "a\\;b\\(.\\\"\\)\\@\\$\\\\.c\\.\\001.";
+    assert_prints(&rt, rt.alloc(), "a name", &ZoneName(name), text);
 }

@@ -5,7 +5,7 @@ use std::process::Abort;
 /// What words are read as: octets, or why they aren't read.
 pub(crate) type Read = Result<Vec<u8>, TextError>;
 
-/// Fails unless it holds of these words.
+/// Fails unless the condition holds. A failure prints these words.
 pub(crate) fn assert_words(rt: &impl Abort, words: &[&str], holds: bool) {
     assert!(rt; holds, "{words:?}");
 }

@@ -1,5 +1,5 @@
 //! A row of a test: how record data prints, and that its text reads back.
-use crate::asserts::{assert_holds, assert_octets, assert_text};
+use crate::asserts::{assert_holds, assert_octets, assert_prints};
 use dns_code::Rtype;
 use dns_data::{ComposeRecordData, ParseAnyRecordData};
 use dns_data_read::from_text;
@@ -16,16 +16,15 @@ pub(crate) type Row = (&'static str, u16, &'static [u8], &'static str);
 /// Asserts that the record data of each row prints as its text, and that the text reads as the octets.
 pub(crate) fn both_ways(rt: &impl Abort, alloc: Global, rows: &[Row]) {
     for row in rows {
-        assert_prints(rt, alloc, row);
-        assert_reads(rt, alloc, row);
+        assert_printed(rt, alloc, row);
+        assert_read_back(rt, alloc, row);
     }
 }
 
 /// Asserts that the record data prints as its text.
-fn assert_prints(rt: &impl Abort, alloc: Global, row: &Row) {
+fn assert_printed(rt: &impl Abort, alloc: Global, row: &Row) {
     let data = data_of(rt, row);
-    let text = DataText(&data).to_string(alloc).expect(rt, "memory");
-    assert_text(rt, row.0, text.as_str(), row.3);
+    assert_prints(rt, alloc, row.0, &DataText(&data), row.3);
 }
 
 /// The record data in the octets. Asserts that no octet is left over.
@@ -38,7 +37,7 @@ fn data_of(rt: &impl Abort, row: &Row) -> FieldData<'static> {
 }
 
 /// Asserts that the text reads as the octets.
-fn assert_reads(rt: &impl Abort, alloc: Global, row: &Row) {
+fn assert_read_back(rt: &impl Abort, alloc: Global, row: &Row) {
     let data = read(rt, alloc, row);
     let mut octets = Vec::new(alloc);
     data.compose_rdata(&mut octets).expect(rt, "memory");

@@ -80,7 +80,11 @@ fn eui64_addresses(rt: HostRuntime) {
     let address = read_eui64(b"00-00-5e-ef-10-00-00-2a").map(u64::from_be_bytes);
     assert_holds(&rt, "EUI-64", address == Some(0x5eef_1000_002a));
     let address = read_eui64(b"00-00-5e-00-53-2a");
-    assert_holds(&rt, "EUI-48", address.is_none());
+    assert_holds(
+        &rt,
+        "an EUI-48 address as an EUI-64 address",
+        address.is_none(),
+    );
 }
 
 /// The locator of RFC 6742 section 2.2.2, numbers without leading zeros, and malformed ones.

@@ -3,12 +3,10 @@ use crate::codes::{Mnemonic, OptionName};
 use crate::option::OptionData;
 use crate::quoted::{Quoted, octet_count, second_count};
 use crate::rdata::{RdataField, Words};
+use dns_code::{Class, Header, OptRcode, Rtype};
 use dns_fields_text::Strings;
-use dns_code::{Class, OptRcode, Rtype};
-use dns_code::Header;
-use dns_wire::ParsedName;
-use dns_wire::Parser;
 use dns_rows::{Fault, Field, Kind, NameOf, Part, Row, octets_of, target_of};
+use dns_wire::{ParsedName, Parser};
 use std::fmt;
 
 /// DO, the highest bit of the flags of an OPT record (RFC 3225).

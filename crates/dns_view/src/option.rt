@@ -1,8 +1,7 @@
 //! What the data of options means, in words.
 use crate::codes::OptionName;
 use crate::quoted::{Quoted, octet_count, second_count, write_address};
-use dns_wire::ParsedName;
-use dns_wire::Parser;
+use dns_wire::{ParsedName, Parser};
 use std::fmt;
 
 /// The octets of a client cookie (RFC 7873 section 4).

@@ -5,9 +5,9 @@ use crate::quoted::{Quoted, octet_count, second_count, write_address};
 use crate::types::{write_types, write_window};
 use base64::display::Base64Display;
 use base64::engine::general_purpose::STANDARD;
-use dns_fields_text::{AddressPrefixes, ParameterText, Parameters, PrefixText, SmallTypeMap};
 use dns_code::Rtype;
 use dns_fields::Kind;
+use dns_fields_text::{AddressPrefixes, ParameterText, Parameters, PrefixText, SmallTypeMap};
 use dns_value_text::{Base32, Eui, Hex, Location, Locator64, Timestamp};
 use std::fmt;
 

@@ -2,8 +2,7 @@
 use crate::codes::Mnemonic;
 use crate::meaning::{FaultWords, number_of, write_name};
 use crate::quoted::octet_count;
-use dns_code::{Class, Opcode, OptRcode, Rtype};
-use dns_code::Header;
+use dns_code::{Class, Header, Opcode, OptRcode, Rtype};
 use dns_rows::{Field, Kind, NameOf, Part, Row, octets_of};
 use std::fmt;
 

@@ -150,7 +150,7 @@ fn all_of(header: Header) -> [bool; 8] {
     ]
 }
 
-/// Fails unless each flag and the Z bit can be set or cleared. The header has these octets then.
+/// Sets or clears each flag and the Z bit. Fails unless all of them, and the octets, are so then.
 fn assert_sets(rt: &impl Abort, row: &str, header: &mut Header, set: bool, octets: &[u8]) {
     set_all(header, set);
     assert_octets(rt, row, header.as_slice(), octets);

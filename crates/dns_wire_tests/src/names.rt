@@ -330,7 +330,12 @@ fn goes_over_ancestors(rt: HostRuntime) {
     let name = name_at(&rt, EXAMPLE, 15);
     let mut ancestor = Some(name);
     for suffix in name.iter_suffixes() {
-        assert_same(&rt, "the parent of the last one", ancestor, Some(suffix));
+        assert_same(
+            &rt,
+            "the name, then the parent of each suffix",
+            ancestor,
+            Some(suffix),
+        );
         ancestor = suffix.parent();
     }
     assert_same(&rt, "the parent of the root", ancestor, None);

@@ -61,8 +61,7 @@ fn gives_each_option(rt: HostRuntime) {
     assert_holds(&rt, "octets left", parser.remaining() == 0);
 }
 
-/// Fails unless the octets are options at some lengths. At every other length, an option is
-/// incomplete.
+/// Fails unless the octets are options exactly where an option ends: at 0, 4, 10, 14 and 20 octets.
 fn assert_whole(rt: &impl Abort, octets: &[u8]) {
     let len = octets.len();
     let is_whole = [0, 4, 10, 14, 20].contains(&len);

@@ -271,7 +271,7 @@ fn keeps_octets_that_are_no_text(rt: HostRuntime) {
     assert_octets(&rt, "octets that aren't UTF-8", other.text_octets, b"\xFF");
 }
 
-/// Fails unless an option of this code was read as this value.
+/// Fails unless an option of this code is read as this value.
 fn assert_known(
     rt: &impl Abort,
     row: &str,
