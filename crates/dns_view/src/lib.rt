@@ -23,7 +23,6 @@ mod rdata;
 mod request;
 mod summary;
 mod text;
-mod types;
 mod words;
 
 pub use dns_rows::{Fault, Field, Kind, NameOf, Part, Row, rows};

@@ -2,12 +2,13 @@
 use crate::codes::Mnemonic;
 use crate::meaning::number_of;
 use crate::quoted::{Quoted, octet_count, second_count, write_address};
-use crate::types::{write_types, write_window};
 use base64::display::Base64Display;
 use base64::engine::general_purpose::STANDARD;
 use dns_code::Rtype;
 use dns_fields::Kind;
-use dns_fields_text::{AddressPrefixes, ParameterText, Parameters, PrefixText, SmallTypeMap};
+use dns_fields_text::{
+    AddressPrefixes, ParameterText, Parameters, PrefixText, SmallTypeMap, TypeMap,
+};
 use dns_value_text::{Base32, Eui, Hex, Location, Locator64, Timestamp};
 use std::fmt;
 
@@ -120,22 +121,16 @@ impl RdataField<'_> {
         }
         match self.kind {
             Kind::TypeBitMap => {
-                f.write_str(":")?;
-                write_types(f, self.octets)
+                let types = TypeMap(self.octets);
+                write!(f, ":{types}")
             }
-            Kind::SmallTypeBitMap => self.write_small_types(f),
+            Kind::SmallTypeBitMap => match SmallTypeMap::from_octets(self.octets) {
+                Some(types) => write!(f, ":{types}"),
+                None => self.write_count(f),
+            },
             Kind::ServiceParameters => write_parameters(f, self.octets),
             _ => self.write_prefixes(f),
         }
-    }
-
-    /// Prints the types of a bit map of one window.
-    fn write_small_types<W: fmt::Write>(&self, f: &mut fmt::Formatter<W>) -> fmt::Result {
-        if SmallTypeMap::from_octets(self.octets).is_none() {
-            return self.write_count(f);
-        }
-        f.write_str(":")?;
-        write_window(f, 0, self.octets)
     }
 
     fn write_prefixes<W: fmt::Write>(&self, f: &mut fmt::Formatter<W>) -> fmt::Result {

@@ -302,7 +302,7 @@ const NODE: Case = Case {
 };
 
 /// NSEC with NXNAME (RFC 9824), of which there are no records, and with a type for private use (RFC
-/// 6895 section 3.1).
+/// 6895 section 3.1). In a bit map both print by their numbers.
 const TYPES_OF_A_NAME: Case = Case {
     name: "types of a name",
     octets: &[
@@ -319,7 +319,7 @@ const TYPES_OF_A_NAME: Case = Case {
     19  00 00 0e 10              TTL 3600 seconds
     23  00 1a                    data length 26
     25  00                       next, root label: .
-    26  00 11 00 00 00 00 00 03  types: RRSIG NSEC NXNAME CAA TYPE65280
+    26  00 11 00 00 00 00 00 03  types: RRSIG NSEC TYPE128 CAA TYPE65280
         00 00 00 00 00 00 00 00
         00 00 80 01 01 40 ff 01
         80
