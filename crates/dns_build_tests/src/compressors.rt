@@ -46,31 +46,32 @@ impl Target {
     }
 }
 
-/// Makes the calls of a case on a target over an empty one.
-fn run_over<T: Composer>(rt: &impl Abort, alloc: Global, target: Target, inner: T, case: &Case) {
-    let name = target.name();
-    let row = format!(in alloc; "{}, over {name}", case.name).expect(rt, case.name);
+/// Makes the calls of a case on an empty target.
+fn run_over(rt: &impl Abort, alloc: Global, row: &str, target: Target, case: &Case) {
+    let vector = Vec::new(alloc);
     match target {
-        Target::Plain => run(rt, alloc, &row, inner, case),
-        Target::Static => run(rt, alloc, &row, StaticCompressor::new(inner), case),
-        Target::Tree => run(rt, alloc, &row, TreeCompressor::new(alloc, inner), case),
-        Target::Hash => run(rt, alloc, &row, HashCompressor::new(alloc, inner), case),
+        Target::Plain => run(rt, alloc, row, vector, case),
+        Target::Static => run(rt, alloc, row, StaticCompressor::new(vector), case),
+        Target::Tree => run(rt, alloc, row, TreeCompressor::new(alloc, vector), case),
+        Target::Hash => run(rt, alloc, row, HashCompressor::new(alloc, vector), case),
         Target::Fingerprint => {
             run(
                 rt,
                 alloc,
-                &row,
-                FingerprintCompressor::new(alloc, inner),
+                row,
+                FingerprintCompressor::new(alloc, vector),
                 case,
             );
         }
     }
 }
 
-/// Makes the calls of a case on each of its targets, over a vector.
+/// Makes the calls of a case on each of its targets.
 fn run_each(rt: &impl Abort, alloc: Global, targets: &[Target], case: &Case) {
     for target in targets {
-        run_over(rt, alloc, *target, Vec::new(alloc), case);
+        let name = target.name();
+        let row = format!(in alloc; "{}, over {name}", case.name).expect(rt, case.name);
+        run_over(rt, alloc, &row, *target, case);
     }
 }
 
@@ -424,10 +425,32 @@ static REFUSED_RECORD: Case = Case {
 
 #[test]
 fn forgets_a_refused_record(rt: HostRuntime) {
-    for target in &[Target::Static, Target::Tree, Target::Hash] {
-        let array = ArrayVec::<u8, 60>::new();
-        run_over(&rt, rt.alloc(), *target, array, &REFUSED_RECORD);
-    }
+    let alloc = rt.alloc();
+    let case = &REFUSED_RECORD;
+    let target = StaticCompressor::new(ArrayVec::<u8, 60>::new());
+    run(
+        &rt,
+        alloc,
+        "A refused record forgets only itself, over a static compressor",
+        target,
+        case,
+    );
+    let target = TreeCompressor::new(alloc, ArrayVec::<u8, 60>::new());
+    run(
+        &rt,
+        alloc,
+        "A refused record forgets only itself, over a tree compressor",
+        target,
+        case,
+    );
+    let target = HashCompressor::new(alloc, ArrayVec::<u8, 60>::new());
+    run(
+        &rt,
+        alloc,
+        "A refused record forgets only itself, over a hash compressor",
+        target,
+        case,
+    );
 }
 
 /// The pushes of a positive response if the question doesn't fit.
@@ -459,20 +482,44 @@ fn over_array<const N: usize>() -> StaticCompressor<ArrayVec<u8, N>> {
     StaticCompressor::new(ArrayVec::new())
 }
 
-/// Makes the calls of a case on a static compressor over an array of `N` octets.
-fn run_over_array<const N: usize>(rt: &impl Abort, alloc: Global, case: &Case) {
-    let row = format!(in alloc; "{}, {N} octets", case.name).expect(rt, case.name);
-    run(rt, alloc, &row, over_array::<N>(), case);
-}
-
 #[test]
 fn refuses_what_exceeds_the_capacity(rt: HostRuntime) {
     let alloc = rt.alloc();
-    run_over_array::<12>(&rt, alloc, &NO_QUESTION);
-    run_over_array::<28>(&rt, alloc, &NO_QUESTION);
-    run_over_array::<29>(&rt, alloc, &NO_ANSWER);
-    run_over_array::<44>(&rt, alloc, &NO_ANSWER);
-    run_over_array::<45>(&rt, alloc, &CAPACITY_FOR_ALL);
+    run(
+        &rt,
+        alloc,
+        "No room for the question, 12 octets",
+        over_array::<12>(),
+        &NO_QUESTION,
+    );
+    run(
+        &rt,
+        alloc,
+        "No room for the question, 28 octets",
+        over_array::<28>(),
+        &NO_QUESTION,
+    );
+    run(
+        &rt,
+        alloc,
+        "No room for the answer, 29 octets",
+        over_array::<29>(),
+        &NO_ANSWER,
+    );
+    run(
+        &rt,
+        alloc,
+        "No room for the answer, 44 octets",
+        over_array::<44>(),
+        &NO_ANSWER,
+    );
+    run(
+        &rt,
+        alloc,
+        "Room for all, 45 octets",
+        over_array::<45>(),
+        &CAPACITY_FOR_ALL,
+    );
 }
 
 /// Fails unless the header exceeds the capacity of the target.
