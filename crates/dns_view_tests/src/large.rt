@@ -142,7 +142,7 @@ fn push_all_types(rt: &impl Abort, octets: &mut Vec<u8>) {
 const TYPES: &[&str] = &[
     "\towner, root label: ., type NSEC, class IN, TTL 60 seconds, data length 8705, \
 next, root label: ., types: TYPE0 A NS ",
-    " TYPE8850 TYPE8851 TYPE885...</a>",
+    " TYPE8844 TYPE8845 TYPE...</a>",
 ];
 
 #[test]
