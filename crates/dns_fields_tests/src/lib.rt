@@ -1,30 +1,11 @@
-//! Tests of RDATA as fields. The rows are examples of the RFCs, or have their form; the expected
-//! values come from outside this library.
+//! Tests of record data as fields, in wire format and as text. The expected values come from
+//! outside this library.
 //!
-//! Nothing is exported. `certificates`, `dnssec`, `hosts` and `services` have three rows or more for
-//! each type, which `rows` reads, cuts at each octet, and writes. `malformed` has octets that aren't RDATA. A
-//! failure prints the name of the row.
+//! Nothing is exported. `wire` tests the octets of record data, and `text` the texts of record
+//! data and of records. A failure prints the name of the row, or what was read or printed.
 #![tactic(auto)]
 
 #[cfg(test)]
-mod canonical;
+mod text;
 #[cfg(test)]
-mod certificates;
-#[cfg(test)]
-mod dnssec;
-#[cfg(test)]
-mod hosts;
-#[cfg(test)]
-mod long;
-#[cfg(test)]
-mod malformed;
-#[cfg(test)]
-mod orders;
-#[cfg(test)]
-mod owned;
-#[cfg(test)]
-mod pointers;
-#[cfg(test)]
-mod rows;
-#[cfg(test)]
-mod services;
+mod wire;

@@ -146,7 +146,7 @@ const AT_QUESTIONS: &[BadLine] = &[BadLine {
 
 /// Before any section again.
 const AT_THE_HEADER: &[BadLine] = &[BadLine {
-    name: "a push",
+    name: "a push of a question",
     line: b"push . A\n",
 }];
 
@@ -209,11 +209,11 @@ const AT_ANSWERS: &[BadLine] = &[
 /// At the additional section.
 const AT_ADDITIONALS: &[BadLine] = &[
     BadLine {
-        name: "no fields",
+        name: "an OPT record without fields",
         line: b"opt",
     },
     BadLine {
-        name: "a missing field",
+        name: "an OPT record with a missing field",
         line: b"opt 1232 0 0",
     },
     BadLine {
@@ -285,25 +285,12 @@ fn assert_bad(rt: &impl Abort, alloc: Global, before: &str, lines: &[BadLine], p
 #[test]
 fn refuses_bad_lines(rt: HostRuntime) {
     assert_bad(&rt, rt.alloc(), "", AT_THE_START, "bad line 1\n");
-}
-
-#[test]
-fn refuses_bad_pushes_of_questions(rt: HostRuntime) {
     let before = "\n# a\nquestion\n";
     assert_bad(&rt, rt.alloc(), before, AT_QUESTIONS, "ok 12\nbad line 4\n");
     let before = "question\npush . A\nbuilder\n";
     let printed = "ok 12\nok 17\nok 12\nbad line 4\n";
     assert_bad(&rt, rt.alloc(), before, AT_THE_HEADER, printed);
-}
-
-#[test]
-fn refuses_bad_pushes_of_records(rt: HostRuntime) {
     let printed = "ok 12\nbad line 2\n";
     assert_bad(&rt, rt.alloc(), "answer\n", AT_ANSWERS, printed);
-}
-
-#[test]
-fn refuses_bad_opt_records(rt: HostRuntime) {
-    let printed = "ok 12\nbad line 2\n";
     assert_bad(&rt, rt.alloc(), "additional\n", AT_ADDITIONALS, printed);
 }

@@ -1,8 +1,9 @@
 //! Tests of reading messages: sections, cursors, iterators and searches. The expected values come
 //! from outside this library.
 //!
-//! Nothing is exported. A module tests what it is named after; `asserts` has what many tests use,
-//! and `callers` proved callers. The rows of a table have names, which failures print.
+//! Nothing is exported. A module tests what it is named after, and `hostile` untrusted input beside
+//! a plain reader; `asserts` has what many of the others use, and `callers` proved callers. The
+//! rows of a table have names, which failures print.
 #![tactic(auto)]
 
 #[cfg(test)]
@@ -11,6 +12,8 @@ mod asserts;
 mod callers;
 #[cfg(test)]
 mod canonical_name;
+#[cfg(test)]
+mod hostile;
 #[cfg(test)]
 mod messages;
 #[cfg(test)]

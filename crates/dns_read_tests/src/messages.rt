@@ -23,25 +23,17 @@ fn assert_short(rt: &impl Abort, octets: &[u8]) {
 }
 
 #[test]
-fn takes_twelve_octets(rt: HostRuntime) {
+fn takes_twelve_octets_and_refuses_fewer(rt: HostRuntime) {
     for len in 0..12 {
         assert_short(&rt, &POSITIVE_RESPONSE[..len]);
     }
     let row = "Twelve octets are a message: eleven";
     assert_holds(&rt, row, is_short(&[0; 11]));
     assert_holds(&rt, "Twelve octets are a message", !is_short(&[0; 12]));
-}
-
-#[test]
-fn gives_too_few_octets_back(rt: HostRuntime) {
     let octets = Message::try_from_octets([1; 11]).err();
     assert_holds(&rt, "octets that are given back", octets == Some([1; 11]));
-}
-
-#[test]
-fn prints_its_error(rt: HostRuntime) {
     let text = format!(in rt.alloc(); "{ShortMessage}").expect(&rt, "memory");
-    assert_holds(&rt, "the error", text.as_str() == "short message");
+    assert_holds(&rt, "the printed error", text.as_str() == "short message");
 }
 
 /// A message of twelve octets, each of which is 7.

@@ -90,17 +90,9 @@ fn ends_at_the_first_fault(rt: HostRuntime) {
     for case in FAULTY {
         assert_faulty(&rt, case.name, case.message, case.fault, case.answers);
     }
-}
-
-#[test]
-fn refuses_a_name_of_256_octets(rt: HostRuntime) {
     let octets = long_question(62);
     let fault = LONG_NAME;
     assert_faulty(&rt, "One octet too long", &octets, fault, Err(fault));
-}
-
-#[test]
-fn refuses_a_question_that_is_cut(rt: HostRuntime) {
     for len in 12..29 {
         let octets = &POSITIVE_RESPONSE[..len];
         assert_faulty(&rt, "Cut in the question", octets, SHORT, Err(SHORT));

@@ -100,10 +100,6 @@ fn ends_at_an_answer_that_cant_be_read(rt: HostRuntime) {
         let is_faulty = is_faulty(&message, 12, case.fault, case.authority);
         assert_holds(&rt, case.name, is_faulty);
     }
-}
-
-#[test]
-fn ends_at_an_answer_that_is_cut(rt: HostRuntime) {
     for len in 29..45 {
         let message = message_of(&rt, &POSITIVE_RESPONSE[..len]);
         let is_cut = has_sole(&message, EXAMPLE_COM, 29)
@@ -113,15 +109,11 @@ fn ends_at_an_answer_that_is_cut(rt: HostRuntime) {
 }
 
 #[test]
-fn ends_at_an_additional_record_that_cant_be_read(rt: HostRuntime) {
+fn ends_at_an_unreadable_or_missing_additional_record(rt: HostRuntime) {
     let message = message_of(&rt, UNREADABLE_ADDITIONAL);
     let additional = message.additional().expect(&rt, "a section");
     let is_last = sole_fault(additional) == Some((BAD_POINTER, Ok(None)));
     assert_holds(&rt, "Unreadable additional record", is_last);
-}
-
-#[test]
-fn ends_at_a_missing_additional_record(rt: HostRuntime) {
     let message = message_of(&rt, &UNREADABLE_ADDITIONAL[..12]);
     let items = given(message.iter());
     let is_missing = items == [Some(Err(SHORT)), None, None];

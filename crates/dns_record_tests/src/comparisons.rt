@@ -73,17 +73,8 @@ fn orders_records_in_two_ways(rt: HostRuntime) {
         &last_name,
         &last_class,
     );
-}
-
-#[test]
-fn orders_records_of_one_owner_by_class(rt: HostRuntime) {
-    let last_class = record(&rt, b"\x01a\x00", Class::CH);
     let first_class = record(&rt, b"\x01A\x00", Class::IN);
     assert_less(&rt, "classes of one owner", &first_class, &last_class);
-}
-
-#[test]
-fn orders_owners_from_the_root(rt: HostRuntime) {
     let ending = record(&rt, b"\x01b\x00", Class::IN);
     let longer = record(&rt, b"\x01a\x01b\x00", Class::IN);
     assert_canonical_order(&rt, "owners from the root leftwards", &ending, &longer);
@@ -130,16 +121,14 @@ fn orders_zones_by_their_canonical_octets(rt: HostRuntime) {
 }
 
 #[test]
-fn compares_opaque_data_by_type_and_octets(rt: HostRuntime) {
+fn compares_opaque_data_and_options(rt: HostRuntime) {
     let data = opaque(&rt, Rtype::TXT, b"\x01b");
-    assert_alike(&rt, "octets", &data, &opaque(&rt, Rtype::TXT, b"\x01b"));
+    let same = opaque(&rt, Rtype::TXT, b"\x01b");
+    assert_alike(&rt, "opaque data", &data, &same);
     let other_type = opaque(&rt, Rtype::from_int(33), b"\x01a");
-    assert_less(&rt, "types", &data, &other_type);
-    assert_canonical_order(&rt, "types, canonically", &data, &other_type);
-}
-
-#[test]
-fn compares_options_by_their_octets(rt: HostRuntime) {
+    assert_less(&rt, "types of opaque data", &data, &other_type);
+    let row = "types of opaque data, canonically";
+    assert_canonical_order(&rt, row, &data, &other_type);
     let none = options(&rt, b"");
     let nsid = options(&rt, b"\x00\x03\x00\x00");
     assert_alike(

@@ -59,14 +59,10 @@ fn converts_items(rt: HostRuntime) {
 }
 
 #[test]
-fn refuses_a_question_that_is_too_long(rt: HostRuntime) {
+fn refuses_names_that_are_too_long(rt: HostRuntime) {
     let short = Question::<ShortName>::try_octets_from(rt.alloc(), question(&rt));
     let is_refused = matches!(short, Err(AppendError::ShortBuf));
     assert_holds(&rt, "a question", is_refused);
-}
-
-#[test]
-fn refuses_rdata_that_is_too_long(rt: HostRuntime) {
     let short = Record::<VecName, Ns<ShortName>>::try_octets_from(rt.alloc(), server(&rt));
     let is_refused = matches!(short, Err(AppendError::ShortBuf));
     assert_holds(&rt, "the RDATA of a record", is_refused);
@@ -238,17 +234,13 @@ fn next_record(rt: &impl Abort, parser: &mut Parser<'static>) -> ParsedRecord<'s
 }
 
 #[test]
-fn compares_unread_records_by_their_octets(rt: HostRuntime) {
+fn compares_unread_records(rt: HostRuntime) {
     let mut parser = Parser::new(POINTING);
     let record = next_record(&rt, &mut parser);
     let same = next_record(&rt, &mut parser);
     assert_holds(&rt, "an owner in other letter case", record == same);
     let other = next_record(&rt, &mut parser);
     assert_holds(&rt, "another pointer to the same name", record != other);
-}
-
-#[test]
-fn compares_records_without_data(rt: HostRuntime) {
     let header = RecordHeader::parse(&mut Parser::new(POINTING)).expect(&rt, "a header");
     let missing = ParsedRecord::new(header, Parser::new(b"\xC0"));
     let also_missing = ParsedRecord::new(header, Parser::new(b""));

@@ -32,20 +32,15 @@ fn reads_headers(rt: HostRuntime) {
     let mut parser = Parser::new(ADDRESS);
     assert_header(&rt, "parse", RecordHeader::parse(&mut parser));
     assert_holds(&rt, "parse stops before the data", parser.pos() == 13);
-}
-
-#[test]
-fn reads_headers_by_reference(rt: HostRuntime) {
     let mut parser = Parser::new(ADDRESS);
     assert_header(&rt, "parse_ref", RecordHeader::parse_ref(&mut parser));
     assert_holds(&rt, "parse_ref stops before the data", parser.pos() == 13);
-}
-
-#[test]
-fn skips_the_data_after_headers(rt: HostRuntime) {
     let mut parser = Parser::new(ADDRESS);
-    let header = RecordHeader::parse_and_skip(&mut parser);
-    assert_header(&rt, "parse_and_skip", header);
+    assert_header(
+        &rt,
+        "parse_and_skip",
+        RecordHeader::parse_and_skip(&mut parser),
+    );
     let is_skipped = parser.pos() == 17;
     assert_holds(&rt, "parse_and_skip stops after the data", is_skipped);
 }
@@ -58,42 +53,30 @@ fn address_in(parser: &mut Parser<'_>) -> Result<Option<[u8; 4]>, ParseError> {
 }
 
 #[test]
-fn reads_an_address_after_a_header(rt: HostRuntime) {
+fn reads_data_of_records(rt: HostRuntime) {
     let address = address_in(&mut Parser::new(ADDRESS));
     assert_holds(&rt, "address", address == Ok(Some([203, 0, 113, 1])));
     let mut parser = Parser::new(&ADDRESS[..16]);
     let is_short = address_in(&mut parser) == Err(ParseError::ShortInput);
     assert_holds(&rt, "data that is cut", is_short && parser.pos() == 13);
-}
-
-#[test]
-fn reads_opaque_data_after_a_header(rt: HostRuntime) {
     let mut parser = Parser::new(ADDRESS);
     let header = RecordHeader::parse(&mut parser).expect(&rt, "a header");
     let record = header.parse_into_any_record::<UnknownRecordData<&[u8]>>(&mut parser);
-    let record = record.expect(&rt, "a record");
+    let record = record.expect(&rt, "a record with opaque data");
     assert_octets(&rt, "opaque", record.data().data(), &[203, 0, 113, 1]);
     assert_holds(&rt, "opaque data is passed", parser.pos() == 17);
-}
-
-#[test]
-fn reads_data_of_any_type(rt: HostRuntime) {
-    let record = ParsedRecord::parse(&mut Parser::new(ADDRESS)).expect(&rt, "a record");
-    let record = record.into_any_record::<UnknownRecordData<&[u8]>>();
-    assert_record(&rt, "record", &record.expect(&rt, "data"), ADDRESS);
+    let parsed = ParsedRecord::parse(&mut Parser::new(ADDRESS)).expect(&rt, "a parsed record");
+    let record = parsed.into_any_record::<UnknownRecordData<&[u8]>>();
+    let row = "a parsed record, with opaque data";
+    assert_record(&rt, row, &record.expect(&rt, row), ADDRESS);
 }
 
 /// a. 60 CH A 203.0.113.1.
 const CHAOS: &[u8] = b"\x01a\x00\x00\x01\x00\x03\x00\x00\x00\x3C\x00\x04\xCB\x00\x71\x01";
 
-/// The name a. in an array.
-fn held_name(rt: &impl Abort) -> Name<[u8; 3]> {
-    Name::from_octets(*b"\x01a\x00").expect(rt, "a name")
-}
-
 #[test]
-fn takes_records_apart(rt: HostRuntime) {
-    let owner = held_name(&rt);
+fn takes_items_apart(rt: HostRuntime) {
+    let owner = Name::from_octets(*b"\x01a\x00").expect(&rt, "a name");
     let record = Record::new(owner, Class::CH, Ttl::MINUTE, A::from_octets(1, 2, 3, 4));
     assert_octets(
         &rt,
@@ -104,22 +87,14 @@ fn takes_records_apart(rt: HostRuntime) {
     let (owner, data) = record.into_owner_and_data();
     assert_octets(&rt, "owner", owner.as_slice(), b"\x01a\x00");
     assert_octets(&rt, "data", &data.octets(), &[1, 2, 3, 4]);
-}
-
-#[test]
-fn takes_questions_apart(rt: HostRuntime) {
-    let question = Question::new(held_name(&rt), Rtype::NS, Class::CH);
+    let question = Question::new(owner, Rtype::NS, Class::CH);
     assert_octets(&rt, "qname", question.into_qname().as_slice(), b"\x01a\x00");
 }
 
-/// Fails unless tuples of these fields, without a class, have the octets of records.
-fn assert_triples<N: ToName + Copy>(rt: &impl Abort, owner: N, data: A) {
+/// Fails unless tuples of these fields have the octets of records.
+fn assert_tuples<N: ToName + Copy>(rt: &impl Abort, owner: N, data: A) {
     assert_record(rt, "TTL", &(owner, Ttl::HOUR, data), ADDRESS);
     assert_record(rt, "seconds", &(owner, 3600, data), ADDRESS);
-}
-
-/// Fails unless tuples of these fields, with a class, have the octets of records.
-fn assert_tuples<N: ToName + Copy>(rt: &impl Abort, owner: N, data: A) {
     assert_record(
         rt,
         "class and seconds",
@@ -158,7 +133,6 @@ fn assert_records<N: ToName + Copy>(rt: &impl Abort, owner: N, data: A) {
 fn composes_tuples(rt: HostRuntime) {
     let owner = name_of(&rt, b"\x01a\x00");
     let data = A::from_octets(203, 0, 113, 1);
-    assert_triples(&rt, owner, data);
     assert_tuples(&rt, owner, data);
     assert_records(&rt, owner, data);
 }

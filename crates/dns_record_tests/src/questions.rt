@@ -202,18 +202,14 @@ fn compares(rt: HostRuntime) {
 }
 
 #[test]
-fn converts_errors_of_names(rt: HostRuntime) {
+fn converts_errors(rt: HostRuntime) {
     let fault = name::PresentationError::LongName;
     let error = PresentationError::from(fault);
     let is_kind = error.kind() == PresentationErrorEnum::BadName(fault);
-    assert_holds(&rt, "kind", is_kind);
+    assert_holds(&rt, "the kind of an error of a name", is_kind);
     let presentation = FromStrError::from(name::FromStrError::Presentation(fault));
     let is_same = presentation == FromStrError::Presentation(error);
-    assert_holds(&rt, "text", is_same);
-}
-
-#[test]
-fn converts_errors_of_capacity_and_memory(rt: HostRuntime) {
+    assert_holds(&rt, "an error of a name, in a text", is_same);
     let short = FromStrError::from(name::FromStrError::ShortBuf);
     assert_prints(&rt, rt.alloc(), "capacity", &short, "buffer size exceeded");
     let memory = FromStrError::from(name::FromStrError::OutOfMemory);

@@ -146,16 +146,11 @@ fn reads_types_and_classes(rt: HostRuntime) {
 }
 
 #[test]
-fn prints_types(rt: HostRuntime) {
+fn prints_types_and_classes(rt: HostRuntime) {
     let alloc = rt.alloc();
     assert_prints(&rt, alloc, "a known type", &Rtype::AXFR, "AXFR");
     let unknown = Rtype::from_int(3);
     assert_prints(&rt, alloc, "another type", &unknown, "TYPE3");
-}
-
-#[test]
-fn prints_classes(rt: HostRuntime) {
-    let alloc = rt.alloc();
     assert_prints(&rt, alloc, "a known class", &Class::HS, "HS");
     let unknown = Class::from_int(255);
     assert_prints(&rt, alloc, "another class", &unknown, "CLASS255");
@@ -176,10 +171,6 @@ fn keeps_rcodes_in_range(rt: HostRuntime) {
     assert_same(&rt, "4 bits", checked, [None, Some(Rcode::REFUSED)]);
     let masked = Rcode::masked_from_int(0xf3);
     assert_same(&rt, "the low 4 bits", masked, Rcode::NXDOMAIN);
-}
-
-#[test]
-fn keeps_extended_rcodes_in_range(rt: HostRuntime) {
     let long = OptRcode::checked_from_int(4096);
     assert_same(&rt, "12 bits", long, None);
     let joined = OptRcode::from_parts(Rcode::NXDOMAIN, 0xab);
@@ -189,7 +180,7 @@ fn keeps_extended_rcodes_in_range(rt: HostRuntime) {
 }
 
 #[test]
-fn has_the_numbers_of_opcodes_and_rcodes(rt: HostRuntime) {
+fn has_the_numbers_of_codes(rt: HostRuntime) {
     let short = [
         Opcode::QUERY.to_int(),
         Opcode::NOTIFY.to_int(),
@@ -200,10 +191,6 @@ fn has_the_numbers_of_opcodes_and_rcodes(rt: HostRuntime) {
     assert_same(&rt, "opcodes and rcodes", short, [0, 4, 200, 0, 2]);
     let is_before = Opcode::QUERY < Opcode::NOTIFY;
     assert_same(&rt, "the order of opcodes", is_before, true);
-}
-
-#[test]
-fn has_the_numbers_of_16_bits(rt: HostRuntime) {
     let long = [
         OptRcode::from(Rcode::REFUSED).to_int(),
         OptionCode::from_int(65535).to_int(),

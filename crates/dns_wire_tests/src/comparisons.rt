@@ -234,19 +234,13 @@ fn compares_across_buffers(rt: HostRuntime) {
 }
 
 #[test]
-fn compares_names_in_arrays(rt: HostRuntime) {
+fn compares_and_hashes_names_in_arrays(rt: HostRuntime) {
     let name = held_name(&rt, *b"\x01A\x00");
     let same = held_name(&rt, *b"\x01a\x00");
     let answers = [name == same, name <= same];
     assert_same(&rt, "equality", answers, [true; 2]);
     let order = name.partial_cmp(&same);
     assert_same(&rt, "order", order, Some(Ordering::Equal));
-}
-
-#[test]
-fn hashes_names_in_arrays(rt: HostRuntime) {
-    let name = held_name(&rt, *b"\x01A\x00");
-    let same = held_name(&rt, *b"\x01a\x00");
     let hashes = [hash_of(&same), hash_of(&name.as_parsed())];
     assert_same(&rt, "hashes", hashes, [hash_of(&name); 2]);
 }
@@ -264,12 +258,7 @@ fn compares_labels_lowercased(rt: HostRuntime) {
     let equal = [label == same, hash_of(&label) == hash_of(&same)];
     assert_same(&rt, "equality", equal, [true; 2]);
     assert_same(&rt, "order", compare(&label, &same), Ordering::Equal);
-}
-
-/// In ASCII, the bracket is between the upper-case and the lower-case letters.
-#[test]
-fn orders_labels_lowercased(rt: HostRuntime) {
-    let label = first_label(&rt, b"\x02aB\x00");
+    // In ASCII, the bracket is between the upper-case and the lower-case letters.
     let bracket = first_label(&rt, b"\x02a[\x00");
     assert_same(&rt, "a bracket", bracket < label, true);
 }

@@ -48,14 +48,10 @@ const CASES: &[Case] = &[
 ];
 
 #[test]
-fn prints_parse_errors(rt: HostRuntime) {
+fn prints_errors(rt: HostRuntime) {
     for case in CASES {
         assert_prints(&rt, rt.alloc(), case.name, &case.error, case.text);
     }
-}
-
-#[test]
-fn prints_append_errors(rt: HostRuntime) {
     let alloc = rt.alloc();
     let text = "buffer size exceeded";
     assert_prints(&rt, alloc, "no capacity", &ShortBuf, text);

@@ -27,37 +27,27 @@ const ALL_FLAGS: Flags = Flags {
     cd: true,
 };
 
-/// Header and counts of a slice: the header is the first four octets, and the counts the others.
+/// Header and counts of a slice and of a section: the header is the first four octets, and the
+/// counts are the others.
 #[test]
-fn takes_a_slice_of_a_message(rt: HostRuntime) {
+fn has_the_parts_of_a_section(rt: HostRuntime) {
     let header = Header::for_message_slice(&SECTION);
     assert_octets(&rt, "the header", header.as_slice(), b"\x01\x02\x00\x00");
     let counts = HeaderCounts::for_message_slice(&SECTION);
     assert_octets(&rt, "the counts", counts.as_slice(), &SECTION[4..]);
     let section = HeaderSection::for_message_slice(&SECTION);
     assert_octets(&rt, "the section", section.as_slice(), &SECTION);
+    assert_same(&rt, "the header of the section", section.header(), header);
+    assert_same(&rt, "the counts of the section", section.counts(), counts);
 }
 
 #[test]
-fn has_the_parts_of_a_section(rt: HostRuntime) {
-    let section = HeaderSection::for_message_slice(&SECTION);
-    let header = Header::for_message_slice(&SECTION);
-    assert_same(&rt, "the header", section.header(), header);
-    let counts = HeaderCounts::for_message_slice(&SECTION);
-    assert_same(&rt, "the counts", section.counts(), counts);
-}
-
-#[test]
-fn parses_a_section(rt: HostRuntime) {
+fn parses_a_section_and_no_second(rt: HostRuntime) {
     let mut parser = Parser::new(&SECTION);
     let parsed = HeaderSection::parse(&mut parser).expect(&rt, "a section");
     let section = HeaderSection::for_message_slice(&SECTION);
     assert_same(&rt, "a section", parsed, section);
     assert_same(&rt, "after a section", parser.pos(), 12);
-}
-
-#[test]
-fn parses_no_second_section(rt: HostRuntime) {
     let mut parser = parser_at(&rt, &SECTION, 12);
     let missing = HeaderSection::parse(&mut parser).err();
     assert_same(&rt, "no section", missing, Some(ParseError::ShortInput));
@@ -65,16 +55,12 @@ fn parses_no_second_section(rt: HostRuntime) {
 }
 
 #[test]
-fn composes_a_section(rt: HostRuntime) {
+fn composes_a_section_and_replaces_its_parts(rt: HostRuntime) {
     let section = HeaderSection::for_message_slice(&SECTION);
     let mut target = Vec::new(rt.alloc());
     let answer = section.compose(&mut target);
     assert_same(&rt, "composing", answer, Ok(()));
     assert_octets(&rt, "a section", target.as_slice(), &SECTION);
-}
-
-#[test]
-fn replaces_the_parts_of_a_section(rt: HostRuntime) {
     let mut section = HeaderSection::for_message_slice(&SECTION);
     section.set_header(Header::new());
     section.set_counts(HeaderCounts::new());
@@ -170,7 +156,7 @@ fn with_all_flags() -> Header {
 }
 
 #[test]
-fn clears_qr_and_every_other_flag(rt: HostRuntime) {
+fn clears_every_other_flag(rt: HostRuntime) {
     let mut header = with_all_flags();
     header.set_qr(false);
     header.set_tc(false);
@@ -178,10 +164,6 @@ fn clears_qr_and_every_other_flag(rt: HostRuntime) {
     header.set_ad(false);
     let octets = b"\x00\x00\x05\x50";
     assert_octets(&rt, "AA, RD, Z and CD stay", header.as_slice(), octets);
-}
-
-#[test]
-fn clears_aa_and_every_other_flag(rt: HostRuntime) {
     let mut header = with_all_flags();
     header.set_aa(false);
     header.set_rd(false);
@@ -299,7 +281,7 @@ fn some_counts() -> HeaderCounts {
 const SOME_COUNTS: [u16; 4] = [0x0102, 0x0304, 0x0506, 0x0708];
 
 #[test]
-fn has_counts_of_a_query(rt: HostRuntime) {
+fn has_counts(rt: HostRuntime) {
     let counts = some_counts();
     let query = [
         counts.qdcount(),
@@ -308,11 +290,6 @@ fn has_counts_of_a_query(rt: HostRuntime) {
         counts.arcount(),
     ];
     assert_same(&rt, "counts of a query", query, SOME_COUNTS);
-}
-
-#[test]
-fn has_counts_of_an_update(rt: HostRuntime) {
-    let counts = some_counts();
     let update = [
         counts.zocount(),
         counts.prcount(),
@@ -326,17 +303,13 @@ fn has_counts_of_an_update(rt: HostRuntime) {
 const OTHER_COUNTS: &[u8] = b"\x08\x07\x06\x05\x04\x03\x02\x01";
 
 #[test]
-fn sets_counts_of_a_query(rt: HostRuntime) {
+fn sets_counts(rt: HostRuntime) {
     let mut counts = HeaderCounts::new();
     counts.set_qdcount(0x0807);
     counts.set_ancount(0x0605);
     counts.set_nscount(0x0403);
     counts.set_arcount(0x0201);
     assert_octets(&rt, "counts of a query", counts.as_slice(), OTHER_COUNTS);
-}
-
-#[test]
-fn sets_counts_of_an_update(rt: HostRuntime) {
     let mut update = HeaderCounts::new();
     update.set_zocount(0x0807);
     update.set_prcount(0x0605);
@@ -371,23 +344,6 @@ fn lower(counts: &mut HeaderCounts) {
     if counts.arcount() > 0 {
         counts.dec_arcount();
     }
-}
-
-#[test]
-fn counts_up(rt: HostRuntime) {
-    let mut counts = some_counts();
-    let refused = raise(&mut counts);
-    assert_same(&rt, "Counts go up: no error", refused, [false; 4]);
-    let raised = b"\x01\x03\x03\x05\x05\x07\x07\x09";
-    assert_octets(&rt, "Counts go up", counts.as_slice(), raised);
-}
-
-#[test]
-fn counts_down(rt: HostRuntime) {
-    let mut counts = some_counts();
-    lower(&mut counts);
-    let lowered = b"\x01\x01\x03\x03\x05\x05\x07\x07";
-    assert_octets(&rt, "counts go down", counts.as_slice(), lowered);
 }
 
 /// A message in which one count is 65,534 and the others are 65,535, and the increments that fail.
@@ -430,24 +386,29 @@ fn assert_raised(rt: &impl Abort, case: &NearlyFull) {
 }
 
 #[test]
-fn raises_each_count_to_65535(rt: HostRuntime) {
+fn counts_up_and_down(rt: HostRuntime) {
+    let mut counts = some_counts();
+    let refused = raise(&mut counts);
+    assert_same(&rt, "Counts go up: no error", refused, [false; 4]);
+    let raised = b"\x01\x03\x03\x05\x05\x07\x07\x09";
+    assert_octets(&rt, "Counts go up", counts.as_slice(), raised);
+    let mut counts = some_counts();
+    lower(&mut counts);
+    let lowered = b"\x01\x01\x03\x03\x05\x05\x07\x07";
+    assert_octets(&rt, "counts go down", counts.as_slice(), lowered);
     for case in NEARLY_FULL {
         assert_raised(&rt, case);
     }
 }
 
 #[test]
-fn prints_count_errors(rt: HostRuntime) {
+fn prints_errors(rt: HostRuntime) {
     let overflow = HeaderCounts::for_message_slice(&[0xff; 12])
         .inc_qdcount()
         .err()
         .expect(&rt, "no overflow");
     let text = "increasing a header count lead to an overflow";
     assert_prints(&rt, rt.alloc(), "a full count", &overflow, text);
-}
-
-#[test]
-fn prints_flag_errors(rt: HostRuntime) {
     let token = "XXXX".parse::<Flags>().err().expect(&rt, "no error");
     let text = "illegal flags token";
     assert_prints(&rt, rt.alloc(), "an unknown flag", &token, text);

@@ -144,13 +144,9 @@ fn reads_and_prints(rt: HostRuntime) {
 }
 
 #[test]
-fn prints_a_parsed_name(rt: HostRuntime) {
+fn prints_parsed_names_and_a_final_dot(rt: HostRuntime) {
     let name = name_at(&rt, b"\x03com\x00\x07ex.mple\xC0\x00", 5);
     assert_prints(&rt, rt.alloc(), "a parsed name", &name, "ex\\.mple.com");
-}
-
-#[test]
-fn prints_a_final_dot(rt: HostRuntime) {
     let alloc = rt.alloc();
     let name = name_of(&rt, b"\x02a.\x03COM\x00");
     assert_prints(&rt, alloc, "a name", &name.fmt_with_dot(), "a\\..COM.");

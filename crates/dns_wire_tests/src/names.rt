@@ -227,10 +227,6 @@ fn has_at_most_255_octets(rt: HostRuntime) {
     let longest = longest_name();
     let mut parser = Parser::new(&longest);
     assert_parsed(&rt, "Longest name", &mut parser, Ok(&longest), 255);
-}
-
-#[test]
-fn has_no_256_octets(rt: HostRuntime) {
     let longer = longer_name();
     let refused = Name::from_octets(longer.as_slice()).err();
     assert_same(&rt, "One octet too long", refused, Some(LONG_NAME));
@@ -282,10 +278,6 @@ fn goes_over_labels(rt: HostRuntime) {
         assert_label(&rt, row, labels.next(), text);
     }
     assert_no_label(&rt, &mut labels);
-}
-
-#[test]
-fn finds_the_longest_label(rt: HostRuntime) {
     let labels = name_at(&rt, EXAMPLE, 15).iter_labels();
     let longest = labels.map(|label| label.len()).max();
     assert_same(&rt, "the longest label", longest, Some(7));
@@ -316,13 +308,20 @@ fn assert_suffix(rt: &impl Abort, alloc: Global, text: &str, name: ParsedName<'_
 }
 
 #[test]
-fn goes_over_suffixes(rt: HostRuntime) {
+fn goes_over_suffixes_and_to_a_parent(rt: HostRuntime) {
     let mut suffixes = name_at(&rt, EXAMPLE, 15).iter_suffixes();
     for &(text, count) in SUFFIXES {
         let suffix = suffixes.next().expect(&rt, text);
         assert_suffix(&rt, rt.alloc(), text, suffix, count);
     }
     assert_same(&rt, "after the root", suffixes.next(), None);
+    let name = name_of(&rt, b"\x03WwW\x02De\x00");
+    let row = "a name of its own octets";
+    let first = name.iter_suffixes().next().expect(&rt, row);
+    let counts = [name.label_count(), first.label_count()];
+    assert_same(&rt, "labels of it and of its first suffix", counts, [3; 2]);
+    let parent = name.parent().expect(&rt, row);
+    assert_prints(&rt, rt.alloc(), "its parent", &parent.fmt_with_dot(), "De.");
 }
 
 #[test]
@@ -339,17 +338,6 @@ fn goes_over_ancestors(rt: HostRuntime) {
         ancestor = suffix.parent();
     }
     assert_same(&rt, "the parent of the root", ancestor, None);
-}
-
-#[test]
-fn goes_over_suffixes_of_own_octets(rt: HostRuntime) {
-    let name = name_of(&rt, b"\x03WwW\x02De\x00");
-    assert_same(&rt, "the labels", name.label_count(), 3);
-    let first = name.iter_suffixes().next().expect(&rt, "a suffix");
-    let count = first.label_count();
-    assert_same(&rt, "the labels of the first suffix", count, 3);
-    let parent = name.parent().expect(&rt, "a parent");
-    assert_prints(&rt, rt.alloc(), "the parent", &parent.fmt_with_dot(), "De.");
 }
 
 #[test]
@@ -420,15 +408,11 @@ const WHOLE: &[Whole] = &[
 ];
 
 #[test]
-fn takes_whole_octets_alone(rt: HostRuntime) {
+fn takes_whole_octets_alone_and_keeps_them(rt: HostRuntime) {
     for case in WHOLE {
         let fault = Name::from_octets(case.octets).err();
         assert_same(&rt, case.name, fault, case.fault);
     }
-}
-
-#[test]
-fn keeps_its_octets(rt: HostRuntime) {
     let name = name_of(&rt, b"\x02Ab\x00");
     assert_octets(&rt, "a name", name.as_slice(), b"\x02Ab\x00");
     let root = Name::root_slice();
@@ -447,16 +431,12 @@ fn assert_is_ab<N: ToName>(rt: &impl Abort, row: &str, name: &N, lent: Option<&[
 const AB: &[u8] = b"\x02Ab\x00";
 
 #[test]
-fn represents_a_name(rt: HostRuntime) {
+fn represents_names(rt: HostRuntime) {
     let name = name_of(&rt, AB);
     assert_is_ab(&rt, "a name", &name, Some(AB));
     assert_is_ab(&rt, "a name by reference", &&name, Some(AB));
     let alias = Alias { target: name };
     assert_is_ab(&rt, "a type of the test's own", &alias, Some(AB));
-}
-
-#[test]
-fn represents_a_parsed_name(rt: HostRuntime) {
     let octets = b"\x02Ab\x00\xC0\x00".as_slice();
     assert_is_ab(&rt, "a parsed name", &name_at(&rt, octets, 0), Some(AB));
     assert_is_ab(&rt, "a pointer", &name_at(&rt, octets, 4), None);

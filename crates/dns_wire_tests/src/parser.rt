@@ -52,15 +52,11 @@ fn inner_parser(rt: &impl Abort) -> Parser<'static> {
 }
 
 #[test]
-fn makes_an_inner_parser(rt: HostRuntime) {
+fn makes_an_inner_parser_and_stays_within_it(rt: HostRuntime) {
     let inner = inner_parser(&rt);
     let peeked = inner.peek(3).expect(&rt, "three octets");
     assert_octets(&rt, "peeked", peeked, b"\x01\x02\x03");
     assert_octets(&rt, "the input", inner.as_slice(), OCTETS);
-}
-
-#[test]
-fn stays_within_an_inner_parser(rt: HostRuntime) {
     let mut inner = inner_parser(&rt);
     let moves = [inner.seek(4), inner.seek(2)];
     assert_same(&rt, "moves", moves, [Err(SHORT), Ok(())]);

@@ -24,16 +24,9 @@ fn adds_and_subtracts_within_32_bits(rt: HostRuntime) {
     );
 }
 
-/// TTL arithmetic: the cap of a week.
+/// TTL arithmetic: products, quotients, and the cap of a week.
 #[test]
-fn caps_at_a_week(rt: HostRuntime) {
-    let capped = Ttl::from_days(50).cap().as_secs();
-    assert_same(&rt, "capped to a week", capped, 604_800);
-}
-
-/// TTL arithmetic: products.
-#[test]
-fn multiplies_within_32_bits(rt: HostRuntime) {
+fn multiplies_divides_and_caps(rt: HostRuntime) {
     let product = Ttl::from_secs(u32::MAX - 1).saturating_mul(2);
     assert_same(&rt, "a product past 32 bits", product, Ttl::MAX);
     let minute = Ttl::from_mins(1);
@@ -41,27 +34,21 @@ fn multiplies_within_32_bits(rt: HostRuntime) {
     assert_same(&rt, "a product", product, Some(Ttl::from_secs(60)));
     let product = minute.checked_mul(u32::MAX);
     assert_same(&rt, "a checked product past 32 bits", product, None);
-}
-
-/// TTL arithmetic: quotients.
-#[test]
-fn divides(rt: HostRuntime) {
-    let minute = Ttl::from_mins(1);
     let half = minute.checked_div(2);
     assert_same(&rt, "a quotient", half, Some(Ttl::from_secs(30)));
     assert_same(&rt, "a divisor of 0", minute.checked_div(0), None);
+    let capped = Ttl::from_days(50).cap().as_secs();
+    assert_same(&rt, "capped to a week", capped, 604_800);
 }
 
 #[test]
-fn has_constants(rt: HostRuntime) {
+fn has_constants_and_sums(rt: HostRuntime) {
     let bounds = [Ttl::ZERO.as_secs(), Ttl::MAX.as_secs()];
     assert_same(&rt, "bounds", bounds, [0, u32::MAX]);
     let is_equal = Ttl::from_secs(1) == Ttl::MINUTE;
     assert_same(&rt, "unequal", is_equal, false);
-}
-
-#[test]
-fn sums_up(rt: HostRuntime) {
+    let zeros = [Ttl::default().is_zero(), Ttl::SECOND.is_zero()];
+    assert_same(&rt, "no seconds", zeros, [true, false]);
     let sums = [
         Ttl::checked_sum(&[Ttl::MAX, Ttl::SECOND]),
         Ttl::checked_sum(&[]),
@@ -77,10 +64,6 @@ fn has_operators(rt: HostRuntime) {
     ttl += Ttl::MINUTE;
     ttl *= 2;
     assert_same(&rt, "assigning operators", ttl.as_secs(), 165_720);
-}
-
-#[test]
-fn has_further_operators(rt: HostRuntime) {
     let mut ttl = Ttl::from_secs(165_720) / 2 + Ttl::MINUTE * 3;
     ttl -= Ttl::SECOND;
     ttl /= 7;
@@ -88,13 +71,7 @@ fn has_further_operators(rt: HostRuntime) {
 }
 
 #[test]
-fn knows_zero(rt: HostRuntime) {
-    let zeros = [Ttl::default().is_zero(), Ttl::SECOND.is_zero()];
-    assert_same(&rt, "no seconds", zeros, [true, false]);
-}
-
-#[test]
-fn reports_other_units(rt: HostRuntime) {
+fn converts_to_and_from_other_units(rt: HostRuntime) {
     let most = Ttl::MAX;
     let units = [most.as_days().into(), most.as_hours(), most.as_minutes()];
     assert_same(
@@ -103,17 +80,9 @@ fn reports_other_units(rt: HostRuntime) {
         units,
         [49_710, 1_193_046, 71_582_788],
     );
-}
-
-#[test]
-fn takes_other_units(rt: HostRuntime) {
     let days = Ttl::from_days(49_710).as_secs();
     assert_same(&rt, "Most days", days, 4_294_944_000);
     assert_same(&rt, "hours", Ttl::from_hours(2).as_minutes(), 120);
-}
-
-#[test]
-fn converts_durations(rt: HostRuntime) {
     let lossy = Ttl::from_duration_lossy(Duration::from_secs(4_294_967_301));
     assert_same(&rt, "Duration past 32 bits", lossy.as_secs(), 5);
     let hour = [Duration::from(Ttl::HOUR), Ttl::HOUR.into_duration()];
@@ -121,16 +90,12 @@ fn converts_durations(rt: HostRuntime) {
 }
 
 #[test]
-fn writes_four_octets(rt: HostRuntime) {
+fn writes_and_reads_four_octets(rt: HostRuntime) {
     let mut target = Vec::new(rt.alloc());
     let answer = Ttl::HOUR.compose(&mut target);
     assert_same(&rt, "composing", answer, Ok(()));
     let octets = b"\x00\x00\x0E\x10";
     assert_octets(&rt, "composed", target.as_slice(), octets);
-}
-
-#[test]
-fn reads_four_octets(rt: HostRuntime) {
     let mut parser = Parser::new(b"\x00\x00\x0E\x10\x00");
     let read = Ttl::parse(&mut parser);
     assert_same(&rt, "read", read, Ok(Ttl::HOUR));

@@ -81,29 +81,28 @@ fn assert_flattens<D: ComposeRecordData + Drop, S: FlattenInto<D>>(
 }
 
 #[test]
-fn converts_data(rt: HostRuntime) {
+fn converts_and_flattens(rt: HostRuntime) {
     let alias = Cname::new(name_of(&rt));
     assert_converts::<Cname<VecName>, _>(&rt, rt.alloc(), "alias", alias, ALIAS);
     assert_converts::<Opt<Vec<u8>>, _>(&rt, rt.alloc(), "OPT data", opt_of(&rt), OPT);
-}
-
-#[test]
-fn flattens_data(rt: HostRuntime) {
     let alloc = rt.alloc();
     assert_flattens::<Opt<Vec<u8>>, _>(&rt, alloc, "flat OPT data", opt_of(&rt), OPT);
     let alias = Cname::new(qname_of(&rt));
     assert_flattens::<Cname<VecName>, _>(&rt, alloc, "flat alias", alias, ALIAS);
     let opaque = UnknownRecordData::from_octets(Rtype::TXT, *b"\x01a").expect(&rt, "data");
     let expected = b"\x00\x02\x01a";
-    assert_flattens::<UnknownRecordData<Vec<u8>>, _>(&rt, alloc, "opaque data", opaque, expected);
-}
-
-#[test]
-fn flattens_a_question(rt: HostRuntime) {
+    assert_flattens::<UnknownRecordData<Vec<u8>>, _>(
+        &rt,
+        alloc,
+        "flat opaque data",
+        opaque,
+        expected,
+    );
     let question = Question::new_in(qname_of(&rt), Rtype::CNAME);
     let flat = question.try_flatten_into(rt.alloc());
-    let question: Question<VecName> = flat.expect(&rt, "memory");
-    assert_octets(&rt, "name of a question", question.qname().as_slice(), NAME);
+    let question: Question<VecName> = flat.expect(&rt, "memory for a flat question");
+    let name = question.qname().as_slice();
+    assert_octets(&rt, "name of a flat question", name, NAME);
 }
 
 /// A clone of opaque data with these octets.
@@ -128,20 +127,18 @@ fn clones(rt: HostRuntime) {
 }
 
 #[test]
-fn composes_a_question(rt: HostRuntime) {
+fn composes_a_question_and_a_record(rt: HostRuntime) {
     let question = Question::new_in(name_of(&rt), Rtype::CNAME);
     let mut target = Vec::new(rt.alloc());
-    question.compose(&mut target).expect(&rt, "memory");
+    let composed = question.compose(&mut target);
+    composed.expect(&rt, "memory for the question");
     assert_octets(&rt, "question", target.as_slice(), QUESTION);
-}
-
-/// A CNAME record of the root, whose alias is for the root.
-#[test]
-fn composes_a_record(rt: HostRuntime) {
+    // A CNAME record of the root, whose alias is for the root.
     let root = Cname::new(Name::root_slice());
     let record = Record::new(Name::root_slice(), Class::IN, Ttl::MINUTE, root);
     let mut target = Vec::new(rt.alloc());
-    record.compose(&mut target).expect(&rt, "memory");
+    let composed = record.compose(&mut target);
+    composed.expect(&rt, "memory for the record");
     let octets = b"\x00\x00\x05\x00\x01\x00\x00\x00\x3C\x00\x01\x00";
     assert_octets(&rt, "record", target.as_slice(), octets);
 }

@@ -65,33 +65,22 @@ fn gives_each_option(rt: HostRuntime) {
 fn assert_whole(rt: &impl Abort, octets: &[u8]) {
     let len = octets.len();
     let is_whole = [0, 4, 10, 14, 20].contains(&len);
-    assert!(rt; are_options(octets) == is_whole, "{len} octets");
+    assert!(rt; are_options(octets) == is_whole, "{len} octets of options");
 }
 
 #[test]
-fn has_whole_options(rt: HostRuntime) {
+fn has_whole_options_of_its_own_type(rt: HostRuntime) {
     for len in 0..21 {
         assert_whole(&rt, &OPTIONS[..len]);
     }
-}
-
-#[test]
-fn refuses_a_torn_option(rt: HostRuntime) {
     let mut parser = Parser::new(&OPTIONS[..19]);
     let torn = Opt::parse_rdata(Rtype::OPT, &mut parser);
     let is_short = torn == Err(ParseError::ShortInput);
     assert_holds(&rt, "a torn option", is_short && parser.remaining() == 19);
-}
-
-#[test]
-fn refuses_another_type(rt: HostRuntime) {
     let mut parser = Parser::new(&OPTIONS);
     let other = Opt::parse_rdata(Rtype::A, &mut parser);
-    assert_holds(
-        &rt,
-        "another type",
-        other == Ok(None) && parser.remaining() == 20,
-    );
+    let is_none = other == Ok(None);
+    assert_holds(&rt, "another type", is_none && parser.remaining() == 20);
 }
 
 #[test]

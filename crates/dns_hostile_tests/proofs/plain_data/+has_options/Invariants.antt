@@ -1,6 +1,0 @@
--- The options after the first have fewer octets.
-use Rattle.std.proofs.Common.{length}
-use Rattle.dns_hostile_tests.proofs.plain_data.+has_options.Given as goal
-
-abbrev pub decreases-has_options : goal.decreases-has_options
-decreases-has_options l = length l.octets.now

@@ -1,0 +1,104 @@
+//! RDATA that is read at an offset, beside plain RDATA.
+use crate::hostile::asserts::{assert_read, assert_same};
+use crate::hostile::buffer::Buffer;
+use crate::hostile::given::{Given, Opaque, expanded, fault_of};
+use crate::hostile::plain::{Entry, Fault, Located, entry_at};
+use crate::hostile::plain_data::{data_at, has_options, typed_of};
+use dns_code::Rtype;
+use dns_data::{A, Cname, ComposeRecordData, Ns, Opt, ParseRecordData, Soa};
+use dns_item::{ParsedRecord, Record, RecordHeader};
+use dns_wire::{ParseError, ParsedName, Parser};
+use std::process::Abort;
+
+/// The RDATA that is read, its names uncompressed. Its type has to be the one that was asked for.
+fn data_of<D: ComposeRecordData + Drop>(
+    data: Result<Option<D>, ParseError>,
+) -> Result<Buffer, Fault> {
+    match data {
+        Ok(Some(data)) => Ok(expanded(&data)),
+        Ok(None) => Ok(Buffer::of(b"another type")),
+        Err(error) => Err(fault_of(error)),
+    }
+}
+
+/// Checks what a data type reads at this offset, and what it returns for the record that is encoded
+/// there, by each call that reads it.
+fn assert_typed<'a, D: ParseRecordData<'a> + ComposeRecordData + Drop>(
+    rt: &impl Abort,
+    row: &str,
+    octets: &'a [u8],
+    parser: Parser<'a>,
+    rtype: Rtype,
+    located: Located<Entry>,
+) {
+    let offset = parser.pos();
+    let mut after = parser;
+    let data = data_of::<D>(D::parse_rdata(rtype, &mut after));
+    let expected = data_at(octets, offset, rtype.to_int());
+    assert_read(rt, row, "data", offset, (data, after.pos()), expected);
+    let expected = typed_of(octets, located, rtype.to_int());
+    let mut after = parser;
+    let record = Record::<ParsedName<'a>, D>::parse(&mut after).plain();
+    let end = match located {
+        Ok((_, end)) => end,
+        Err(_) => offset,
+    };
+    assert_same(rt, row, "record", (record, after.pos()), (expected, end));
+    let mut after = parser;
+    if let Ok(header) = RecordHeader::parse(&mut after) {
+        let record = header.parse_into_record::<D>(&mut after).plain();
+        assert_same(rt, row, "record of a header", record, expected);
+    }
+    let mut after = parser;
+    if let Ok(record) = ParsedRecord::parse(&mut after) {
+        let answers = [
+            record.to_record::<D>().plain(),
+            record.into_record::<D>().plain(),
+        ];
+        assert_same(rt, row, "record with its data", answers, [expected; 2]);
+    }
+}
+
+/// Checks the record that is encoded at this offset, with opaque RDATA.
+fn assert_opaque<'a>(rt: &impl Abort, row: &str, parser: Parser<'a>, located: Located<Entry>) {
+    let expected = match located {
+        Ok((entry, _)) => Ok(entry),
+        Err(fault) => Err(fault),
+    };
+    let mut after = parser;
+    if let Ok(header) = RecordHeader::parse(&mut after) {
+        let record = header
+            .parse_into_any_record::<Opaque<'a>>(&mut after)
+            .plain();
+        assert_same(rt, row, "record of a header", record, expected);
+    }
+    let mut after = parser;
+    if let Ok(record) = ParsedRecord::parse(&mut after) {
+        let record = record.into_any_record::<Opaque<'a>>().plain();
+        assert_same(rt, row, "record with its data", record, expected);
+    }
+}
+
+/// The number of octets that the options in an OPT record with these octets take.
+fn len_of_options(octets: &[u8]) -> Option<usize> {
+    let opt = Opt::from_octets(octets).ok()?;
+    let mut len = 0_usize;
+    for (_code, option) in opt.iter() {
+        len = len.saturating_add(4).saturating_add(option.len());
+    }
+    Some(len)
+}
+
+/// Checks the RDATA of all types that is read at this offset.
+pub(crate) fn assert_data(rt: &impl Abort, row: &str, octets: &[u8], parser: Parser<'_>) {
+    let located = entry_at(octets, 1, parser.pos());
+    assert_typed::<A>(rt, row, octets, parser, Rtype::A, located);
+    assert_typed::<Ns<ParsedName<'_>>>(rt, row, octets, parser, Rtype::NS, located);
+    assert_typed::<Cname<ParsedName<'_>>>(rt, row, octets, parser, Rtype::CNAME, located);
+    assert_typed::<Soa<ParsedName<'_>>>(rt, row, octets, parser, Rtype::SOA, located);
+    assert_typed::<Opt<&[u8]>>(rt, row, octets, parser, Rtype::OPT, located);
+    assert_opaque(rt, row, parser, located);
+    let rest = octets.get(parser.pos()..).unwrap_or(b"");
+    let expected = has_options(rest).then_some(rest.len());
+    assert_same(rt, row, "options", len_of_options(rest), expected);
+}

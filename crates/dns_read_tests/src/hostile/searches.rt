@@ -1,0 +1,151 @@
+//! Searches in messages, and copies of messages, beside plain searches.
+use crate::hostile::asserts::assert_same;
+use crate::hostile::buffer::Buffer;
+use crate::hostile::given::{Given, Opaque, fault_of};
+use crate::hostile::messages::BOUNDS;
+use crate::hostile::plain::{Entry, Reading};
+use crate::hostile::plain_searches::{
+    canonical_name, contains_answer, first_question, is_answer, last_additional, opt,
+    readable_records, sole_question,
+};
+use dns_build::{CopyRecordsError, MessageBuilder, copy_records};
+use dns_data::A;
+use dns_read::Message;
+use std::alloc::Global;
+use std::process::Abort;
+
+/// Checks the searches for questions and names.
+pub(crate) fn assert_question_searches(rt: &impl Abort, row: &str, message: &Message<&[u8]>) {
+    let octets = message.as_slice();
+    let first = first_question(octets);
+    assert_same(
+        rt,
+        row,
+        "first question",
+        message.first_question().plain(),
+        first,
+    );
+    let sole = sole_question(octets);
+    assert_same(
+        rt,
+        row,
+        "sole question",
+        message.sole_question().plain(),
+        sole,
+    );
+    let rtype = first.map(|question| question.rtype);
+    let found = message.qtype().map(|rtype| rtype.to_int());
+    assert_same(rt, row, "type of the question", found, rtype);
+    let is_xfr = matches!(rtype, Some(251 | 252));
+    assert_same(rt, row, "transfer", message.is_xfr(), is_xfr);
+    let name = canonical_name(octets);
+    assert_same(
+        rt,
+        row,
+        "canonical name",
+        message.canonical_name().plain(),
+        name,
+    );
+}
+
+/// The payload size, the TTL and the options of the OPT record.
+fn opt_of(message: &Message<&[u8]>) -> Option<(u16, u32, Buffer)> {
+    let opt = message.opt()?;
+    Some((
+        opt.udp_payload_size(),
+        opt.as_record().ttl().as_secs(),
+        Buffer::of(opt.opt().data()),
+    ))
+}
+
+/// The rcode, whose higher eight bits are in the OPT record.
+fn rcode_of(octets: &[u8], opt: Option<Entry>) -> u16 {
+    let low = u16::from(octets.get(3).copied().unwrap_or(0) & 0x0F);
+    let high = opt.map_or(0, |opt| (opt.ttl >> 24) as u16);
+    high << 4 | low
+}
+
+/// Checks the searches for records.
+pub(crate) fn assert_record_searches(rt: &impl Abort, row: &str, message: &Message<&[u8]>) {
+    let octets = message.as_slice();
+    let has_address = contains_answer(octets, 1);
+    assert_same(
+        rt,
+        row,
+        "an address",
+        message.contains_answer::<A>(),
+        has_address,
+    );
+    let last = message.get_last_additional::<A>().plain();
+    assert_same(rt, row, "last address", last, last_additional(octets, 1));
+    let opt = opt(octets);
+    let expected = opt.map(|opt| (opt.class, opt.ttl, opt.data));
+    assert_same(rt, row, "OPT record", opt_of(message), expected);
+    let rcode = message.opt_rcode().to_int();
+    assert_same(rt, row, "rcode", rcode, rcode_of(octets, opt));
+}
+
+/// Checks whether each message is a response to the other.
+fn assert_answer(rt: &impl Abort, row: &str, message: &Message<&[u8]>, octets: &[u8]) {
+    let Ok(other) = Message::from_octets(octets) else {
+        panic!(rt; "{row}: no message");
+    };
+    let source = message.as_slice();
+    let found = [message.is_answer(&other), other.is_answer(message)];
+    let expected = [is_answer(source, octets), is_answer(octets, source)];
+    assert_same(rt, row, "answer", found, expected);
+}
+
+/// Checks whether the message is a response to itself, and to others.
+pub(crate) fn assert_distinguished(rt: &impl Abort, row: &str, message: &Message<&[u8]>) {
+    assert_answer(rt, row, message, message.as_slice());
+    for bound in BOUNDS {
+        assert_answer(rt, row, message, bound.octets);
+    }
+}
+
+/// Checks that the records of a section were copied into the same section, in order.
+fn assert_copied(rt: &impl Abort, row: &str, source: &[u8], copied: &[u8], section: u8) {
+    let (Ok(mut records), Ok(mut copies)) = (
+        Reading::of(source, section),
+        Reading::of(copied, section),
+    ) else {
+        panic!(rt; "{row}: no start of section {section}");
+    };
+    for _ in 0..=u16::MAX {
+        let record = records.next();
+        assert_same(rt, row, "copy", copies.next(), record);
+        if record.is_none() {
+            break;
+        }
+    }
+}
+
+/// Checks that all records are copied, or that the first error is returned, before which the
+/// closure got each record.
+pub(crate) fn assert_copies(rt: &impl Abort, alloc: Global, row: &str, message: &Message<&[u8]>) {
+    let octets = message.as_slice();
+    let mut given = 0_usize;
+    let builder = MessageBuilder::new_vec(alloc).expect(rt, row);
+    let copied = copy_records(message, builder.answer(), |shown| {
+        given = given.wrapping_add(1);
+        shown.into_any_record::<Opaque<'_>>().ok()
+    });
+    let fault = match copied {
+        Ok(copied) => {
+            for section in 1..=3 {
+                assert_copied(rt, row, octets, copied.as_slice(), section);
+            }
+            None
+        }
+        Err(CopyRecordsError::Parse(error)) => Some(fault_of(error)),
+        Err(CopyRecordsError::Push(_)) => panic!(rt; "{row}: a copy that was refused"),
+    };
+    assert_same(
+        rt,
+        row,
+        "records that were given",
+        (given, fault),
+        readable_records(octets),
+    );
+}

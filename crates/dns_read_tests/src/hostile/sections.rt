@@ -1,0 +1,205 @@
+//! Cursors and iterators over sections, beside plain readings.
+use crate::hostile::asserts::assert_same;
+use crate::hostile::given::{Given, Opaque, fault_of};
+use crate::hostile::plain::{Entry, Fault, Reading, start};
+use crate::hostile::plain_searches::next_typed;
+use dns_data::A;
+use dns_read::{Message, MessageIter, RecordIter, RecordSection};
+use dns_wire::ParseError;
+use std::process::Abort;
+
+/// Checks the questions, and before and after each of them the offsets of the cursor and of the
+/// answer section.
+pub(crate) fn assert_questions(rt: &impl Abort, row: &str, message: &Message<&[u8]>) {
+    let mut reading = Reading::at(message.as_slice(), 0, 12);
+    let mut questions = message.question();
+    for _ in 0..=u16::MAX {
+        assert_same(
+            rt,
+            row,
+            "offset of a question",
+            questions.pos(),
+            reading.offset,
+        );
+        let starts = [questions.answer().plain(), questions.next_section().plain()];
+        assert_same(
+            rt,
+            row,
+            "answer section",
+            starts,
+            [reading.start_after(); 2],
+        );
+        let expected = reading.next();
+        assert_same(rt, row, "question", questions.next().plain(), expected);
+        if expected.is_none() {
+            break;
+        }
+    }
+}
+
+/// Where the section after a reading begins. There is none after the last section.
+fn next_start(reading: &Reading<'_>) -> Result<Option<usize>, Fault> {
+    match reading.section {
+        3 => Ok(None),
+        _ => Ok(Some(reading.start_after()?)),
+    }
+}
+
+/// Checks the offset of a cursor after a reading, and that the cursor and each iterator over it
+/// advance to the next section.
+fn assert_cursor(rt: &impl Abort, row: &str, records: RecordSection<'_>, reading: &Reading<'_>) {
+    assert_same(rt, row, "offset of a record", records.pos(), reading.offset);
+    let all = records.into_records::<Opaque<'_>>();
+    let starts = [
+        records.next_section().plain(),
+        records.limit_to::<A>().next_section().plain(),
+        records.limit_to_in::<A>().next_section().plain(),
+        all.next_section().plain(),
+    ];
+    assert_same(rt, row, "next section", starts, [next_start(reading); 4]);
+}
+
+/// Checks that a cursor over records, and an iterator over them with their RDATA, yield what a
+/// reading has.
+fn assert_records(
+    rt: &impl Abort,
+    row: &str,
+    mut records: RecordSection<'_>,
+    mut reading: Reading<'_>,
+) {
+    let mut all = records.into_records::<Opaque<'_>>();
+    for _ in 0..=u16::MAX {
+        assert_cursor(rt, row, records, &reading);
+        let expected = reading.next();
+        assert_same(rt, row, "record", records.next().plain(), expected);
+        assert_same(
+            rt,
+            row,
+            "record with its data",
+            all.next().plain(),
+            expected,
+        );
+        if expected.is_none() {
+            break;
+        }
+    }
+    assert_same(
+        rt,
+        row,
+        "end of the records",
+        all.unwrap().pos(),
+        reading.offset,
+    );
+}
+
+/// Checks that an iterator over addresses yields those of a reading.
+fn assert_addresses(
+    rt: &impl Abort,
+    row: &str,
+    octets: &[u8],
+    mut addresses: RecordIter<'_, A>,
+    mut reading: Reading<'_>,
+    in_only: bool,
+) {
+    for _ in 0..=u16::MAX {
+        let expected = next_typed(octets, &mut reading, 1, in_only);
+        assert_same(rt, row, "address", addresses.next().plain(), expected);
+        if expected.is_none() {
+            break;
+        }
+    }
+}
+
+/// Checks the records of a section, or why it has no start.
+fn assert_section(
+    rt: &impl Abort,
+    row: &str,
+    octets: &[u8],
+    section: u8,
+    records: Result<RecordSection<'_>, ParseError>,
+) {
+    let offset = start(octets, section);
+    assert_same(rt, row, "section", records.plain(), offset);
+    if let (Ok(records), Ok(offset)) = (records, offset) {
+        let reading = Reading::at(octets, section, offset);
+        assert_records(rt, row, records, reading);
+        assert_addresses(rt, row, octets, records.limit_to(), reading, false);
+        assert_addresses(rt, row, octets, records.limit_to_in(), reading, true);
+    }
+}
+
+/// The starts of all sections.
+fn starts(octets: &[u8]) -> Result<[usize; 4], Fault> {
+    Ok([12, start(octets, 1)?, start(octets, 2)?, start(octets, 3)?])
+}
+
+/// Checks the three sections of records, and the starts of all sections.
+pub(crate) fn assert_sections(rt: &impl Abort, row: &str, message: &Message<&[u8]>) {
+    let octets = message.as_slice();
+    assert_section(rt, row, octets, 1, message.answer());
+    assert_section(rt, row, octets, 2, message.authority());
+    assert_section(rt, row, octets, 3, message.additional());
+    let found = match message.sections() {
+        Ok((questions, answers, authorities, additionals)) => Ok([
+            questions.pos(),
+            answers.pos(),
+            authorities.pos(),
+            additionals.pos(),
+        ]),
+        Err(error) => Err(fault_of(error)),
+    };
+    assert_same(rt, row, "sections", found, starts(octets));
+}
+
+/// Checks that the next item of the iterator is this entry, or error, of this section.
+fn assert_item(
+    rt: &impl Abort,
+    row: &str,
+    items: &mut MessageIter<'_>,
+    section: u8,
+    entry: Result<Entry, Fault>,
+) {
+    let expected = match entry {
+        Ok(entry) => Ok((section, entry)),
+        Err(fault) => Err(fault),
+    };
+    assert_same(rt, row, "item", items.next().plain(), Some(expected));
+}
+
+/// Checks that the iterator yields the records of a section, and an error once more unless the
+/// section is the last. Returns whether the section had no error.
+fn assert_items(
+    rt: &impl Abort,
+    row: &str,
+    items: &mut MessageIter<'_>,
+    mut reading: Reading<'_>,
+) -> bool {
+    for _ in 0..=u16::MAX {
+        let Some(entry) = reading.next() else {
+            break;
+        };
+        assert_item(rt, row, items, reading.section, entry);
+        if entry.is_err() {
+            if reading.section < 3 {
+                assert_item(rt, row, items, reading.section, entry);
+            }
+            return false;
+        }
+    }
+    true
+}
+
+/// Checks all records of a message.
+pub(crate) fn assert_iter(rt: &impl Abort, row: &str, message: &Message<&[u8]>) {
+    let mut items = message.iter();
+    for section in 1..=3 {
+        let Ok(reading) = Reading::of(message.as_slice(), section) else {
+            break;
+        };
+        if !assert_items(rt, row, &mut items, reading) {
+            break;
+        }
+    }
+    let is_end = items.next().is_none() && items.next().is_none();
+    assert_same(rt, row, "no further item", is_end, true);
+}
