@@ -4,7 +4,8 @@ use crate::runs::{Run, prints};
 use std::alloc::Global;
 use std::process::Abort;
 
-const RUNS: &[Run<'_>] = &[
+/// Questions and records, and no lines.
+const SECTIONS: &[Run<'_>] = &[
     Run {
         name: "First run",
         words: "build plain",
@@ -33,6 +34,25 @@ const RUNS: &[Run<'_>] = &[
         printed: "ok 12\nok 29\nok 29\nok 56\n000000000001000100000000076578616d706c6503636f6d0000010001076578616d706c6503636f6d000001000100000e100004cb007101\n",
         status: 0,
     },
+    // The lengths in the replies don't include the length that precedes the message on a stream.
+    Run {
+        name: "root question on a stream",
+        words: "build stream",
+        input: b"question\npush . A\n",
+        printed: "ok 12\nok 17\n00110000000000010000000000000000010001\n",
+        status: 0,
+    },
+    Run {
+        name: "no lines",
+        words: "build plain",
+        input: b"",
+        printed: "000000000000000000000000\n",
+        status: 0,
+    },
+];
+
+/// Header fields.
+const HEADER_FIELDS: &[Run<'_>] = &[
     Run {
         name: "Header fields",
         words: "build plain",
@@ -77,6 +97,10 @@ const RUNS: &[Run<'_>] = &[
         printed: "bad line 1\n",
         status: 1,
     },
+];
+
+/// Moves between sections, and rewinds.
+const MOVES: &[Run<'_>] = &[
     Run {
         name: "A push before any section",
         words: "build plain",
@@ -119,21 +143,10 @@ const RUNS: &[Run<'_>] = &[
         printed: "ok 12\nbad line 2\n",
         status: 1,
     },
-    Run {
-        name: "no lines",
-        words: "build plain",
-        input: b"",
-        printed: "000000000000000000000000\n",
-        status: 0,
-    },
-    // The lengths in the replies don't include the length that precedes the message on a stream.
-    Run {
-        name: "root question on a stream",
-        words: "build stream",
-        input: b"question\npush . A\n",
-        printed: "ok 12\nok 17\n00110000000000010000000000000000010001\n",
-        status: 0,
-    },
+];
+
+/// Push limits.
+const LIMITS: &[Run<'_>] = &[
     Run {
         name: "refusals by the limit",
         words: "build plain",
@@ -163,14 +176,10 @@ const RUNS: &[Run<'_>] = &[
         printed: "ok 12\nbad line 2\n",
         status: 1,
     },
-    Run {
-        name: "octets of 255",
-        words: "build plain",
-        input: b"answer\npush \\255.\\254. 0 IN A 255.0.254.1\npush . 0 IN TXT \\# 3 ff00fe\n",
-        printed: "ok 12\nok 31\nok 45\n00000000000000020000000001ff01fe000001000100000000\
-         0004ff00fe010000100001000000000003ff00fe\n",
-        status: 0,
-    },
+];
+
+/// A rewind over a static, a tree and a hash compressor.
+const COMPRESSORS: &[Run<'_>] = &[
     Run {
         name: "Rewind over a static compressor",
         words: "build static",
@@ -190,6 +199,18 @@ const RUNS: &[Run<'_>] = &[
         words: "build hash",
         input: REWOUND,
         printed: COMPRESSED,
+        status: 0,
+    },
+];
+
+/// RDATA by its text, and opaque RDATA.
+const RDATA: &[Run<'_>] = &[
+    Run {
+        name: "octets of 255",
+        words: "build plain",
+        input: b"answer\npush \\255.\\254. 0 IN A 255.0.254.1\npush . 0 IN TXT \\# 3 ff00fe\n",
+        printed: "ok 12\nok 31\nok 45\n00000000000000020000000001ff01fe000001000100000000\
+         0004ff00fe010000100001000000000003ff00fe\n",
         status: 0,
     },
     Run {
@@ -244,6 +265,10 @@ const RUNS: &[Run<'_>] = &[
         printed: "ok 12\nok 24\n0000000000000001000000000000010001000000000001ff\n",
         status: 0,
     },
+];
+
+/// OPT records.
+const OPT_RECORDS: &[Run<'_>] = &[
     Run {
         name: "OPT on a stream",
         words: "build stream",
@@ -279,6 +304,10 @@ const RUNS: &[Run<'_>] = &[
         printed: "ok 12\nok 28\n0000000f0000000000000001000029ffffffff80000005ffff0001ff\n",
         status: 0,
     },
+];
+
+/// Spaces, comments, and ends of lines.
+const SPACES: &[Run<'_>] = &[
     Run {
         name: "empty lines and comments",
         words: "build plain",
@@ -322,6 +351,10 @@ const RUNS: &[Run<'_>] = &[
         printed: "ok 12\nok 12\n000000000000000000000000\n",
         status: 0,
     },
+];
+
+/// Arguments that are refused.
+const ARGUMENTS: &[Run<'_>] = &[
     Run {
         name: "no words",
         words: "",
@@ -387,5 +420,17 @@ fn assert_runs(rt: &impl Abort, alloc: Global, runs: &[Run<'_>]) {
 
 #[test]
 fn prints_runs(rt: HostRuntime) {
-    assert_runs(&rt, rt.alloc(), RUNS);
+    for runs in [
+        SECTIONS,
+        HEADER_FIELDS,
+        MOVES,
+        LIMITS,
+        COMPRESSORS,
+        RDATA,
+        OPT_RECORDS,
+        SPACES,
+        ARGUMENTS,
+    ] {
+        assert_runs(&rt, rt.alloc(), runs);
+    }
 }
