@@ -16,20 +16,14 @@ impl<Octs: Octets> Message<Octs> {
     pub fn first_question(&self) -> Option<Question<ParsedName<'_>>>
         ensures { option_map parsed_question result ≡ asked_first (message_octets self.now) }
     {
-        match self.question().next() {
-            Some(Ok(question)) => Some(question),
-            Some(Err(_)) | None => None,
-        }
+        self.question().next()?.ok()
     }
 
     /// The QTYPE of the first question. Returns `None` if there is no question or it can't be read.
     pub fn qtype(&self) -> Option<Rtype>
         ensures { result ≡ asked_type (message_octets self.now) }
     {
-        match self.first_question() {
-            Some(question) => Some(question.qtype()),
-            None => None,
-        }
+        Some(self.first_question()?.qtype())
     }
 
     /// Whether the first question asks for a zone transfer, by IXFR (RFC 1995 section 3) or AXFR
