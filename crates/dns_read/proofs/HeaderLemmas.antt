@@ -1,11 +1,11 @@
 -- A header, and a count, that overwrite octets of a message.
 use Rattle.std.proofs.Common.{◌≡◌, ◌∙◌, ◌+◌, ◌<◌, ◌≤◌, ◌^◌, ℕ, List, ◌++◌, length, take, drop, ap, arith}
 use Rattle.std.specs.Int.{from_be_bytes, to_be_bytes, w16}
-use Rattle.std.specs.Prelude.{slice_range}
 use Rattle.std.proofs.lemmas.Nat.{from_be_bytes-to_be_bytes_2}
 use Rattle.dns_name.specs.Parsers.{number_at}
 use Rattle.std.proofs.lemmas.Grind.{common_steps}
 use Rattle.dns_octets.specs.Octets.{overwritten}
+use Rattle.dns_octets.proofs.theory.Overwritten.{written_there}
 
 -- the first of two appended lists
 front : (n : ℕ) (b c : List ℕ) → length b ≡ n → take n (b ++ c) ≡ b
@@ -24,18 +24,6 @@ pub overwritten_after : (b h : List ℕ) → length h ≡ 4 → drop 4 (overwrit
 overwritten_after b h n =
     let e : 0 + length h ≡ 4 = omega arith in
     after_front 4 h (drop (0 + length h) b) n ∙ ap (λ k. drop k b) e
-
--- the octets before those overwritten stay
-pub kept_before : (b xs : List ℕ) (p : ℕ) → p ≤ length b → take p (overwritten b p xs) ≡ take p b
-kept_before b xs p l = grind (arith, common_steps)
-
--- the octets after those overwritten stay
-pub kept_after : (b xs : List ℕ) (p q : ℕ) → p + length xs ≡ q → q ≤ length b → drop q (overwritten b p xs) ≡ drop q b
-kept_after b xs p q e l = grind (arith, common_steps)
-
--- the octets that were written are read
-written_there : (b xs : List ℕ) (p q : ℕ) → p + length xs ≡ q → q ≤ length b → slice_range (overwritten b p xs) p q ≡ xs
-written_there b xs p q e l = grind (arith, common_steps)
 
 -- a 16-bit number that was written is read
 pub written_number : (b xs : List ℕ) (p n : ℕ) → p + 2 ≤ length b → length xs ≡ 2 → n < 2 ^ 16 → xs ≡ to_be_bytes w16 n → number_at w16 (overwritten b p xs) p ≡ n

@@ -1,5 +1,5 @@
 //! `Message`, its methods and their contracts, and the cursors and iterators that it returns.
-ghost use Rattle.std.specs.Prelude.{◌≡◌, ◌≢◌, ◌↔◌, ◌<◌, ◌≤◌, ◌-◌, length, take, drop, slice_range, IsTrue, Ok, IfOk, IfErr, IsErr};
+ghost use Rattle.std.specs.Prelude.{◌≡◌, ◌≢◌, ◌↔◌, ◌<◌, ◌≤◌, ◌+◌, ◌-◌, length, take, drop, slice_range, IsTrue, Ok, IfOk, IfErr, IsErr};
 ghost use Rattle.dns_code.specs.HeaderSection.{header_size};
 
 pub use crate::error::ShortMessage;
@@ -258,6 +258,7 @@ impl<Octs: Octets> Message<Octs> {
 }
 
 impl<Octs: OctetsMut> Message<Octs> {
+    ghost use Rattle.dns_octets.specs.Octets.{overwritten};
     ghost use Rattle.dns_code.specs.Header.{header_octets};
     ghost use Rattle.dns_read.specs.Message.{message_octets};
     ghost use Rattle.dns_section.specs.Sections.{additional_count};
@@ -268,6 +269,15 @@ impl<Octs: OctetsMut> Message<Octs> {
         ensures others { drop 4 (message_octets self.new) ≡ drop 4 (message_octets self.old) }
     {
         self.octets.write_at(0, header.as_slice());
+    }
+
+    /// Overwrites octets from `offset` on, which lie after the header section. All others stay.
+    pub fn overwrite(&mut self, offset: usize, octets: &[u8])
+        requires after_header { header_size ≤ offset }
+        requires within { offset + length octets.now ≤ length (message_octets self.old) }
+        ensures { message_octets self.new ≡ overwritten (message_octets self.old) offset octets.now }
+    {
+        self.octets.write_at(offset, octets);
     }
 
     /// Lowers ARCOUNT by one, so that the last additional record isn't read any more (RFC 1035

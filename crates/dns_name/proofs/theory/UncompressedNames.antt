@@ -196,7 +196,7 @@ pub counted_begins : (b : List ℕ) (at count : ℕ) → Counted b at count → 
 counted_begins b at count c =
     let there : EncodedName b at = (c.others, name_at_uncompressed b at c.others c.is_name c.octets) in name_begins b there
 
-first_octet : (b : List ℕ) (p x : ℕ) (xs : List ℕ) → x ∷ xs ≡ drop p b → get_or b p 0 ≡ x
+pub first_octet : (b : List ℕ) (p x : ℕ) (xs : List ℕ) → x ∷ xs ≡ drop p b → get_or b p 0 ≡ x
 first_octet b p x xs e = get_or_from_slice_get b p x 0 (get_drop b p x xs (sym e))
 
 -- At the root label, all labels are counted.

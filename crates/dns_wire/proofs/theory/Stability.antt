@@ -29,12 +29,12 @@ name_of_within l (label {p = p} {n = n} low high h x z) = NameAt.label h (omega 
 name_of_within l (pointer low high h back x) = NameAt.pointer h back (name_of_within l x)
 
 -- An optional octet before other octets.
-abbrev before_others : Option ℕ → List ℕ → List ℕ
+abbrev pub before_others : Option ℕ → List ℕ → List ℕ
 before_others None xs = xs
 before_others (Some x) xs = x ∷ xs
 
 -- The first of n + 1 octets, and those after it.
-take_get : (n p : ℕ) (b : List ℕ) → take (suc n) (drop p b) ≡ before_others (slice_get b p) (take n (drop (suc p) b))
+pub take_get : (n p : ℕ) (b : List ℕ) → take (suc n) (drop p b) ≡ before_others (slice_get b p) (take n (drop (suc p) b))
 take_get zero zero [] = refl
 take_get zero (suc p) [] = refl
 take_get (suc n) zero [] = refl
@@ -43,7 +43,7 @@ take_get n zero (x ∷ b) = refl
 take_get n (suc p) (x ∷ b) = take_get n p b
 
 -- Lists that agree at n consecutive offsets have the same octets there.
-same_part : (b c : List ℕ) (n p : ℕ) → ((k : ℕ) → p ≤ k → k < p + n → slice_get b k ≡ slice_get c k) → take n (drop p b) ≡ take n (drop p c)
+pub same_part : (b c : List ℕ) (n p : ℕ) → ((k : ℕ) → p ≤ k → k < p + n → slice_get b k ≡ slice_get c k) → take n (drop p b) ≡ take n (drop p c)
 same_part b c zero p h = refl
 same_part b c (suc n) p h =
     take_get n p b
@@ -51,21 +51,21 @@ same_part b c (suc n) p h =
     ∙ sym (take_get n p c)
 
 -- Octets that agree have the same labels.
-same_label : (b c : List ℕ) (lo hi p n : ℕ) → Agree b c lo hi → lo ≤ p → p + 1 + n ≤ hi → label_at b p n ≡ label_at c p n
+pub same_label : (b c : List ℕ) (lo hi p n : ℕ) → Agree b c lo hi → lo ≤ p → p + 1 + n ≤ hi → label_at b p n ≡ label_at c p n
 same_label b c lo hi p n a low high =
     let e : p + 1 + n - (p + 1) ≡ n = omega arith in
     ap (λ k. take k (drop (p + 1) b)) e ∙ same_part b c n (p + 1) (λ k l m. a.same k (omega arith) (omega arith)) ∙ ap (λ k. take k (drop (p + 1) c)) (sym e)
 
 -- Octets that agree begin alike: the root label, a label or a pointer.
-agree_root : {b c : List ℕ} {lo hi p : ℕ} → Agree b c lo hi → lo ≤ p → p + 1 ≤ hi → head_at b p ≡ Ok Root → head_at c p ≡ Ok Root
+pub agree_root : {b c : List ℕ} {lo hi p : ℕ} → Agree b c lo hi → lo ≤ p → p + 1 ≤ hi → head_at b p ≡ Ok Root → head_at c p ≡ Ok Root
 agree_root {b = b} {c = c} {p = p} a low high h = root_begins c p (sym (a.same p low (omega arith)) ∙ root_there b p h)
 
-agree_label : {b c : List ℕ} {lo hi p n : ℕ} → Agree b c lo hi → lo ≤ p → p + 1 ≤ hi → head_at b p ≡ Ok (Label n) → head_at c p ≡ Ok (Label n)
+pub agree_label : {b c : List ℕ} {lo hi p n : ℕ} → Agree b c lo hi → lo ≤ p → p + 1 ≤ hi → head_at b p ≡ Ok (Label n) → head_at c p ≡ Ok (Label n)
 agree_label {b = b} {c = c} {p = p} {n = n} a low high h =
     let l = label_head b p n h in
     label_begins c p n (omega (arith, l.some)) (omega (arith, l.short)) (sym (a.same p low (omega arith)) ∙ label_there b p n h)
 
-agree_pointer : {b c : List ℕ} {lo hi p t : ℕ} → Agree b c lo hi → lo ≤ p → p + 2 ≤ hi → head_at b p ≡ Ok (Pointer t) → head_at c p ≡ Ok (Pointer t)
+pub agree_pointer : {b c : List ℕ} {lo hi p t : ℕ} → Agree b c lo hi → lo ≤ p → p + 2 ≤ hi → head_at b p ≡ Ok (Pointer t) → head_at c p ≡ Ok (Pointer t)
 agree_pointer {b = b} {c = c} {p = p} {t = t} a low high h = sym (same_head b c p (a.same p low (omega arith)) (a.same (p + 1) (omega arith) (omega arith))) ∙ h
 
 -- A name is encoded in all octets that agree on those that it uses.
@@ -77,29 +77,29 @@ agreed {b = b} {c = c} {lo = lo} {hi = hi} a (label {p = p} {n = n} {name = name
 agreed a (pointer low high h back x) = pointer low high (agree_pointer a low high h) back (agreed a x)
 
 -- Single octets of longer contents and of parts of a content.
-get_append : (b c : List ℕ) (k : ℕ) → k < length b → slice_get b k ≡ slice_get (b ++ c) k
+pub get_append : (b c : List ℕ) (k : ℕ) → k < length b → slice_get b k ≡ slice_get (b ++ c) k
 get_append [] c k h = absurd (omega arith)
 get_append (x ∷ b) c zero h = refl
 get_append (x ∷ b) c (suc k) h = get_append b c k (omega arith)
 
-get_take : (b : List ℕ) (e k : ℕ) → k < e → slice_get (take e b) k ≡ slice_get b k
+pub get_take : (b : List ℕ) (e k : ℕ) → k < e → slice_get (take e b) k ≡ slice_get b k
 get_take [] zero k h = refl
 get_take [] (suc e) k h = refl
 get_take (x ∷ b) zero k h = absurd (omega arith)
 get_take (x ∷ b) (suc e) zero h = refl
 get_take (x ∷ b) (suc e) (suc k) h = get_take b e k (omega arith)
 
-get_after : (xs ys : List ℕ) (k : ℕ) → slice_get (xs ++ ys) (length xs + k) ≡ slice_get ys k
+pub get_after : (xs ys : List ℕ) (k : ℕ) → slice_get (xs ++ ys) (length xs + k) ≡ slice_get ys k
 get_after [] ys k = ap (slice_get ys) (let e : 0 + k ≡ k = omega arith in e)
 get_after (x ∷ xs) ys k = ap (slice_get (x ∷ (xs ++ ys))) (let e : suc (length xs) + k ≡ suc (length xs + k) = omega arith in e) ∙ get_after xs ys k
 
-get_dropped : (b : List ℕ) (n k : ℕ) → slice_get (drop n b) k ≡ slice_get b (n + k)
+pub get_dropped : (b : List ℕ) (n k : ℕ) → slice_get (drop n b) k ≡ slice_get b (n + k)
 get_dropped b zero k = ap (slice_get b) (let e : k ≡ 0 + k = omega arith in e)
 get_dropped [] (suc n) k = refl
 get_dropped (x ∷ b) (suc n) k = get_dropped b n k ∙ ap (slice_get (x ∷ b)) (let e : suc (n + k) ≡ suc n + k = omega arith in e)
 
 -- A longer content agrees with the shorter one.
-agree_append : (b c : List ℕ) → Agree b (b ++ c) 0 (length b)
+pub agree_append : (b c : List ℕ) → Agree b (b ++ c) 0 (length b)
 agree_append b c = record { long = omega (arith, length-append b c); same = λ k l h. get_append b c k h }
 
 -- An encoded name is encoded in every longer content.
@@ -136,20 +136,24 @@ agree_back b over offset lo hi fits l small =
     }
 
 -- Octets agree before or after overwritten ones.
-agree_overwritten : (b over : List ℕ) (offset lo hi : ℕ) → offset + length over ≤ length b → hi ≤ length b → (offset + length over ≤ lo) ⊎ (hi ≤ offset)
+agree_parts : (b over : List ℕ) (offset lo hi : ℕ) → offset + length over ≤ length b → hi ≤ length b → (offset + length over ≤ lo) ⊎ (hi ≤ offset)
     → Agree b (take offset b ++ (over ++ drop (offset + length over) b)) lo hi
-agree_overwritten b over offset lo hi fits l (inl w) = agree_back b over offset lo hi fits w l
-agree_overwritten b over offset lo hi fits l (inr w) = agree_front b over offset lo hi fits w
+agree_parts b over offset lo hi fits l (inl w) = agree_back b over offset lo hi fits w l
+agree_parts b over offset lo hi fits l (inr w) = agree_front b over offset lo hi fits w
+
+-- The same of the octets as `overwritten` gives them.
+pub agree_overwritten : (b over : List ℕ) (offset lo hi : ℕ) → offset + length over ≤ length b → hi ≤ length b → (offset + length over ≤ lo) ⊎ (hi ≤ offset)
+    → Agree b (overwritten b offset over) lo hi
+agree_overwritten b over offset lo hi fits l w =
+    let e : take offset b ++ (over ++ drop (offset + length over) b) ≡ overwritten b offset over = sym (append_assoc (take offset b) over (drop (offset + length over) b)) in
+    subst (λ (c : List ℕ). Agree b c lo hi) e (agree_parts b over offset lo hi fits l w)
 
 -- A name is still encoded after octets that it doesn't use are overwritten.
 pub names_stay_when_overwritten : NamesStayWhenOverwritten
-names_stay_when_overwritten t offset over lo hi p name fits l w s =
-    let b = t.octets in
-    let e : take offset b ++ (over ++ drop (offset + length over) b) ≡ overwritten b offset over = sym (append_assoc (take offset b) over (drop (offset + length over) b)) in
-    subst (λ (c : List ℕ). NameAtWithin c lo hi p name) e (agreed (agree_overwritten b over offset lo hi fits l w) s)
+names_stay_when_overwritten t offset over lo hi p name fits l w s = agreed (agree_overwritten t.octets over offset lo hi fits l w) s
 
 -- A name that uses octets in lo..hi uses octets in lo..top, if hi ≤ top.
-wider_in : {b : List ℕ} {lo hi top p : ℕ} {name : Labels} → hi ≤ top → NameAtWithin b lo hi p name → NameAtWithin b lo top p name
+pub wider_in : {b : List ℕ} {lo hi top p : ℕ} {name : Labels} → hi ≤ top → NameAtWithin b lo hi p name → NameAtWithin b lo top p name
 wider_in l (root low high h) = root low (omega arith) h
 wider_in l (label {p = p} {n = n} low high h x z) = label low (omega arith) h (wider_in l x) z
 wider_in l (pointer low high h back x) = pointer low (omega arith) h back (wider_in l x)

@@ -3,7 +3,8 @@ use Rattle.std.specs.Int.{w16}
 use Rattle.dns_name.specs.Parsers.{number_at}
 use Rattle.dns_code.specs.HeaderSection.{header_size}
 use Rattle.dns_read.specs.Message.{message_octets}
-use Rattle.dns_read.proofs.HeaderLemmas.{kept_before, kept_after, written_number}
+use Rattle.dns_octets.proofs.theory.Overwritten.{kept_before, kept_after}
+use Rattle.dns_read.proofs.HeaderLemmas.{written_number}
 use Rattle.dns_read.proofs.message.Message.remove_last_additional.Goals as goal
 
 pub returns-clause-count : goal.returns-clause-count
