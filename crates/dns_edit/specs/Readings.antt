@@ -8,7 +8,8 @@ use Rattle.dns_name.specs.Parsers.{number_at}
 use Rattle.dns_edit.specs.Rdata.{DataApart}
 use Rattle.dns_section.specs.QuestionsFrom.{questions_from}
 use Rattle.dns_section.specs.RecordsFrom.{records_from}
-use Rattle.dns_section.specs.Sections.{question_count}
+use Rattle.dns_section.specs.Sections.{question_count, record_count, StartsAt}
+use Rattle.dns_section.specs.declared.section.Section.{Section}
 use Rattle.dns_name.specs.Names.{Labels, NameAt, Fault, FaultAt}
 use Rattle.dns_edit.specs.declared.change.TtlChange.{TtlChange}
 use Rattle.dns_edit.specs.Ttls.{changed, holds_ttl, record_total, with_ttls}
@@ -45,16 +46,21 @@ abbrev pub with_changed_item : TtlChange → Result RecordEntry Fault → Result
 with_changed_item change (Ok x) = Ok (with_changed_ttl change x)
 with_changed_item change (Err f) = Err f
 
--- How the message `c` reads, if `b` is the message before: the header section and the questions read the same, and the records, with which the three sections begin at `start`, read the same but for their TTLs.
-pub record ReadsAlike (change : TtlChange) (b c : List ℕ) (start : ℕ) : Type 0 where
+-- A section begins at the same offset in both, and its records read the same but for their TTLs.
+pub record SectionReadsAlike (change : TtlChange) (b c : List ℕ) (which : Section) (p : ℕ) : Type 0 where
+  pub before : StartsAt which b p
+  pub after : StartsAt which c p
+  pub records : records_from c (record_count which b) p ≡ map (with_changed_item change) (records_from b (record_count which b) p)
+
+-- The message `c` reads as the message `b`: the header section and the questions the same, and each section of records the same but for the TTLs.
+pub record ReadsAlike (change : TtlChange) (b c : List ℕ) : Type 0 where
   pub header : take header_size c ≡ take header_size b
   pub questions : questions_from c (question_count b) header_size ≡ questions_from b (question_count b) header_size
-  pub records : records_from c (record_total b) start ≡ map (with_changed_item change) (records_from b (record_total b) start)
+  pub sections : (which : Section) → (p : ℕ) × SectionReadsAlike change b c which p
 
 -- A message whose TTLs were changed in place reads as before but for the TTLs.
 abbrev pub ChangedReadsAlike : Type 0
-ChangedReadsAlike = (change : TtlChange) (b fields : List ℕ) → AreOctets b → (avoid : NamesAvoid b fields)
-    → ReadsAlike change b (with_ttls change fields b) avoid.start
+ChangedReadsAlike = (change : TtlChange) (b fields : List ℕ) → AreOctets b → NamesAvoid b fields → ReadsAlike change b (with_ttls change fields b)
 
 -- The RDATA from `start` to `end` has the same octets in both, and reads the same: a parser there sees the octets up to `end`, and each name that uses no octet of the fields is encoded for it in both, or in neither.
 pub record DataReadsAlike (b c fields : List ℕ) (start end : ℕ) : Type 0 where

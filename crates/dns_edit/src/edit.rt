@@ -4,7 +4,7 @@ ghost use Rattle.dns_item.specs.Items.{SkipsRecord};
 ghost use Rattle.dns_name.specs.Names.{fault_of};
 ghost use Rattle.dns_read.specs.Message.{message_octets};
 ghost use Rattle.dns_section.specs.Reading.{Skipped};
-ghost use Rattle.dns_section.specs.Sections.{AnswersStart, question_count};
+ghost use Rattle.dns_section.specs.Sections.{question_count};
 ghost use Rattle.dns_edit.specs.Acceptance.{AcceptsFrom, AcceptsTtls, RefusesTtls};
 ghost use Rattle.dns_edit.specs.Edits.{ChangesTtls, IsLeastTtl, RecordsFault, least_with};
 ghost use Rattle.dns_edit.specs.Marks.{MarksLabels};
@@ -69,8 +69,8 @@ fn lesser(least: Option<u32>, rtype: u16, ttl: u32) -> Option<u32>
 
 /// Lowers each TTL by `seconds`, but not below 0, as [`change_ttls`] does.
 pub fn age_ttls<Octs: OctetsMut>(message: &mut Message<Octs>, seconds: u32) -> Result<(), EditError>
-    ensures reads { OnOk result ((start : ℕ) × AnswersStart (message_octets message.old) start
-        × ReadsAlike (Age seconds) (message_octets message.old) (message_octets message.new) start) }
+    ensures reads { OnOk result (ReadsAlike (Age seconds) (message_octets message.old)
+        (message_octets message.new)) }
     ensures changes { OnOk result (ChangesTtls (Age seconds) (message_octets message.old)
         (message_octets message.new)) }
     ensures accepted { OnOk result (AcceptsTtls (message_octets message.old)) }
@@ -82,8 +82,8 @@ pub fn age_ttls<Octs: OctetsMut>(message: &mut Message<Octs>, seconds: u32) -> R
 
 /// Lowers each TTL of more than `most` seconds to `most`, as [`change_ttls`] does.
 pub fn cap_ttls<Octs: OctetsMut>(message: &mut Message<Octs>, most: u32) -> Result<(), EditError>
-    ensures reads { OnOk result ((start : ℕ) × AnswersStart (message_octets message.old) start
-        × ReadsAlike (Cap most) (message_octets message.old) (message_octets message.new) start) }
+    ensures reads { OnOk result (ReadsAlike (Cap most) (message_octets message.old)
+        (message_octets message.new)) }
     ensures changes { OnOk result (ChangesTtls (Cap most) (message_octets message.old)
         (message_octets message.new)) }
     ensures accepted { OnOk result (AcceptsTtls (message_octets message.old)) }
@@ -102,10 +102,10 @@ pub fn change_ttls<Octs: OctetsMut>(
     message: &mut Message<Octs>,
     change: TtlChange,
 ) -> Result<(), EditError>
+    ensures reads { OnOk result (ReadsAlike change (message_octets message.old)
+        (message_octets message.new)) }
     ensures changes { OnOk result (ChangesTtls change (message_octets message.old)
         (message_octets message.new)) }
-    ensures reads { OnOk result ((start : ℕ) × AnswersStart (message_octets message.old) start
-        × ReadsAlike change (message_octets message.old) (message_octets message.new) start) }
     ensures accepted { OnOk result (AcceptsTtls (message_octets message.old)) }
     ensures refused { IfErr result (RefusesTtls (message_octets message.old)) }
     ensures kept { OnErr result (message_octets message.new ≡ message_octets message.old) }

@@ -8,7 +8,7 @@ use Rattle.dns_edit.specs.Edits.{NamesAvoid}
 use Rattle.dns_edit.specs.Readings.{AreOctets, ReadsAlike}
 use Rattle.dns_edit.specs.Ttls.{TtlFields, record_total}
 use Rattle.dns_edit.proofs.AcceptLemmas.{names_avoid, questions_rise, records_skipped}
-use Rattle.dns_edit.proofs.EntryLemmas.{fields_of, skipped_by}
+use Rattle.dns_edit.proofs.EntryLemmas.{fields_of}
 use Rattle.dns_edit.proofs.ReadLemmas.{changed_reads_alike}
 use Rattle.dns_edit.proofs.edit.change_ttls.Goals as goal
 
@@ -53,4 +53,4 @@ returns-clause-reads g c =
     let is = c.write_ttls.ensures f.0 (subst (λ n. TtlFields b n start f.0) (sym total) f.1) in
     let bytes : AreOctets b = subst (λ (b : List ℕ). AreOctets b) c.as_slice.ensures.octets c.are_octets.ensures in
     let reads = changed_reads_alike c.args.change b f.0 bytes avoid in
-    (avoid.start, skipped_by (λ p q h. h.0) avoid.questions, subst (λ (after : List ℕ). ReadsAlike c.args.change b after avoid.start) (sym is) reads)
+    subst (λ (after : List ℕ). ReadsAlike c.args.change b after) (sym is) reads
