@@ -1,8 +1,10 @@
 -- RDATA that is read of a message whose TTLs were changed in place.
-use Rattle.std.proofs.Common.{◌≡◌, ◌∙◌, ℕ, zero, suc, ◌+◌, ◌-◌, ◌<◌, ◌≤◌, List, [], ◌∷◌, take, length-take, arith, refl, subst, sym}
-use Rattle.std.specs.Prelude.{Ok, Some, None, slice_get}
+use Rattle.std.proofs.Common.{◌≡◌, ◌∙◌, ℕ, zero, suc, ◌+◌, ◌-◌, ◌<◌, ◌≤◌, List, [], ◌∷◌, take, length-take, inl, inr, arith, refl, subst, sym}
+use Rattle.std.specs.Prelude.{Ok, Err, Some, None, slice_get}
+use Rattle.std.proofs.lemmas.Bool.{cases_lt}
+use Rattle.std.proofs.lemmas.Option.{slice_get_past}
 use Rattle.std.specs.Int.{w16}
-use Rattle.dns_name.specs.Names.{Labels, head_at, NameAt}
+use Rattle.dns_name.specs.Names.{Labels, Fault, Faulty, head_at, NameAt}
 use Rattle.dns_name.specs.Parsers.{number_at}
 use Rattle.dns_name.specs.Unique.{label_head}
 use Rattle.dns_name.specs.declared.head.Head.TheVariants.{Root, Label, Pointer}
@@ -75,6 +77,47 @@ name_cut {b = b} {c = c} e s w (NameAt.label {p = p} {n = n} {name = name} h fit
 name_cut {b = b} e s w (NameAt.pointer h back x) =
     let y = apart_pointer w (lift_pointer b e _ h) in NameAt.pointer (pointer_same (cut_same e s) y.0 h) back (name_cut e s y.1 x)
 
+module _ {fields b c : List ℕ} (e : ℕ) (s : SameApart fields b c) where
+  -- past the end of the RDATA there is nothing in both
+  past_same : (p : ℕ) → e ≤ p → head_at (take e b) p ≡ head_at (take e c) p
+  past_same p l =
+      let n = length-take e b in
+      let m = length-take e c in
+      same_head (take e b) (take e c) p (slice_get_past (take e b) p (omega arith) ∙ sym (slice_get_past (take e c) p (omega arith)))
+      (slice_get_past (take e b) (p + 1) (omega arith) ∙ sym (slice_get_past (take e c) (p + 1) (omega arith)))
+
+  head_fault : {p : ℕ} {f : Fault} → NameApart b fields p → head_at (take e b) p ≡ Err f → head_at (take e c) p ≡ Err f
+  head_fault (NameApart.root {p = p} h a) g = elim (cases_lt p e) [
+    | inl l ↦ let there = root_begins (take e b) p (get_take b e p l ∙ root_there b p h) in cc
+    | inr l ↦ sym (past_same p l) ∙ g
+  ]
+  head_fault (NameApart.label {p = p} {n = n} h a x) g = elim (cases_lt p e) [
+    | inl l ↦
+        let k = label_head b p n h in
+        let there = label_begins (take e b) p n (omega (arith, k.some)) (omega (arith, k.short)) (get_take b e p l ∙ label_there b p n h) in cc
+    | inr l ↦ sym (past_same p l) ∙ g
+  ]
+  head_fault (NameApart.pointer {p = p} h a x) g =
+      let first = s.same p (apart_in fields p (p + 2) p (p + 1) (omega arith) (omega arith) a) in
+      let second = s.same (p + 1) (apart_in fields p (p + 2) (p + 1) (p + 1 + 1) (omega arith) (omega arith) a) in
+      sym (same_head (take e b) (take e c) p (get_cut b c e p first) (get_cut b c e (p + 1) second)) ∙ g
+
+  fault_cut : {p n : ℕ} {f : Fault} → NameApart b fields p → Faulty (take e b) p n f → Faulty (take e c) p n f
+  fault_cut w (Faulty.head h) = Faulty.head (head_fault w h)
+  fault_cut w (Faulty.long h l) = let y = apart_label w (lift_label b e _ h) in Faulty.long (label_same (cut_same e s) y.0 h) l
+  fault_cut w (Faulty.cut h l m) =
+      let y = apart_label w (lift_label b e _ h) in
+      let cut = cut_same e s in
+      let long = cut.long in
+      Faulty.cut (label_same cut y.0 h) l (omega arith)
+  fault_cut w (Faulty.ahead h l) = let y = apart_pointer w (lift_pointer b e _ h) in Faulty.ahead (pointer_same (cut_same e s) y.0 h) l
+  fault_cut w (Faulty.label h l m x) =
+      let y = apart_label w (lift_label b e _ h) in
+      let cut = cut_same e s in
+      let long = cut.long in
+      Faulty.label (label_same cut y.0 h) l (omega arith) (fault_cut y.1 x)
+  fault_cut w (Faulty.pointer h back x) = let y = apart_pointer w (lift_pointer b e _ h) in Faulty.pointer (pointer_same (cut_same e s) y.0 h) back (fault_cut y.1 x)
+
 -- the record after k others
 nth : (b : List ℕ) {fields : List ℕ} {n k start end p q : ℕ} → Split b fields n start → Skipped (RecordApart b fields) n start end → Skipped (SkipsRecord b) k start p → k < n → SkipsRecord b p q
     → (m : ℕ) × Step b fields m p q × RecordApart b fields p q
@@ -104,6 +147,11 @@ rdata_reads_alike change b fields avoid k p q less y s =
       subst (λ r. DataApart b fields (number_at w16 b r) (r + 10) q) e2 apart.2,
       record {
         octets = sym (part_same same (r + 10) (q - (r + 10)) range);
-        names = λ p w name. (name_cut q same w, name_cut q (other_way same) (apart_same same w));
+        names = λ p w.
+            let back = apart_same same w in
+            record {
+              names = λ name. (name_cut q same w, name_cut q (other_way same) back);
+              faults = λ f. (fault_cut q same w, fault_cut q (other_way same) back);
+            };
       },
     )

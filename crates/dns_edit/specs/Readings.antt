@@ -62,10 +62,10 @@ pub record ReadsAlike (change : TtlChange) (b c : List ℕ) : Type 0 where
 abbrev pub ChangedReadsAlike : Type 0
 ChangedReadsAlike = (change : TtlChange) (b fields : List ℕ) → AreOctets b → NamesAvoid b fields → ReadsAlike change b (with_ttls change fields b)
 
--- The RDATA from `start` to `end` has the same octets in both, and reads the same: a parser there sees the octets up to `end`, and each name that uses no octet of the fields is encoded for it in both, or in neither.
+-- The RDATA from `start` to `end` has the same octets in both, and each name that uses no octet of the fields reads the same to a parser that ends with the RDATA.
 pub record DataReadsAlike (b c fields : List ℕ) (start end : ℕ) : Type 0 where
   pub octets : slice_range c start end ≡ slice_range b start end
-  pub names : (p : ℕ) → NameApart b fields p → (name : Labels) → NameAt (take end b) p name ↔ NameAt (take end c) p name
+  pub names : (p : ℕ) → NameApart b fields p → ReadsNameAlike (take end b) (take end c) p
 
 -- That holds of the RDATA of each record of the message: the one after k others.
 abbrev pub RdataReadsAlike : Type 0
