@@ -73,6 +73,18 @@ pub mod message {
     };
 }
 
+/// TTLs of a message, lowered in place, and theorems on what is read of it then.
+///
+/// A response from a cache, `age` seconds after it was stored:
+///
+/// ```rust
+/// age_ttls(&mut response, age).ok()?;
+/// Some(response)
+/// ```
+pub mod edit {
+    pub use dns_edit::{EditError, TtlChange, age_ttls, cap_ttls, change_ttls, laws, min_ttl};
+}
+
 /// Names, in octets and as texts.
 ///
 /// Whether the name at the start of `octets` is `name`, ignoring ASCII case:

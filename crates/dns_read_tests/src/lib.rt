@@ -24,3 +24,5 @@ mod record_iter;
 mod records;
 #[cfg(test)]
 mod searches;
+#[cfg(test)]
+mod ttls;

@@ -1,0 +1,11 @@
+mod SpanLemmas
+mod WalkLemmas
+mod EntryLemmas
+mod AcceptLemmas
+mod OnceLemmas
+mod AgreeLemmas
+mod WriteLemmas
+mod StayLemmas
+mod ReadLemmas
+mod MinLemmas
+mod DataLemmas

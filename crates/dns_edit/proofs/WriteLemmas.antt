@@ -1,0 +1,113 @@
+-- Records whose TTLs are changed one after the other.
+use Rattle.std.proofs.Common.{◌≡◌, ◌∙◌, ℕ, zero, suc, ◌+◌, ◌≤◌, inl, inr, List, [], length, min, replicate, arith, refl, subst, sym, ap, Bool, true, false, get_or}
+use Rattle.std.proofs.lemmas.Bool.{cases_Bool}
+use Rattle.std.proofs.lemmas.List.{length-replicate}
+use Rattle.std.specs.Int.{w16, w32, to_be_bytes}
+use Rattle.dns_name.specs.Names.{Fault, pointer_end}
+use Rattle.dns_name.specs.Parsers.{number_at}
+use Rattle.dns_name.proofs.theory.Names.{one_end}
+use Rattle.dns_item.specs.Items.{SkipsRecord, RecordSkipFaultAt}
+use Rattle.dns_octets.specs.Octets.{overwritten}
+use Rattle.dns_edit.specs.Spans.{Spans}
+use Rattle.dns_edit.specs.declared.span.Span.{Span}
+use Rattle.dns_item.proofs.theory.EntryLemmas.{record_end_or_fault}
+use Rattle.dns_section.specs.Reading.{Skipped}
+use Rattle.dns_section.specs.Reading.Skipped.{more}
+use Rattle.dns_edit.specs.declared.change.TtlChange.{TtlChange}
+use Rattle.dns_edit.specs.Ttls.{TtlFields, WritesTtl, changed, holds_ttl, with_ttl, with_ttls}
+use Rattle.dns_edit.specs.Marks.{MarksLabels}
+use Rattle.dns_edit.proofs.AgreeLemmas.{SameFrom, same_after, skipped_same, ttls_same}
+use Rattle.dns_edit.proofs.EntryLemmas.{long_record}
+use Rattle.dns_edit.proofs.SpanLemmas.{skips_of}
+use Rattle.dns_edit.proofs.StayLemmas.{four}
+
+false_false : (n k : ℕ) → get_or (replicate n false) k false ≡ true → ⊥
+false_false zero k h = cc
+false_false (suc n) zero h = cc
+false_false (suc n) (suc k) h = false_false n k h
+
+-- no mark is set before the first name
+pub none_marked : (b : List ℕ) (n : ℕ) → min (length b) pointer_end ≤ n → MarksLabels b [] (replicate n false)
+none_marked b n l = record {
+  enough = let e = length-replicate n false in omega arith;
+  set = λ t h. absurd (false_false n t h);
+  labels = λ t x. absurd x;
+}
+
+clash : (x : Bool) → x ≡ true → x ≡ false → ⊥
+clash true t f = cc
+clash false t f = cc
+
+pub none_left : {b : List ℕ} {m p : ℕ} {left : List ℕ} → TtlFields b m p left → m ≡ 0 → left ≡ []
+none_left TtlFields.none e = refl
+none_left (TtlFields.held s h rest) e = absurd (omega arith)
+none_left (TtlFields.other s h rest) e = absurd (omega arith)
+
+module _ {change : TtlChange} {b c : List ℕ} {p q : ℕ} (w : WritesTtl change b c p q) where
+  -- the octets after the record stay
+  writes_same : SameFrom b c q
+  writes_same =
+      let l = long_record b w.skips in
+      let high = l.1 in
+      let inside = w.skips.within in
+      let P : List ℕ → Type 0 = λ (c : List ℕ). SameFrom b c q in
+      elim (cases_Bool (holds_ttl (number_at w16 b w.skips.name_end))) [
+        | inl h ↦
+            let n = four (changed change (number_at w32 b (w.skips.name_end + 4))) in
+            subst P (sym (w.held h)) (same_after b (to_be_bytes w32 (changed change (number_at w32 b (w.skips.name_end + 4)))) (w.skips.name_end + 4) q (omega arith) inside)
+        | inr h ↦ subst P (sym (w.other h)) (record { long = refl; octets = refl })
+      ]
+
+  same_end : {r : ℕ} → SkipsRecord b p r → r ≡ q
+  same_end s = (record_end_or_fault b).one p _ q s w.skips
+
+  -- the later records can still be skipped
+  skipped_next : {m end : ℕ} → Skipped (SkipsRecord b) (suc m) p end → Skipped (SkipsRecord c) m q end
+  skipped_next {m = m} {end = end} (more s x) =
+      skipped_same writes_same (omega arith) (subst (λ q. Skipped (SkipsRecord b) m q end) (same_end s) x)
+
+  pub skipped_rest : {n m end : ℕ} → n ≡ suc m → Skipped (SkipsRecord b) n p end → Skipped (SkipsRecord c) m q end
+  skipped_rest {end = end} e x = skipped_next (subst (λ n. Skipped (SkipsRecord b) n p end) e x)
+
+  -- the later TTLs are still to be changed
+  ttls_next : {m : ℕ} {left : List ℕ} → TtlFields b (suc m) p left
+      → (left' : List ℕ) × TtlFields c m q left' × (with_ttls change left' c ≡ with_ttls change left b)
+  ttls_next {m = m} (TtlFields.held {fields = left} s h rest) =
+      let names : s.name_end ≡ w.skips.name_end = one_end b p _ _ s.name_ends w.skips.name_ends in
+      let is : c ≡ with_ttl change (w.skips.name_end + 4) b = w.held (subst (λ n. holds_ttl (number_at w16 b n) ≡ true) names h) in
+      let later = subst (λ q. TtlFields b m q left) (same_end s) rest in
+      (left, ttls_same writes_same (omega arith) later, ap (with_ttls change left) (is ∙ ap (λ n. with_ttl change (n + 4) b) (sym names)))
+  ttls_next {m = m} (TtlFields.other {fields = left} s h rest) =
+      let names : s.name_end ≡ w.skips.name_end = one_end b p _ _ s.name_ends w.skips.name_ends in
+      let is : c ≡ b = w.other (subst (λ n. holds_ttl (number_at w16 b n) ≡ false) names h) in
+      let later = subst (λ q. TtlFields b m q left) (same_end s) rest in
+      (left, ttls_same writes_same (omega arith) later, ap (with_ttls change left) is)
+
+  pub ttls_rest : {n m : ℕ} {left : List ℕ} → n ≡ suc m → TtlFields b n p left
+      → (left' : List ℕ) × TtlFields c m q left' × (with_ttls change left' c ≡ with_ttls change left b)
+  ttls_rest {left = left} e t = ttls_next (subst (λ n. TtlFields b n p left) e t)
+
+pub writes_held : (change : TtlChange) (b : List ℕ) {c : List ℕ} {p : ℕ} {span : Span} {octets : List ℕ} → Spans b p span → holds_ttl span.rtype ≡ true
+    → octets ≡ to_be_bytes w32 (changed change span.ttl) → c ≡ overwritten b (span.fields + 4) octets → WritesTtl change b c p span.end
+writes_held change b {span = span} s h e is = record {
+  skips = skips_of s;
+  held = λ _. is ∙ ap (overwritten b (span.fields + 4)) (e ∙ ap (λ n. to_be_bytes w32 (changed change n)) s.ttl);
+  other = λ f. let t : holds_ttl (number_at w16 b span.fields) ≡ true = ap holds_ttl (sym s.rtype) ∙ h in absurd (clash _ t f);
+}
+
+pub writes_other : (change : TtlChange) (b : List ℕ) {p : ℕ} {span : Span} → Spans b p span → holds_ttl span.rtype ≡ false → WritesTtl change b b p span.end
+writes_other change b {span = span} s h = record {
+  skips = skips_of s;
+  held = λ t. let f : holds_ttl (number_at w16 b span.fields) ≡ false = ap holds_ttl (sym s.rtype) ∙ h in absurd (clash _ t f);
+  other = λ _. refl;
+}
+
+pub never : (change : TtlChange) (b c : List ℕ) {p q end : ℕ} {f : Fault} → SkipsRecord b p end → RecordSkipFaultAt b p f → WritesTtl change b c p q
+never change b c {p = p} {end = end} {f = f} s fault = absurd ((record_end_or_fault b).not_both p end f s fault)
+
+-- the first of the records
+first_of : {b : List ℕ} {m p end : ℕ} → Skipped (SkipsRecord b) (suc m) p end → (q : ℕ) × SkipsRecord b p q
+first_of (more {q = q} s x) = (q, s)
+
+pub first_skips : {b : List ℕ} {n m p end : ℕ} → n ≡ suc m → Skipped (SkipsRecord b) n p end → (q : ℕ) × SkipsRecord b p q
+first_skips {b = b} {p = p} {end = end} e x = first_of (subst (λ n. Skipped (SkipsRecord b) n p end) e x)

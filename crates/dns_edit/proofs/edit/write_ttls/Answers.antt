@@ -1,0 +1,41 @@
+use Rattle.std.proofs.Common.{◌≡◌, ◌∙◌, ◌+◌, ◌-◌, [], suc, arith, refl, sym, ap}
+use Rattle.dns_read.specs.Message.{message_octets}
+use Rattle.dns_edit.specs.Ttls.{with_ttls}
+use Rattle.dns_edit.proofs.WriteLemmas.{none_left, first_skips, skipped_rest, ttls_rest}
+use Rattle.dns_edit.proofs.edit.write_ttls.Goals as goal
+
+pub loop-record-init : goal.loop-record-init
+loop-record-init g c = (c.requires.after_header, (c.args.count, c.requires.skips.0, omega arith, c.requires.skips.1), λ fields t. (c.args.count, fields, omega arith, t, refl))
+
+pub write_ttl-pos-requires-clause-skips : goal.write_ttl-pos-requires-clause-skips
+write_ttl-pos-requires-clause-skips g c =
+    let x = c.loop-record.invariant.1 in
+    let total : c.loop-record._record + x.0 ≡ c.args.count = x.2 in
+    first_skips (let e : x.0 ≡ suc (x.0 - 1) = omega arith in e) x.3
+
+pub loop-record-preserved : goal.loop-record-preserved
+loop-record-preserved g c =
+    let x = c.loop-record.invariant.1 in
+    let w = c.write_ttl-pos.ensures.writes in
+    let from = c.loop-record.invariant.0 in
+    let later = c.write_ttl-pos.ensures.later in
+    let total : c.loop-record._record + x.0 ≡ c.args.count = x.2 in
+    let e : x.0 ≡ suc (x.0 - 1) = omega arith in (
+      omega arith,
+      (x.0 - 1, x.1, omega arith, skipped_rest w e x.3),
+      λ fields t.
+          let y = c.loop-record.invariant.2 fields t in
+          let sum : c.loop-record._record + y.0 ≡ c.args.count = y.2 in
+          let e' : y.0 ≡ suc (y.0 - 1) = omega arith in
+          let z = ttls_rest w e' y.3 in
+          (y.0 - 1, z.0, omega arith, z.1, z.2 ∙ y.4),
+    )
+
+pub returns : goal.returns
+returns g c =
+    λ fields t.
+    let y = c.loop-record.invariant.2 fields t in
+    let sum : c.loop-record._record + y.0 ≡ c.args.count = y.2 in
+    let none : y.0 ≡ 0 = omega arith in
+    let e : y.1 ≡ [] = none_left y.3 none in
+    ap (λ left. with_ttls c.args.change left (message_octets c.loop-record.message)) (sym e) ∙ y.4

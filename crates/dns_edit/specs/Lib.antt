@@ -1,0 +1,9 @@
+pub mod Ttls
+pub mod Uses
+pub mod Rdata
+pub mod Pointers
+pub mod Marks
+pub mod Acceptance
+pub mod Spans
+pub mod Edits
+pub mod Readings

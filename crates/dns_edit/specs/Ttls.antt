@@ -1,0 +1,45 @@
+-- The TTL fields of a message, and what becomes of them.
+use Rattle.std.specs.Prelude.{◌≡◌, ℕ, suc, ◌+◌, ◌-◌, List, [], ◌∷◌, Bool, true, false, cond, nat_eq, min}
+use Rattle.std.specs.Int.{w16, w32, to_be_bytes}
+use Rattle.dns_octets.specs.Octets.{overwritten}
+use Rattle.dns_name.specs.Parsers.{number_at}
+use Rattle.dns_item.specs.Items.{SkipsRecord}
+use Rattle.dns_section.specs.Sections.{answer_count, authority_count, additional_count}
+use Rattle.dns_edit.specs.declared.change.TtlChange.{TtlChange}
+use Rattle.dns_edit.specs.declared.change.TtlChange.TheVariants.{Age, Cap}
+
+-- A TTL after a change: lowered by some seconds but not below 0, or at most some seconds.
+abbrev pub changed : TtlChange → ℕ → ℕ
+changed (Age by) ttl = ttl - by
+changed (Cap most) ttl = min ttl most
+
+-- Whether the TTL field of a record of this type holds a TTL. It doesn't in OPT (RFC 6891 section 6.1.3), nor in TSIG (RFC 8945 section 4.2) and SIG, which only SIG(0) still uses (RFC 2931, RFC 3755 section 3): these two are of the message and are never cached.
+abbrev pub holds_ttl : ℕ → Bool
+holds_ttl rtype = cond (nat_eq rtype 41) false (cond (nat_eq rtype 24) false (cond (nat_eq rtype 250) false true))
+
+-- The number of records in the three sections.
+abbrev pub record_total : List ℕ → ℕ
+record_total b = answer_count b + authority_count b + additional_count b
+
+-- The offsets of the TTL fields that hold a TTL, among n consecutive records from offset p on, in order.
+pub data TtlFields (b : List ℕ) : ℕ → ℕ → List ℕ → Type 0 where
+  none : {p : ℕ} → TtlFields b 0 p []
+  held : {n p q : ℕ} {fields : List ℕ} (s : SkipsRecord b p q) → holds_ttl (number_at w16 b s.name_end) ≡ true
+      → TtlFields b n q fields → TtlFields b (suc n) p ((s.name_end + 4) ∷ fields)
+  other : {n p q : ℕ} {fields : List ℕ} (s : SkipsRecord b p q) → holds_ttl (number_at w16 b s.name_end) ≡ false
+      → TtlFields b n q fields → TtlFields b (suc n) p fields
+
+-- The octets with the TTL at offset f changed.
+abbrev pub with_ttl : TtlChange → ℕ → List ℕ → List ℕ
+with_ttl change f b = overwritten b f (to_be_bytes w32 (changed change (number_at w32 b f)))
+
+-- The octets with the TTL in each of these fields changed. All other octets stay.
+abbrev pub with_ttls : TtlChange → List ℕ → List ℕ → List ℕ
+with_ttls change [] b = b
+with_ttls change (f ∷ fields) b = with_ttls change fields (with_ttl change f b)
+
+-- Of octets `b`, `c` has the TTL of the record from p to q changed, if it has one, and all other octets.
+pub record WritesTtl (change : TtlChange) (b c : List ℕ) (p q : ℕ) : Type 0 where
+  pub skips : SkipsRecord b p q
+  pub held : holds_ttl (number_at w16 b skips.name_end) ≡ true → c ≡ with_ttl change (skips.name_end + 4) b
+  pub other : holds_ttl (number_at w16 b skips.name_end) ≡ false → c ≡ b

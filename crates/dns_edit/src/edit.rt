@@ -1,0 +1,205 @@
+ghost use Rattle.std.specs.Prelude.{◌≡◌, ◌≤◌, ℕ, List, [], IfErr, IfOk, OnErr, OnOk, cond, length};
+ghost use Rattle.dns_code.specs.HeaderSection.{header_size};
+ghost use Rattle.dns_item.specs.Items.{SkipsRecord};
+ghost use Rattle.dns_name.specs.Names.{fault_of};
+ghost use Rattle.dns_read.specs.Message.{message_octets};
+ghost use Rattle.dns_section.specs.Reading.{Skipped};
+ghost use Rattle.dns_section.specs.Sections.{question_count};
+ghost use Rattle.dns_edit.specs.Acceptance.{AcceptsFrom, AcceptsTtls, RefusesTtls};
+ghost use Rattle.dns_edit.specs.Edits.{ChangesTtls, IsLeastTtl, RecordsFault, least_with};
+ghost use Rattle.dns_edit.specs.Marks.{MarksLabels};
+ghost use Rattle.dns_edit.specs.Readings.{AreOctets, ReadsAlike};
+ghost use Rattle.dns_edit.specs.Ttls.{TtlFields, WritesTtl, holds_ttl, record_total, with_ttls};
+ghost use Rattle.dns_edit.specs.declared.change.TtlChange.TheVariants.{Age, Cap};
+
+use crate::change::{TtlChange, has_ttl};
+use crate::entries::{check_questions, check_records};
+use crate::error::EditError;
+use crate::labels::POINTER_END;
+use crate::span::span_at;
+use dns_code::HeaderCounts;
+use dns_item::Ttl;
+use dns_octets::{Octets, OctetsMut, ParseError};
+use dns_read::Message;
+
+/// A message of at most so many octets takes a smaller array of marks.
+const SHORT: usize = 1_232;
+
+/// The least TTL of the message's records, or `None` if it has none.
+///
+/// The records of the three sections count, but for OPT, TSIG and SIG, which have no TTL. Returns
+/// the error of the first entry that can't be skipped.
+pub fn min_ttl<Octs: Octets>(message: &Message<Octs>) -> Result<Option<Ttl>, ParseError>
+    ensures least { IfOk result (IsLeastTtl (message_octets message.now)) }
+    ensures fault { IfErr result (λ e. RecordsFault (message_octets message.now) (fault_of e)) }
+{
+    let octets = message.as_slice();
+    let start = message.answer()?.pos();
+    let mut pos = start;
+    let mut least = None;
+    for _record in 0..record_count(octets) {
+        let span = span_at(octets, pos)?;
+        least = lesser(least, span.rtype, span.ttl);
+        pos = span.end;
+    }
+    Ok(ttl_of(least))
+}
+
+fn ttl_of(seconds: Option<u32>) -> Option<Ttl>
+    ensures { result ≡ seconds }
+{
+    match seconds {
+        None => None,
+        Some(seconds) => Some(Ttl::from_secs(seconds)),
+    }
+}
+
+/// The least of the TTLs so far and that of a record of this type, if it has one.
+fn lesser(least: Option<u32>, rtype: u16, ttl: u32) -> Option<u32>
+    ensures { result ≡ cond (holds_ttl rtype) (least_with ttl least) least }
+{
+    if !has_ttl(rtype) {
+        return least;
+    }
+    match least {
+        None => Some(ttl),
+        Some(least) => Some(ttl.min(least)),
+    }
+}
+
+/// Lowers each TTL by `seconds`, but not below 0, as [`change_ttls`] does.
+pub fn age_ttls<Octs: OctetsMut>(message: &mut Message<Octs>, seconds: u32) -> Result<(), EditError>
+    ensures reads { OnOk result (ReadsAlike (Age seconds) (message_octets message.old)
+        (message_octets message.new)) }
+    ensures changes { OnOk result (ChangesTtls (Age seconds) (message_octets message.old)
+        (message_octets message.new)) }
+    ensures accepted { OnOk result (AcceptsTtls (message_octets message.old)) }
+    ensures refused { IfErr result (RefusesTtls (message_octets message.old)) }
+    ensures kept { OnErr result (message_octets message.new ≡ message_octets message.old) }
+{
+    change_ttls(message, TtlChange::Age(seconds))
+}
+
+/// Lowers each TTL of more than `most` seconds to `most`, as [`change_ttls`] does.
+pub fn cap_ttls<Octs: OctetsMut>(message: &mut Message<Octs>, most: u32) -> Result<(), EditError>
+    ensures reads { OnOk result (ReadsAlike (Cap most) (message_octets message.old)
+        (message_octets message.new)) }
+    ensures changes { OnOk result (ChangesTtls (Cap most) (message_octets message.old)
+        (message_octets message.new)) }
+    ensures accepted { OnOk result (AcceptsTtls (message_octets message.old)) }
+    ensures refused { IfErr result (RefusesTtls (message_octets message.old)) }
+    ensures kept { OnErr result (message_octets message.new ≡ message_octets message.old) }
+{
+    change_ttls(message, TtlChange::Cap(most))
+}
+
+/// Changes the TTL of each record in place, but for OPT, TSIG and SIG. No other octet changes.
+///
+/// All names of the message read as before. If a pointer leads to anything but a label of an
+/// earlier name, or a question or record can't be skipped, it returns an error, and the message
+/// stays as it is. It reads the message twice, follows no pointer, and allocates nothing.
+pub fn change_ttls<Octs: OctetsMut>(
+    message: &mut Message<Octs>,
+    change: TtlChange,
+) -> Result<(), EditError>
+    ensures reads { OnOk result (ReadsAlike change (message_octets message.old)
+        (message_octets message.new)) }
+    ensures changes { OnOk result (ChangesTtls change (message_octets message.old)
+        (message_octets message.new)) }
+    ensures accepted { OnOk result (AcceptsTtls (message_octets message.old)) }
+    ensures refused { IfErr result (RefusesTtls (message_octets message.old)) }
+    ensures kept { OnErr result (message_octets message.new ≡ message_octets message.old) }
+{
+    are_octets(message.as_slice());
+    let start = check(message.as_slice())?;
+    let count = record_count(message.as_slice());
+    write_ttls(message, start, count, change);
+    Ok(())
+}
+
+/// What is in a slice of octets is octets.
+fn are_octets(octets: &[u8])
+    ensures { AreOctets octets.now }
+{
+    let _len = octets.len();
+}
+
+/// The number of questions.
+fn questions_in(octets: &[u8]) -> u16
+    requires { header_size ≤ length octets.now }
+    ensures { result ≡ question_count octets.now }
+{
+    HeaderCounts::for_message_slice(octets).qdcount()
+}
+
+/// The number of records in the three sections.
+fn record_count(octets: &[u8]) -> u32
+    requires { header_size ≤ length octets.now }
+    ensures { result ≡ record_total octets.now }
+{
+    let counts = HeaderCounts::for_message_slice(octets);
+    u32::from(counts.ancount()) + u32::from(counts.nscount()) + u32::from(counts.arcount())
+}
+
+/// Walks over all names. Returns the offset where the records begin.
+fn check(octets: &[u8]) -> Result<usize, EditError>
+    requires { header_size ≤ length octets.now }
+    ensures accepts { IfOk result (AcceptsFrom octets.now) }
+    ensures refuses { IfErr result (RefusesTtls octets.now) }
+{
+    if octets.len() <= SHORT {
+        check_with(octets, &mut [false; SHORT])
+    } else {
+        check_with(octets, &mut [false; POINTER_END])
+    }
+}
+
+/// The same, with no mark set.
+fn check_with(octets: &[u8], marks: &mut [bool]) -> Result<usize, EditError>
+    requires long { header_size ≤ length octets.now }
+    requires none { MarksLabels octets.now [] marks.old }
+    ensures accepts { IfOk result (AcceptsFrom octets.now) }
+    ensures refuses { IfErr result (RefusesTtls octets.now) }
+{
+    let start = check_questions(octets, 12, questions_in(octets), marks)?;
+    check_records(octets, start, record_count(octets), marks)?;
+    Ok(start)
+}
+
+/// Changes the TTLs of `count` records from offset `start` on, which are known to be there.
+fn write_ttls<Octs: OctetsMut>(
+    message: &mut Message<Octs>,
+    start: usize,
+    count: u32,
+    change: TtlChange,
+)
+    requires after_header { header_size ≤ start }
+    requires skips { (end : ℕ)
+        × Skipped (SkipsRecord (message_octets message.old)) count start end }
+    ensures { (fields : List ℕ) → TtlFields (message_octets message.old) count start fields
+        → message_octets message.new ≡ with_ttls change fields (message_octets message.old) }
+{
+    let mut pos = start;
+    for _record in 0..count {
+        pos = write_ttl(message, pos, change);
+    }
+}
+
+/// Changes the TTL of the record at offset `start`, which is known to be there. Returns its end.
+fn write_ttl<Octs: OctetsMut>(message: &mut Message<Octs>, start: usize, change: TtlChange) -> usize
+    requires after_header { header_size ≤ start }
+    requires skips { (end : ℕ) × SkipsRecord (message_octets message.old) start end }
+    ensures writes { WritesTtl change (message_octets message.old) (message_octets message.new) start
+        result }
+    ensures later { start ≤ result }
+{
+    match span_at(message.as_slice(), start) {
+        Ok(span) => {
+            if has_ttl(span.rtype) {
+                message.overwrite(span.fields + 4, &change.of(span.ttl).to_be_bytes());
+            }
+            span.end
+        }
+        Err(_error) => start,
+    }
+}

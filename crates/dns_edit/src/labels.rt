@@ -1,0 +1,62 @@
+ghost use Rattle.std.specs.Prelude.{◌≡◌, ◌≤◌, ◌<◌, ◌↔◌, ℕ, List, ◌∷◌, IfErr, IfOk, IsTrue, false, get_or, length, slice_set, true};
+ghost use Rattle.dns_name.specs.Names.{NameEndsAt};
+ghost use Rattle.dns_edit.specs.Marks.{MarksLabels};
+ghost use Rattle.dns_edit.specs.Pointers.{AcceptsName, RefusesName};
+
+use crate::error::EditError;
+use crate::head::head_after;
+use dns_name::Head;
+
+/// The range of pointers.
+pub(crate) const POINTER_END: usize = 16_384;
+
+/// Marks offset `at`, if there is a mark for it.
+fn mark(marks: &mut [bool], at: usize)
+    ensures { marks.new ≡ slice_set marks.old at true }
+{
+    if at < marks.len() {
+        marks[at] = true;
+    }
+}
+
+/// Whether offset `target` is before `start`, and marked.
+fn is_marked_before(marks: &[bool], target: usize, start: usize) -> bool
+    ensures { IsTrue result ↔ ((target < start) × (get_or marks.now target false ≡ true)) }
+{
+    target < start && target < marks.len() && marks[target]
+}
+
+/// Walks over the encoding of the name at offset `start`, and returns its end.
+///
+/// `marks` are set at the offsets of the labels of the names before. Those of this name are added.
+/// A pointer must lead to a label of a name before.
+pub(crate) fn walk_name(octets: &[u8], start: usize, marks: &mut [bool]) -> Result<usize, EditError>
+    ensures ends { IfOk result (λ end. NameEndsAt octets.now start end) }
+    ensures within { IfOk result (λ end. end ≤ length octets.now) }
+    ensures accepts { IfOk result (λ end. (names : List ℕ)
+        → MarksLabels octets.now names marks.old
+        → AcceptsName octets.now names start end (start ∷ names)
+        × MarksLabels octets.now (start ∷ names) marks.new) }
+    ensures refuses { IfErr result (λ e. (names : List ℕ)
+        → MarksLabels octets.now names marks.old → RefusesName octets.now names start e) }
+{
+    let mut pos = start;
+    let mut size = 0;
+    'walk: loop {
+        match head_after(octets, pos, size)? {
+            Head::Root => return Ok(pos + 1),
+            Head::Label(len) => {
+                mark(marks, pos);
+                let taken = usize::from(len) + 1;
+                size += taken;
+                pos += taken;
+            }
+            Head::Pointer(target) => {
+                if is_marked_before(marks, usize::from(target), start) {
+                    return Ok(pos + 2);
+                }
+                return Err(EditError::Pointer);
+            }
+        }
+    }
+}

@@ -1,0 +1,26 @@
+//! Theorems on messages whose TTLs are changed in place. The functions do nothing: each contract is
+//! a theorem.
+ghost use Rattle.dns_edit.specs.Acceptance.{NeverBoth};
+ghost use Rattle.dns_edit.specs.Readings.{ChangedReadsAlike, NamesReadAlike, RdataReadsAlike};
+
+/// A name that uses no octet of the TTL fields reads the same after the TTLs are changed.
+pub fn names_read_alike()
+    ensures { NamesReadAlike }
+{}
+
+/// A message whose TTLs were changed in place reads as before but for the TTLs.
+pub fn changed_reads_alike()
+    ensures { ChangedReadsAlike }
+{}
+
+/// The RDATA of each record of such a message has the same octets as before, and its names read the
+/// same.
+pub fn rdata_reads_alike()
+    ensures { RdataReadsAlike }
+{}
+
+/// No message is both accepted and refused. So [`crate::change_ttls`] succeeds exactly where the
+/// message is accepted, and returns an error exactly where it is refused.
+pub fn never_both()
+    ensures { NeverBoth }
+{}

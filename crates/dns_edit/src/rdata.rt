@@ -1,0 +1,53 @@
+ghost use Rattle.std.specs.Prelude.{◌≡◌, ◌≤◌, ◌+◌, length};
+ghost use Rattle.dns_edit.specs.Rdata.{octets_before, name_count, names_start, string_end};
+
+/// How many octets the RDATA of a record of this type has before its names.
+fn octets_before_names(rtype: u16) -> usize
+    ensures value { result ≡ octets_before rtype }
+    ensures bound { result ≤ 18 }
+{
+    match rtype {
+        15 | 18 | 21 | 26 | 36 => 2,
+        24 => 18,
+        33 => 6,
+        _ => 0,
+    }
+}
+
+/// How many consecutive names the RDATA of a record of this type then has.
+pub(crate) fn names_in(rtype: u16) -> u8
+    ensures { result ≡ name_count rtype }
+{
+    match rtype {
+        2 | 3 | 4 | 5 | 7 | 8 | 9 | 12 | 15 | 18 | 21 | 24 | 30 | 33 | 35 | 36 | 39 => 1,
+        6 | 14 | 17 | 26 => 2,
+        _ => 0,
+    }
+}
+
+/// The end of the character string at offset `at`.
+fn end_of_string(octets: &[u8], at: usize) -> usize
+    requires { at ≤ length octets.now + 1000 }
+    ensures end { result ≡ string_end octets.now at }
+    ensures low { at ≤ result }
+    ensures high { result ≤ at + 256 }
+{
+    match octets.get(at) {
+        Some(len) => at + 1 + usize::from(*len),
+        None => at + 1,
+    }
+}
+
+/// Where the names begin in RDATA of this type that begins at `start`.
+pub(crate) fn names_offset(octets: &[u8], rtype: u16, start: usize) -> usize
+    requires { start ≤ length octets.now }
+    ensures value { result ≡ names_start octets.now rtype start }
+    ensures low { start ≤ result }
+{
+    if rtype == 35 {
+        let flags = end_of_string(octets, start + 4);
+        let services = end_of_string(octets, flags);
+        return end_of_string(octets, services);
+    }
+    start + octets_before_names(rtype)
+}
