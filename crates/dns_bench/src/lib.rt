@@ -6,6 +6,7 @@
 //! 0 if a name is malformed, an allocation fails, or `out` is too short.
 #![tactic(auto)]
 
+mod edit;
 mod messages;
 mod names;
 mod walk;
@@ -182,4 +183,11 @@ pub extern "C" fn dns_bench_zone(
     ensures { HandsOut out.old out.new result }
 {
     write_with(alloc, Kind::Zone, target, work, out)
+}
+
+/// Lowers the TTLs of a copy of a message by a second, `rounds` times. Returns its length, or 0 if the
+/// octets are no message, or its TTLs can't be changed in place.
+#[unsafe(no_mangle)]
+pub extern "C" fn dns_bench_age(alloc: Global, octets: &[u8], rounds: usize) -> usize {
+    edit::age(alloc, octets, rounds).unwrap_or(0)
 }

@@ -1,0 +1,102 @@
+/* The tasks with the packets of libknot. They allocate from a pool that only counts up, instead of the pools of libknot's own
+ * server. The hint says where the owner was written: libknot's server knows it for the owner of the question. */
+
+#include "tasks.h"
+
+#include <libknot/libknot.h>
+#include <stdio.h>
+#include <stdlib.h>
+
+enum { POOL = 1 << 20 };
+
+static _Alignas(16) uint8_t pool[POOL];
+static size_t pool_used;
+static uint8_t out[ROOM];
+static knot_rrset_t addresses[ADDRESSES], owners[OWNERS];
+static knot_dname_t *www, *parent;
+
+static void *take(void *context, size_t len)
+{
+    (void)context;
+    len = (len + 15) & ~(size_t)15;
+    if (len > POOL - pool_used)
+        return NULL;
+    pool_used += len;
+    return pool + pool_used - len;
+}
+
+static void give_back(void *block)
+{
+    (void)block;
+}
+
+static knot_mm_t memory = {NULL, take, give_back};
+
+static void set_address(knot_rrset_t *record, const char *owner, uint32_t ttl, const uint8_t *octets)
+{
+    knot_rrset_init(record, knot_dname_from_str_alloc(owner), KNOT_RRTYPE_A, KNOT_CLASS_IN, ttl);
+    if (knot_rrset_add_rdata(record, octets, 4, NULL) != KNOT_EOK)
+        abort();
+}
+
+void prepare(void)
+{
+    www = knot_dname_from_str_alloc("www.example.com.");
+    parent = knot_dname_from_str_alloc("sub.example.com.");
+    for (int i = 0; i < ADDRESSES; i++)
+        set_address(&addresses[i], "www.example.com.", ADDRESS_TTL, (const uint8_t[]){192, 0, 2, (uint8_t)i});
+    for (int i = 0; i < OWNERS; i++) {
+        char owner[32];
+        snprintf(owner, sizeof owner, "h%d.sub.example.com.", i);
+        set_address(&owners[i], owner, OWNER_TTL, (const uint8_t[]){10, 0, (uint8_t)(i / 256), (uint8_t)i});
+    }
+}
+
+/* Writes a question and records with a new packet over `out`. Returns the length, or 0 on failure. */
+static size_t write_packet(const knot_dname_t *asked, const knot_rrset_t *records, int count, uint16_t hint, uint16_t room)
+{
+    pool_used = 0;
+    knot_pkt_t *packet = knot_pkt_new(out, room, &memory);
+    knot_pkt_clear(packet);
+    packet->max_size = room;
+    knot_wire_set_id(packet->wire, 1);
+    knot_wire_set_qr(packet->wire);
+    if (knot_pkt_put_question(packet, asked, KNOT_CLASS_IN, KNOT_RRTYPE_A) != KNOT_EOK ||
+        knot_pkt_begin(packet, KNOT_ANSWER) != KNOT_EOK)
+        return 0;
+    for (int i = 0; i < count; i++)
+        if (knot_pkt_put(packet, hint, &records[i], 0) != KNOT_EOK)
+            return 0;
+    return packet->size;
+}
+
+static size_t run_hinted(uint64_t times)
+{
+    size_t len = 0;
+    for (uint64_t n = 0; n < times; n++)
+        len = write_packet(www, addresses, ADDRESSES, KNOT_COMPR_HINT_QNAME, 1232);
+    return len;
+}
+
+static size_t run_addresses(uint64_t times)
+{
+    size_t len = 0;
+    for (uint64_t n = 0; n < times; n++)
+        len = write_packet(www, addresses, ADDRESSES, KNOT_COMPR_HINT_NONE, 1232);
+    return len;
+}
+
+static size_t run_owners(uint64_t times)
+{
+    size_t len = 0;
+    for (uint64_t n = 0; n < times; n++)
+        len = write_packet(parent, owners, OWNERS, KNOT_COMPR_HINT_NONE, ROOM);
+    return len;
+}
+
+const struct task tasks[] = {
+    {"20 addresses", "knot_pkt_put, QNAME hint", run_hinted},
+    {"20 addresses", "knot_pkt_put, no hint", run_addresses},
+    {"500 owners", "knot_pkt_put, no hint", run_owners},
+    {NULL, NULL, NULL},
+};

@@ -1,0 +1,53 @@
+/* The tasks with calls for users of Rattle, by the exports of crates/dns_bench. */
+
+#include "tasks.h"
+
+#include <stdio.h>
+#include <stdlib.h>
+#include <string.h>
+
+size_t dns_bench_age(const uint8_t *octets, size_t octets_len, size_t rounds);
+
+/* A message of inputs.py. */
+struct input {
+    uint8_t octets[1 << 16];
+    size_t len;
+};
+
+static struct input w2, f64;
+
+static unsigned digit(char c)
+{
+    return c <= '9' ? (unsigned)(c - '0') : (unsigned)(c - 'a' + 10);
+}
+
+/* Reads the message of a workload from the lines of inputs.py, which the variable INPUTS names. */
+static void load(const char *workload, struct input *input)
+{
+    static char digits[1 << 18];
+    char found[16], sum[32];
+    FILE *file = fopen(getenv("INPUTS"), "r");
+    while (file && fscanf(file, "%15s %31s %262143s", found, sum, digits) == 3)
+        if (!strcmp(found, workload)) {
+            input->len = strlen(digits) / 2;
+            for (size_t i = 0; i < input->len; i++)
+                input->octets[i] = (uint8_t)(digit(digits[2 * i]) << 4 | digit(digits[2 * i + 1]));
+        }
+    if (file)
+        fclose(file);
+}
+
+void prepare(void)
+{
+    load("w2", &w2);
+    load("f64", &f64);
+}
+
+static size_t run_age_w2(uint64_t times) { return dns_bench_age(w2.octets, w2.len, times); }
+static size_t run_age_f64(uint64_t times) { return dns_bench_age(f64.octets, f64.len, times); }
+
+const struct task tasks[] = {
+    {"TTLs of w2", "age_ttls", run_age_w2},
+    {"TTLs of 64 KiB", "age_ttls", run_age_f64},
+    {NULL, NULL, NULL},
+};

@@ -1,0 +1,72 @@
+/* Times the tasks of one library. README.md says what they are.
+ *
+ *     tasks LIBRARY               prints a row for each task
+ *     tasks LIBRARY -n N TASK     does one of them N times, counted from 0, for an instruction counter
+ */
+
+#include "tasks.h"
+
+#include <stdio.h>
+#include <stdlib.h>
+#include <string.h>
+#include <time.h>
+
+enum { RUNS = 50 };
+
+/* The processor time in nanoseconds, which other work on the machine affects less. */
+static double now(void)
+{
+    struct timespec t;
+    clock_gettime(CLOCK_PROCESS_CPUTIME_ID, &t);
+    return t.tv_sec * 1e9 + t.tv_nsec;
+}
+
+/* How many times the task has to be done to take some 10 ms. */
+static uint64_t times_for(const struct task *task)
+{
+    for (uint64_t times = 1;; times *= 2) {
+        double start = now();
+        task->run(times);
+        if (now() - start > 10e6)
+            return times;
+    }
+}
+
+/* The least time of one, of some runs. */
+static double least(const struct task *task)
+{
+    double found = 1e300;
+    uint64_t times = times_for(task);
+    for (int i = 0; i < RUNS; i++) {
+        double start = now();
+        task->run(times);
+        double taken = (now() - start) / (double)times;
+        if (taken < found)
+            found = taken;
+    }
+    return found;
+}
+
+static void report(const char *library, const struct task *task)
+{
+    size_t len = task->run(1);
+    if (len == 0)
+        printf("%-14s  %-20s  %-26s  FAILED\n", library, task->work, task->way);
+    else
+        printf("%-14s  %-20s  %-26s  %10.0f  %8zu\n", library, task->work, task->way, least(task), len);
+    fflush(stdout);
+}
+
+int main(int argc, char **argv)
+{
+    if (argc != 2 && !(argc == 5 && !strcmp(argv[2], "-n"))) {
+        fprintf(stderr, "tasks: LIBRARY, or LIBRARY -n N TASK\n");
+        return 2;
+    }
+    prepare();
+    if (argc == 5)
+        return tasks[atoi(argv[4])].run(strtoull(argv[3], NULL, 10)) == 0;
+    for (const struct task *task = tasks; task->run; task++)
+        report(argv[1], task);
+    return 0;
+}

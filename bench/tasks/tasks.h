@@ -1,0 +1,33 @@
+/* What times a task (tasks.c) needs of each library: a list of tasks, each done by one call. */
+
+#ifndef TASKS_H
+#define TASKS_H
+
+#include <stddef.h>
+#include <stdint.h>
+
+/* A task: what is done, the way in which this library does it, and a call that does it `times` times. The call returns
+ * the length in octets of what the task makes, or 0 on failure. */
+struct task {
+    const char *work, *way;
+    size_t (*run)(uint64_t times);
+};
+
+/* The tasks of a library, up to one without a call. */
+extern const struct task tasks[];
+
+/* Prepares what the tasks use, such as names in wire format. */
+void prepare(void);
+
+/* The messages that are written: a question and 20 addresses of one owner, and a question and 500 addresses of different
+ * owners, as dig would show them:
+ *
+ *     www.example.com.          A     the question of the first
+ *     www.example.com.    300   A     192.0.2.0 to 192.0.2.19
+ *
+ *     sub.example.com.          A     the question of the second
+ *     h0.sub.example.com. 3600  A     10.0.0.0, and so on up to h499
+ */
+enum { ADDRESSES = 20, OWNERS = 500, ADDRESS_TTL = 300, OWNER_TTL = 3600, ROOM = 65535 };
+
+#endif
