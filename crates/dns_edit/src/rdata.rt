@@ -1,4 +1,4 @@
-ghost use Rattle.std.specs.Prelude.{◌≡◌, ◌≤◌, ◌+◌, length};
+ghost use Rattle.std.specs.Prelude.{◌≡◌, ◌≤◌, ◌<◌, ◌+◌, ◌^◌, length};
 ghost use Rattle.dns_edit.specs.Rdata.{octets_before, name_count, names_start, string_end};
 
 /// The number of octets before the names in RDATA of this type.
@@ -32,7 +32,7 @@ pub(crate) fn names_in(rtype: u16) -> u8
 
 /// The end of the character string at offset `at`.
 fn end_of_string(octets: &[u8], at: usize) -> usize
-    requires { at ≤ length octets.now + 1000 }
+    requires { at + 256 < 2 ^ 64 }
     ensures end { result ≡ string_end octets.now at }
     ensures low { at ≤ result }
     ensures high { result ≤ at + 256 }
