@@ -1,6 +1,6 @@
 -- Which messages have TTLs that can be changed in place, and with which error the others are refused. RFC 1035 sections 4.1 and 4.1.4.
 --
--- `b` is the octets of the message, and `names` the offsets of the names before: of questions, owners and RDATA. Each name is judged by those before it.
+-- `b` is the octets of the message, and `names` the offsets of the earlier names: of questions, owners and RDATA. Each name is judged by those before it.
 use Rattle.std.specs.Prelude.{◌≡◌, ◌≢◌, ℕ, suc, ◌+◌, ◌<◌, ◌≤◌, List, [], length}
 use Rattle.std.specs.Int.{w16}
 use Rattle.dns_octets.specs.declared.error.ParseError.{ParseError}
@@ -16,7 +16,7 @@ use Rattle.dns_edit.specs.Pointers.{AcceptsName, RefusesName}
 use Rattle.dns_edit.specs.Rdata.{names_start, name_count}
 use Rattle.dns_edit.specs.Ttls.{record_total}
 
--- n consecutive entries from p to q are accepted. `after` are the names and those of the entries.
+-- n consecutive entries from p to q are accepted. `after` is the earlier names and those of the entries.
 pub data AllAccepted (Accepts : List ℕ → ℕ → ℕ → List ℕ → Type 0) : ℕ → List ℕ → ℕ → ℕ → List ℕ → Type 0 where
   none : {p : ℕ} {names : List ℕ} → AllAccepted Accepts 0 names p p names
   more : {n p q r : ℕ} {names mid after : List ℕ} → Accepts names p q mid → AllAccepted Accepts n mid q r after → AllAccepted Accepts (suc n) names p r after

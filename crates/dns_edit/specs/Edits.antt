@@ -1,4 +1,4 @@
--- When the TTLs of a message can be changed in place. RFC 1035 sections 4.1 and 4.1.4.
+-- A change of the TTLs of a message, and the least of them. RFC 1035 sections 4.1 and 4.1.3.
 use Rattle.std.specs.Prelude.{◌≡◌, ℕ, ◌+◌, ◌⊎◌, List, Option, None, Some, [], ◌∷◌, min, map}
 use Rattle.std.specs.Int.{w16, w32}
 use Rattle.dns_name.specs.Parsers.{number_at}
@@ -13,11 +13,11 @@ use Rattle.dns_edit.specs.Ttls.{TtlFields, record_total, with_ttls}
 use Rattle.dns_edit.specs.Uses.{NameApart}
 use Rattle.dns_edit.specs.Rdata.{DataApart}
 
--- A question from p to q, whose name uses no octet of the fields.
+-- A question is from p to q, and its name uses no octet of the fields.
 abbrev pub QuestionApart : List ℕ → List ℕ → ℕ → ℕ → Type 0
 QuestionApart b fields p q = SkipsQuestion b p q × NameApart b fields p
 
--- A record from p to q, whose owner and names in RDATA use no octet of the fields.
+-- A record is from p to q, and its owner and the names in its RDATA use no octet of the fields.
 abbrev pub RecordApart : List ℕ → List ℕ → ℕ → ℕ → Type 0
 RecordApart b fields p q =
     (s : SkipsRecord b p q) × NameApart b fields p × DataApart b fields (number_at w16 b s.name_end) (s.name_end + 10) q
@@ -34,16 +34,17 @@ pub record NamesAvoid (b fields : List ℕ) : Type 0 where
 abbrev pub ChangesTtls : TtlChange → List ℕ → List ℕ → Type 0
 ChangesTtls change b c = (fields : List ℕ) × NamesAvoid b fields × (c ≡ with_ttls change fields b)
 
--- The least of some numbers, or None of none.
+-- The lesser of a number and another, if there is another.
 abbrev pub least_with : ℕ → Option ℕ → Option ℕ
 least_with n None = Some n
 least_with n (Some m) = Some (min n m)
 
+-- The least of some numbers, or None if there are none.
 abbrev pub least : List ℕ → Option ℕ
 least [] = None
 least (n ∷ ns) = least_with n (least ns)
 
--- The least TTL of the message's records.
+-- The least TTL of the message's records, or None if none has a TTL.
 abbrev pub IsLeastTtl : List ℕ → Option ℕ → Type 0
 IsLeastTtl b ttl = (start : ℕ) × (fields : List ℕ) × AnswersStart b start × TtlFields b (record_total b) start fields
     × (ttl ≡ least (map (number_at w32 b) fields))

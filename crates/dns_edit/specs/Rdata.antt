@@ -4,6 +4,7 @@ use Rattle.dns_name.specs.Names.{NameEndsAt}
 use Rattle.dns_section.specs.Reading.{Skipped}
 use Rattle.dns_edit.specs.Uses.{NameApart}
 
+-- Whether a number is in a list.
 abbrev is_among : ℕ → List ℕ → Bool
 is_among n [] = false
 is_among n (m ∷ ms) = cond (nat_eq n m) true (is_among n ms)
@@ -20,13 +21,13 @@ string_end b p = p + 1 + get_or b p 0
 abbrev pub names_start : List ℕ → ℕ → ℕ → ℕ
 names_start b rtype start = cond (nat_eq rtype 35) (string_end b (string_end b (string_end b (start + 4)))) (start + octets_before rtype)
 
--- How many names follow: 1 in NS (2), MD, MF, CNAME (5), MB (7), MG, MR (9), PTR (12), MX, AFSDB, RT, SIG, NXT (30), SRV, NAPTR (35), KX and DNAME (39); 2 in SOA (6), MINFO (14), RP (17) and PX.
+-- The number of names that follow: 1 in NS (2), MD, MF, CNAME (5), MB (7), MG, MR (9), PTR (12), MX, AFSDB, RT, SIG, NXT (30), SRV, NAPTR (35), KX and DNAME (39); 2 in SOA (6), MINFO (14), RP (17) and PX.
 abbrev pub name_count : ℕ → ℕ
 name_count rtype =
     cond (is_among rtype (2 ∷ 3 ∷ 4 ∷ 5 ∷ 7 ∷ 8 ∷ 9 ∷ 12 ∷ 15 ∷ 18 ∷ 21 ∷ 24 ∷ 30 ∷ 33 ∷ 35 ∷ 36 ∷ 39 ∷ [])) 1
     (cond (is_among rtype (6 ∷ 14 ∷ 17 ∷ 26 ∷ [])) 2 0)
 
--- The RDATA from `start` to `end` is empty, or its names, one after the other, are within it and use no octet of the fields.
+-- The RDATA from `start` to `end` is empty, or its consecutive names are within it and use no octet of the fields.
 abbrev pub DataApart : List ℕ → List ℕ → ℕ → ℕ → ℕ → Type 0
 DataApart b fields rtype start end =
     (start ≡ end) ⊎ ((stop : ℕ) × (stop ≤ end)

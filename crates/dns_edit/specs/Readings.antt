@@ -21,7 +21,7 @@ pub record ReadsNameAlike (b c : List ℕ) (p : ℕ) : Type 0 where
   pub names : (name : Labels) → NameAt b p name ↔ NameAt c p name
   pub faults : (f : Fault) → FaultAt b p f ↔ FaultAt c p f
 
--- A name that uses no octet of the fields reads the same after their TTLs are changed, and the octets stay as many.
+-- A name that uses no octet of the fields reads the same after their TTLs are changed. The number of octets stays.
 abbrev pub NamesReadAlike : Type 0
 NamesReadAlike = (change : TtlChange) (b fields : List ℕ) → NamesAvoid b fields
     → (length (with_ttls change fields b) ≡ length b) × ((p : ℕ) → NameApart b fields p → ReadsNameAlike b (with_ttls change fields b) p)
@@ -67,7 +67,7 @@ pub record DataReadsAlike (b c fields : List ℕ) (start end : ℕ) : Type 0 whe
   pub octets : slice_range c start end ≡ slice_range b start end
   pub names : (p : ℕ) → NameApart b fields p → ReadsNameAlike (take end b) (take end c) p
 
--- That holds of the RDATA of each record of the message: the one after k others.
+-- This holds for the RDATA of each record of the message, here the record after k others.
 abbrev pub RdataReadsAlike : Type 0
 RdataReadsAlike = (change : TtlChange) (b fields : List ℕ) (avoid : NamesAvoid b fields) (k p q : ℕ) → k < record_total b
     → Skipped (SkipsRecord b) k avoid.start p → (s : SkipsRecord b p q)

@@ -38,7 +38,7 @@ abbrev pub with_ttls : TtlChange → List ℕ → List ℕ → List ℕ
 with_ttls change [] b = b
 with_ttls change (f ∷ fields) b = with_ttls change fields (with_ttl change f b)
 
--- Of octets `b`, `c` has the TTL of the record from p to q changed, if it has one, and all other octets.
+-- The octets `c` are `b` with the TTL of the record from p to q changed, if the record has one.
 pub record WritesTtl (change : TtlChange) (b c : List ℕ) (p q : ℕ) : Type 0 where
   pub skips : SkipsRecord b p q
   pub held : holds_ttl (number_at w16 b skips.name_end) ≡ true → c ≡ with_ttl change (skips.name_end + 4) b

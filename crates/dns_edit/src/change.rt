@@ -26,5 +26,6 @@ impl TtlChange {
 pub(crate) fn has_ttl(rtype: u16) -> bool
     ensures { result ≡ holds_ttl rtype }
 {
+    // OPT, SIG and TSIG
     !(rtype == 41 || rtype == 24 || rtype == 250)
 }

@@ -22,7 +22,7 @@ use dns_item::Ttl;
 use dns_octets::{Octets, OctetsMut, ParseError};
 use dns_read::Message;
 
-/// A message of at most so many octets takes a smaller array of marks.
+/// The length, in octets, up to which a message takes the smaller array of marks.
 const SHORT: usize = 1_232;
 
 /// The least TTL of the message's records, or `None` if it has none.
@@ -95,9 +95,13 @@ pub fn cap_ttls<Octs: OctetsMut>(message: &mut Message<Octs>, most: u32) -> Resu
 
 /// Changes the TTL of each record in place, but for OPT, TSIG and SIG. No other octet changes.
 ///
-/// All names of the message read as before. If a pointer leads to anything but a label of an
-/// earlier name, or a question or record can't be skipped, it returns an error, and the message
-/// stays as it is. It reads the message twice, follows no pointer, and allocates nothing.
+/// The message reads as before but for the TTLs. It is read twice; no pointer is followed, and
+/// nothing is allocated.
+///
+/// Returns the error of the first question or record that is refused: `Parse` if it can't be
+/// skipped or the names in its RDATA run past its end, `Pointer` if a pointer of its names leads to
+/// anything but a label of an earlier name (RFC 1035 section 4.1.4). The message then stays as it
+/// is.
 pub fn change_ttls<Octs: OctetsMut>(
     message: &mut Message<Octs>,
     change: TtlChange,
@@ -141,7 +145,7 @@ fn record_count(octets: &[u8]) -> u32
     u32::from(counts.ancount()) + u32::from(counts.nscount()) + u32::from(counts.arcount())
 }
 
-/// Walks over all names. Returns the offset where the records begin.
+/// Walks over all names of a message. Returns the offset where the records begin.
 fn check(octets: &[u8]) -> Result<usize, EditError>
     requires { header_size ≤ length octets.now }
     ensures accepts { IfOk result (AcceptsFrom octets.now) }

@@ -28,8 +28,8 @@ fn is_marked_before(marks: &[bool], target: usize, start: usize) -> bool
 
 /// Walks over the encoding of the name at offset `start`, and returns its end.
 ///
-/// `marks` are set at the offsets of the labels of the names before. Those of this name are added.
-/// A pointer must lead to a label of a name before.
+/// `marks` are set at the offsets of the labels of earlier names. Those of this name are added. A
+/// pointer must lead to a label of an earlier name.
 pub(crate) fn walk_name(octets: &[u8], start: usize, marks: &mut [bool]) -> Result<usize, EditError>
     ensures ends { IfOk result (λ end. NameEndsAt octets.now start end) }
     ensures within { IfOk result (λ end. end ≤ length octets.now) }

@@ -1,25 +1,30 @@
-ghost use Rattle.std.specs.Prelude.{◌≡◌, ◌≤◌, ◌+◌, length};
+ghost use Rattle.std.specs.Prelude.{◌≡◌, ◌≤◌, ◌<◌, ◌+◌, ◌^◌, length};
 ghost use Rattle.dns_edit.specs.Rdata.{octets_before, name_count, names_start, string_end};
 
-/// How many octets the RDATA of a record of this type has before its names.
+/// The number of octets before the names in RDATA of this type.
 fn octets_before_names(rtype: u16) -> usize
     ensures value { result ≡ octets_before rtype }
     ensures bound { result ≤ 18 }
 {
     match rtype {
+        // MX, AFSDB, RT, PX and KX
         15 | 18 | 21 | 26 | 36 => 2,
+        // SIG
         24 => 18,
+        // SRV
         33 => 6,
         _ => 0,
     }
 }
 
-/// How many consecutive names the RDATA of a record of this type then has.
+/// The number of consecutive names in RDATA of this type.
 pub(crate) fn names_in(rtype: u16) -> u8
     ensures { result ≡ name_count rtype }
 {
     match rtype {
+        // NS, MD, MF, CNAME, MB, MG, MR, PTR, MX, AFSDB, RT, SIG, NXT, SRV, NAPTR, KX and DNAME
         2 | 3 | 4 | 5 | 7 | 8 | 9 | 12 | 15 | 18 | 21 | 24 | 30 | 33 | 35 | 36 | 39 => 1,
+        // SOA, MINFO, RP and PX
         6 | 14 | 17 | 26 => 2,
         _ => 0,
     }
@@ -27,7 +32,7 @@ pub(crate) fn names_in(rtype: u16) -> u8
 
 /// The end of the character string at offset `at`.
 fn end_of_string(octets: &[u8], at: usize) -> usize
-    requires { at ≤ length octets.now + 1000 }
+    requires { at + 256 < 2 ^ 64 }
     ensures end { result ≡ string_end octets.now at }
     ensures low { at ≤ result }
     ensures high { result ≤ at + 256 }
@@ -44,6 +49,7 @@ pub(crate) fn names_offset(octets: &[u8], rtype: u16, start: usize) -> usize
     ensures value { result ≡ names_start octets.now rtype start }
     ensures low { start ≤ result }
 {
+    // NAPTR
     if rtype == 35 {
         let flags = end_of_string(octets, start + 4);
         let services = end_of_string(octets, flags);
