@@ -3,23 +3,22 @@ use Rattle.std.proofs.Common.{◌≡◌, ◌≢◌, ℕ, zero, suc, ◌+◌, ◌
 use Rattle.std.specs.Int.{to_be_bytes, w16, w32}
 use Rattle.std.proofs.lemmas.List.{length-take-le, take-take}
 use Rattle.dns_octets.specs.Octets.{overwritten}
-use Rattle.dns_name.specs.Names.{Labels, uncompressed, NameAt, NameEndsAt}
+use Rattle.dns_name.specs.Names.{NameAt, NameEndsAt}
 use Rattle.dns_name.specs.Uncompressed.{IsUncompressed}
 use Rattle.dns_name.specs.Parsers.{number_at}
-use Rattle.dns_wire.specs.Parts.{Part, Octets, CompressibleName, AreParts, PartsAt, PartsPointed, WellPointed, parts_size}
+use Rattle.dns_wire.specs.Parts.{Part, Octets, CompressibleName, AreParts, PartsAt, PartsPointed, parts_size}
 use Rattle.dns_wire.specs.Targets.{At}
 use Rattle.dns_wire.specs.TargetLaws.{Agree}
-use Rattle.dns_wire.proofs.theory.CompressedNames.{at_before, at_first, at_offset, at_second}
+use Rattle.dns_wire.proofs.theory.CompressedNames.{at_first, at_offset, at_second}
 use Rattle.dns_wire.proofs.theory.EncoderLaws.{number_16, number_32}
 use Rattle.dns_question.specs.Questions.{QuestionItem, IsQuestion, ReadsQuestion, question_fields}
 use Rattle.dns_item.specs.Items.{RecordItem, IsRecord, ReadsRecordItem, record_fields}
-use Rattle.dns_build.specs.MessageOf.{question_parts, record_parts}
 use Rattle.dns_put.specs.declared.draft.PutItem.{PutItem}
 use Rattle.dns_put.specs.declared.rdata.Layout.{Layout}
 use Rattle.dns_put.specs.declared.rdata.Layout.TheVariants.{Name, TwoNames, Plain}
-use Rattle.dns_put.specs.Rdata.{AreDataOf, HasFields, layout_of, octets_before}
+use Rattle.dns_put.specs.Rdata.{AreDataOf, HasFields, layout_of}
 use Rattle.dns_put.specs.Writing.{IsPut, AreWritten, IsNamed}
-use Rattle.dns_put.specs.Items.{IsQuestionOf, IsRecordOf, Means, QuestionFrom, RecordFrom, HoldsQuestion, HoldsRecord}
+use Rattle.dns_put.specs.Items.{IsQuestionOf, IsRecordOf, Means, HoldsQuestion, HoldsRecord}
 use Rattle.dns_put.proofs.Buffers.{at_over, length_over, take_over, at_agreed, agree_of_take, agree_both, agree_from, agree_to, agree_after}
 
 -- a question at its offset

@@ -5,4 +5,3 @@ pub mod RdataWritten
 pub mod ItemsWritten
 pub mod Drafts
 pub mod Finished
-pub mod Refusals

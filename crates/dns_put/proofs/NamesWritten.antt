@@ -1,13 +1,11 @@
 -- A name that is written as its first labels, and then a pointer or its other labels.
-use Rattle.std.proofs.Common.{◌≡◌, ◌≢◌, ℕ, ◌+◌, ◌<◌, ◌≤◌, List, [], ◌∷◌, ◌++◌, length, length-append, length-drop, take, drop, get_or, arith, ap, sym, ◌∙◌, subst, refl, append_assoc, append-nil}
+use Rattle.std.proofs.Common.{◌≡◌, ◌≢◌, ℕ, ◌+◌, ◌<◌, ◌≤◌, List, [], ◌∷◌, ◌++◌, length, length-append, take, drop, get_or, arith, ap, sym, ◌∙◌, subst, refl, append_assoc, append-nil}
 use Rattle.std.specs.Prelude.{Ok, Some, slice_get}
 use Rattle.std.specs.List.{flat_map}
 use Rattle.std.proofs.lemmas.List.{length-take-le, take_all}
 use Rattle.std.proofs.lemmas.Option.{slice_get-get_or}
 use Rattle.std.proofs.Math.Seq.{take-append_seam}
-use Rattle.dns_octets.specs.Octets.{overwritten}
 use Rattle.dns_name.specs.Names.{Labels, IsName, framed, uncompressed, name_size, max_size, NameAt, NameContinues, NameEndsAt, pointer_end, head_at}
-use Rattle.dns_name.specs.Uncompressed.{IsUncompressed}
 use Rattle.dns_name.specs.declared.head.Head.TheVariants.{Label}
 use Rattle.dns_name.proofs.theory.UncompressedNames.{name_tail}
 use Rattle.dns_name.proofs.theory.HeadLemmas as heads
@@ -19,7 +17,7 @@ use Rattle.dns_wire.proofs.theory.Stability.{agreed, agree_label, name_of_within
 use Rattle.dns_wire.proofs.theory.CompressedNames.{at_before, at_first, at_offset, at_second, root_at, label_begins, label_octets, label_part, after_label, pointer_at}
 use Rattle.dns_put.specs.Writing.{IsPut, LeadsTo, IsNamed}
 use Rattle.dns_put.proofs.Buffers.{at_over, length_over, take_over, at_agreed, agree_of_take}
-use Rattle.dns_put.proofs.Steps.{Progress, NextLabel, next_label}
+use Rattle.dns_put.proofs.Steps.{Progress, next_label}
 
 -- labels, each after its length octet
 abbrev pub front : Labels → List ℕ
@@ -186,14 +184,3 @@ written_whole out0 out2 top at most q octets n is e low room put =
       ends = λ c a b. subst (λ k. NameEndsAt c at k) j (made c b).ends;
       pointed = λ c a b. subst (λ k. WellPointed c k at) j (made c b).pointed;
     }
-
--- before the last label, at least two octets of a name are left
-pub left_over : (octets : List ℕ) (i : ℕ) → ((n : Labels) → IsName n → octets ≡ uncompressed n → Progress octets n i) → IsUncompressed octets → get_or octets i 0 ≢ 0 → i + 2 ≤ length octets
-left_over octets i progress u some =
-    let p = progress u.0 u.1 (sym u.2) in
-    let s = next_label octets u.0 i (get_or octets i 0) p refl some in
-    let l = s.next in
-    let more = name_some l.left in
-    let e = ap length l.rest in
-    let d = length-drop (i + 1 + get_or octets i 0) octets in
-    omega arith

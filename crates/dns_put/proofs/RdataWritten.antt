@@ -1,11 +1,9 @@
 -- RDATA that was written, and the names with which octets begin.
 use Rattle.std.proofs.Common.{◌≡◌, ◌≢◌, ℕ, zero, suc, ◌+◌, ◌-◌, ◌<◌, ◌≤◌, List, [], ◌∷◌, ◌++◌, length, length-append, length-drop, take, drop, get_or, arith, ap, sym, ◌∙◌, subst, refl}
-use Rattle.std.proofs.lemmas.List.{length-take-le, take-append-drop}
-use Rattle.std.proofs.Math.Seq.{drop-append_seam, take-append_seam}
-use Rattle.dns_octets.specs.Octets.{overwritten}
-use Rattle.dns_name.specs.Names.{Labels, IsName, uncompressed, NameAt, NameEndsAt}
+use Rattle.std.proofs.lemmas.List.{take-append-drop}
+use Rattle.dns_name.specs.Names.{Labels, IsName, uncompressed}
 use Rattle.dns_name.specs.Uncompressed.{IsUncompressed}
-use Rattle.dns_wire.specs.Parts.{Part, Octets, CompressibleName, AreParts, PartsAt, PartsFill, PartsPointed, WellPointed}
+use Rattle.dns_wire.specs.Parts.{Part, Octets, CompressibleName, AreParts, PartsAt, PartsPointed}
 use Rattle.dns_wire.specs.Targets.{At}
 use Rattle.dns_wire.specs.TargetLaws.{Agree}
 use Rattle.dns_put.specs.Rdata.{AreTwoNames, octets_before}
@@ -138,30 +136,6 @@ two_names octets others a b first second after eo ea eb within ua ub size =
           ∙ ap (λ (xs : List ℕ). take first octets ++ (xs ++ rest)) (ub.2 ∙ eb)
           ∙ ap (λ (xs : List ℕ). take first octets ++ xs) (take-append-drop second others ∙ eo)
           ∙ take-append-drop first octets);
-    }
-
--- where the first names of two end, and what follows them
-pub record Found (octets : List ℕ) (first second after : ℕ) : Type 0 where
-  pub first_name : IsUncompressed (take first octets)
-  pub second_name : IsUncompressed (take second (drop first octets))
-  pub size : length (drop first octets) - second ≡ after
-
-pub found_names : (octets : List ℕ) (first second after : ℕ) → ((n : Labels) (rest : List ℕ) → IsName n → octets ≡ uncompressed n ++ rest → first ≡ length (uncompressed n))
-    → ((n : Labels) (rest : List ℕ) → IsName n → drop first octets ≡ uncompressed n ++ rest → second ≡ length (uncompressed n)) → AreTwoNames after octets → Found octets first second after
-found_names octets first second after at at' two =
-    let others = uncompressed two.second ++ two.rest in
-    let e : first ≡ length (uncompressed two.first) = at two.first others two.is_first two.octets in
-    let taken : take first octets ≡ uncompressed two.first = ap (take first) two.octets ∙ ap (λ k. take k (uncompressed two.first ++ others)) e ∙ take-append_seam (uncompressed two.first) others in
-    let left : drop first octets ≡ others = ap (drop first) two.octets ∙ ap (λ k. drop k (uncompressed two.first ++ others)) e ∙ drop-append_seam (uncompressed two.first) others in
-    let f : second ≡ length (uncompressed two.second) = at' two.second two.rest two.is_second left in
-    let taken' : take second (drop first octets) ≡ uncompressed two.second = ap (take second) left ∙ ap (λ k. take k others) f ∙ take-append_seam (uncompressed two.second) two.rest in
-    let a = length-append (uncompressed two.second) two.rest in
-    let l = ap length left in
-    let s = two.size in
-    record {
-      first_name = (two.first, two.is_first, sym taken);
-      second_name = (two.second, two.is_second, sym taken');
-      size = omega arith;
     }
 
 -- the name after octets
