@@ -453,7 +453,6 @@ pub extern "C" fn dnsm_put(draft: &mut Draft, out: &mut [u8], item: &PutItem<'_>
     ensures acceptable { result ≡ 0 → IsAcceptable draft.old item.now }
     ensures refused { result ≢ 0 → (error : PutError) × (result ≡ number_of (put_fault error))
         × IsRefused draft.old (length out.old) item.now error }
-
     ensures settings { (draft.new.id ≡ draft.old.id) × (draft.new.flags ≡ draft.old.flags)
         × (draft.new.limit ≡ draft.old.limit) × (draft.new.reserved ≡ draft.old.reserved) }
     ensures same { result ≢ 0 → (draft.new.len ≡ draft.old.len)

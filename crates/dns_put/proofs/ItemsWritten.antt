@@ -16,7 +16,7 @@ use Rattle.dns_item.specs.Items.{RecordItem, IsRecord, ReadsRecordItem, record_f
 use Rattle.dns_put.specs.declared.draft.PutItem.{PutItem}
 use Rattle.dns_put.specs.declared.rdata.Layout.{Layout}
 use Rattle.dns_put.specs.declared.rdata.Layout.TheVariants.{Name, TwoNames, Plain}
-use Rattle.dns_put.specs.Rdata.{AreDataOf, HasFields, layout_of}
+use Rattle.dns_put.specs.Rdata.{AreDataOf, HasFields, layout_of, octets_alone}
 use Rattle.dns_put.specs.Writing.{IsPut, AreWritten, IsNamed}
 use Rattle.dns_put.specs.Items.{IsQuestionOf, IsRecordOf, Means, HoldsQuestion, HoldsRecord}
 use Rattle.dns_put.proofs.Buffers.{at_over, length_over, take_over, at_agreed, agree_of_take, agree_both, agree_from, agree_to, agree_after}
@@ -142,12 +142,16 @@ named_data (suc k) rdata h =
     let low = h.0 in
     record { parts = Octets (take (suc k) rdata) ∷ CompressibleName h.1.0 ∷ []; are = (h.1.0, refl, sym h.1.2); names = (h.1.1, tt); size = omega arith }
 
+alone : (rdata : List ℕ) → AreParts (octets_alone rdata) × (parts_size (octets_alone rdata) ≤ length rdata)
+alone [] = (tt, omega arith)
+alone (x ∷ xs) = (tt, omega arith)
+
 data_of : (layout : Layout) (rdata : List ℕ) → HasFields layout rdata → Data layout rdata
 data_of (Name before) rdata h = named_data before rdata h
-data_of (TwoNames after) rdata h = record { parts = Octets rdata ∷ []; are = refl; names = tt; size = omega arith }
-data_of Plain rdata h = record { parts = Octets rdata ∷ []; are = refl; names = tt; size = omega arith }
+data_of (TwoNames after) rdata h = let o = alone rdata in record { parts = octets_alone rdata; are = refl; names = o.0; size = o.1 }
+data_of Plain rdata h = let o = alone rdata in record { parts = octets_alone rdata; are = refl; names = o.0; size = o.1 }
 
-pub means : (item : PutItem) → IsUncompressed item.name.now → (item.section ≢ 0 → length item.rdata.now ≤ 65535) → (item.section ≢ 0 → HasFields (layout_of item.rtype) item.rdata.now)
+pub means : (item : PutItem) → IsUncompressed item.name.now → (item.section ≢ 0 → length item.rdata.now ≤ 65535) → (item.section ≢ 0 → HasFields (layout_of item) item.rdata.now)
     → item.rtype < 2 ^ 16 → item.class < 2 ^ 16 → item.ttl < 2 ^ 32 → Means item
 means item name short fields rtype class ttl = record {
   question = λ z. (
@@ -155,7 +159,7 @@ means item name short fields rtype class ttl = record {
     record { is_question = record { name = name.1; rtype = rtype; class = class }; name = sym name.2; rtype = refl; class = refl },
   );
   record_of = λ z.
-      let d = data_of (layout_of item.rtype) item.rdata.now (fields z) in
+      let d = data_of (layout_of item) item.rdata.now (fields z) in
       let e = d.size in
       let f = short z in (
         record { owner = name.0; rtype = item.rtype; class = item.class; ttl = item.ttl; parts = d.parts },

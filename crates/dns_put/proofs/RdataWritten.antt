@@ -3,10 +3,10 @@ use Rattle.std.proofs.Common.{◌≡◌, ◌≢◌, ℕ, zero, suc, ◌+◌, ◌
 use Rattle.std.proofs.lemmas.List.{take-append-drop}
 use Rattle.dns_name.specs.Names.{Labels, IsName, uncompressed}
 use Rattle.dns_name.specs.Uncompressed.{IsUncompressed}
-use Rattle.dns_wire.specs.Parts.{Part, Octets, CompressibleName, AreParts, PartsAt, PartsPointed}
+use Rattle.dns_wire.specs.Parts.{Part, CompressibleName, AreParts, PartsAt, PartsPointed}
 use Rattle.dns_wire.specs.Targets.{At}
 use Rattle.dns_wire.specs.TargetLaws.{Agree}
-use Rattle.dns_put.specs.Rdata.{AreTwoNames, octets_before}
+use Rattle.dns_put.specs.Rdata.{AreTwoNames, octets_alone, octets_before}
 use Rattle.dns_put.specs.Writing.{IsPut, AreWritten, IsNamed}
 use Rattle.dns_put.proofs.Buffers.{at_over, length_over, at_agreed, agree_of_take, agree_both, agree_from, agree_with_taken}
 use Rattle.dns_put.proofs.Steps.{Progress, no_progress, next_label, last_label}
@@ -50,8 +50,16 @@ written_named out0 out1 out2 top at most name end k rdata n low under room put k
           pointed_before c end at k rdata (CompressibleName n ∷ []) (subst (λ m. PartsPointed c end m (CompressibleName n ∷ [])) (sym size) others);
     }
 
+octets_at : (c : List ℕ) (p end : ℕ) (xs : List ℕ) → p + length xs ≡ end → At c p xs → PartsAt c end p (octets_alone xs)
+octets_at c p end [] size there = let e : p ≡ end = omega arith in e
+octets_at c p end (x ∷ xs) size there = (there.same, size)
+
+octets_pointed : (c : List ℕ) (p end : ℕ) (xs : List ℕ) → p + length xs ≡ end → PartsPointed c end p (octets_alone xs)
+octets_pointed c p end [] size = let e : p ≡ end = omega arith in e
+octets_pointed c p end (x ∷ xs) size = size
+
 -- octets that were written
-pub written_octets : (out0 out1 : List ℕ) (top at most end : ℕ) (rdata : List ℕ) → most ≤ length out0 → IsPut out0 out1 at most rdata end → AreWritten out1 top at end (Octets rdata ∷ [])
+pub written_octets : (out0 out1 : List ℕ) (top at most end : ℕ) (rdata : List ℕ) → most ≤ length out0 → IsPut out0 out1 at most rdata end → AreWritten out1 top at end (octets_alone rdata)
 written_octets out0 out1 top at most end rdata room put =
     let e1 = put.written in
     let size = put.ends in
@@ -62,8 +70,8 @@ written_octets out0 out1 top at most end rdata room put =
     record {
       after = omega arith;
       within = omega arith;
-      parts_at = λ c a b. let h : At c at rdata = at_agreed b (omega arith) (omega arith) there in (h.same, sym size);
-      pointed = λ c a b. sym size;
+      parts_at = λ c a b. octets_at c at end rdata (sym size) (at_agreed b (omega arith) (omega arith) there);
+      pointed = λ c a b. octets_pointed c at end rdata (sym size);
     }
 
 -- The walk over the labels of the first name.

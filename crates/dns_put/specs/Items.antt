@@ -23,7 +23,7 @@ pub record IsRecordOf (item : PutItem) (x : RecordItem) : Type 0 where
   pub rtype : x.rtype ≡ item.rtype
   pub class : x.class ≡ item.class
   pub ttl : x.ttl ≡ item.ttl
-  pub parts : AreDataOf (layout_of item.rtype) item.rdata.now x.parts
+  pub parts : AreDataOf (layout_of item) item.rdata.now x.parts
 
 -- The item means a question, or a record.
 pub record Means (item : PutItem) : Type 0 where

@@ -13,7 +13,7 @@ abbrev pub IsDue : Draft → ℕ → PutItem → PutError → Type 0
 IsDue d n item BadSection = (3 < item.section) ⊎ (item.section < d.section)
 IsDue d n item BadName = IsUncompressed item.name.now → ⊥
 IsDue d n item LongData = (item.section ≢ 0) × (65535 < length item.rdata.now)
-IsDue d n item BadData = (item.section ≢ 0) × (HasFields (layout_of item.rtype) item.rdata.now → ⊥)
+IsDue d n item BadData = (item.section ≢ 0) × (HasFields (layout_of item) item.rdata.now → ⊥)
 IsDue d n item TooMany = get_or d.counts item.section 0 ≡ 65535
 IsDue d n item NoRoom = 12 ≤ d.len → min d.limit n < d.len + item_size item + d.reserved
 
@@ -36,5 +36,5 @@ pub record IsAcceptable (d : Draft) (item : PutItem) : Type 0 where
   pub in_order : (item.section ≤ 3) × (d.section ≤ item.section)
   pub name : IsUncompressed item.name.now
   pub short : item.section ≢ 0 → length item.rdata.now ≤ 65535
-  pub fields : item.section ≢ 0 → HasFields (layout_of item.rtype) item.rdata.now
+  pub fields : item.section ≢ 0 → HasFields (layout_of item) item.rdata.now
   pub few : get_or d.counts item.section 0 < 65535

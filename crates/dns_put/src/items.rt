@@ -98,7 +98,7 @@ fn put_record(
     requires after_header { 12 ≤ at }
     requires name { IsUncompressed item.now.name.now }
     requires short { length item.now.rdata.now ≤ 65535 }
-    requires fields { HasFields (layout_of item.now.rtype) item.now.rdata.now }
+    requires fields { HasFields (layout_of item.now) item.now.rdata.now }
     ensures holds { IfSome result (λ end. (x : RecordItem) → IsRecordOf item.now x
         → HoldsRecord out.new at end x) }
     ensures within { IfSome result (λ end. end ≤ most) }
@@ -110,7 +110,7 @@ fn put_record(
 {
     let fields = put_name(hints, out, at, most, at, item.name)?;
     let start = put_octets(out, fields, most, &record_fields_of(item))?;
-    let end = put_rdata(hints, out, start, most, fields, item.rtype, item.rdata)?;
+    let end = put_rdata(hints, out, start, most, fields, item)?;
     let size = (end - start) as u16;
     let _size = put_octets(out, fields + 8, most, &size.to_be_bytes());
     Some(end)
@@ -131,7 +131,7 @@ fn put_item(
     requires name { IsUncompressed item.now.name.now }
     requires short { item.now.section ≢ 0 → length item.now.rdata.now ≤ 65535 }
     requires fields { item.now.section ≢ 0
-        → HasFields (layout_of item.now.rtype) item.now.rdata.now }
+        → HasFields (layout_of item.now) item.now.rdata.now }
     ensures question { IfSome result (λ end. item.now.section ≡ 0 → (x : QuestionItem)
         → IsQuestionOf item.now x → HoldsQuestion out.new at end x) }
     ensures record_of { IfSome result (λ end. item.now.section ≢ 0 → (x : RecordItem)
@@ -177,7 +177,7 @@ fn check(draft: &Draft, item: &PutItem<'_>) -> Result<(), PutError>
     if is_record && item.rdata.len() > MOST_DATA {
         return Err(PutError::LongData);
     }
-    if is_record && !has_fields(item.rtype, item.rdata) {
+    if is_record && !has_fields(item) {
         return Err(PutError::BadData);
     }
     if draft.counts[usize::from(item.section)] == u16::MAX {

@@ -2,11 +2,17 @@
 ghost use Rattle.std.specs.Prelude.{◌≡◌, ◌+◌, ◌≤◌, ◌++◌, List, ℕ, length, take, true, false, IfSome, IsSome};
 ghost use Rattle.dns_name.specs.Names.{Labels, IsName, uncompressed};
 ghost use Rattle.dns_wire.specs.Parts.{AreParts, Part};
-ghost use Rattle.dns_put.specs.Rdata.{AreDataOf, HasFields, layout_of};
+ghost use Rattle.dns_put.specs.Rdata.{AreDataOf, HasFields, layout_of, type_layout};
 ghost use Rattle.dns_put.specs.Writing.{AreWritten};
 
+use crate::draft::PutItem;
 use crate::names::{is_name, put_name};
 use crate::octets::put_octets;
+
+/// The numbers of the classes NONE and ANY.
+const CLASS_NONE: u16 = 254;
+
+const CLASS_ANY: u16 = 255;
 
 /// What RDATA consists of, as far as names are concerned.
 #[derive(Clone, Copy)]
@@ -23,8 +29,8 @@ pub enum Layout {
 /// preference and a name, SOA two names and five numbers, and MINFO two names. That of any other
 /// type isn't looked at.
 #[inline(always)]
-fn rdata_layout(rtype: u16) -> Layout
-    ensures { result ≡ layout_of rtype }
+fn layout_of_type(rtype: u16) -> Layout
+    ensures { result ≡ type_layout rtype }
 {
     match rtype {
         2..=5 | 7..=9 | 12 => Layout::Name(0),
@@ -33,6 +39,18 @@ fn rdata_layout(rtype: u16) -> Layout
         15 => Layout::Name(2),
         _ => Layout::Plain,
     }
+}
+
+/// The layout of the RDATA of an item. A record of class NONE or ANY may have none, whatever its
+/// type (RFC 2136 section 2.4).
+#[inline(always)]
+fn layout_of_item(item: &PutItem<'_>) -> Layout
+    ensures { result ≡ layout_of item.now }
+{
+    if item.rdata.is_empty() && (item.class == CLASS_NONE || item.class == CLASS_ANY) {
+        return Layout::Plain;
+    }
+    layout_of_type(item.rtype)
 }
 
 /// The length of the name with which the octets begin, if they begin with an uncompressed name.
@@ -66,11 +84,12 @@ fn are_two_names(octets: &[u8], after: usize) -> bool
 }
 
 /// Whether the RDATA has the names and the length that its record type requires.
-pub(crate) fn has_fields(rtype: u16, rdata: &[u8]) -> bool
-    ensures yes { result ≡ true → HasFields (layout_of rtype) rdata.now }
-    ensures no { result ≡ false → HasFields (layout_of rtype) rdata.now → ⊥ }
+pub(crate) fn has_fields(item: &PutItem<'_>) -> bool
+    ensures yes { result ≡ true → HasFields (layout_of item.now) item.now.rdata.now }
+    ensures no { result ≡ false → HasFields (layout_of item.now) item.now.rdata.now → ⊥ }
 {
-    match rdata_layout(rtype) {
+    let rdata = item.rdata;
+    match layout_of_item(item) {
         Layout::Name(before) => before <= rdata.len() && is_name(&rdata[before..]),
         Layout::TwoNames(after) => are_two_names(rdata, after),
         Layout::Plain => true,
@@ -116,27 +135,26 @@ pub(crate) fn put_rdata(
     at: usize,
     most: usize,
     top: usize,
-    rtype: u16,
-    rdata: &[u8],
+    item: &PutItem<'_>,
 ) -> Option<usize>
     requires most { most ≤ length out.old }
     requires at { at ≤ most }
     requires top { top ≤ at }
     requires after_header { 12 ≤ at }
-    requires fields { HasFields (layout_of rtype) rdata.now }
+    requires fields { HasFields (layout_of item.now) item.now.rdata.now }
     ensures written { IfSome result (λ end. (parts : List Part) → AreParts parts
-        → AreDataOf (layout_of rtype) rdata.now parts
+        → AreDataOf (layout_of item.now) item.now.rdata.now parts
         → AreWritten out.new top at end parts) }
     ensures within { IfSome result (λ end. end ≤ most) }
     ensures after { IfSome result (λ end. at ≤ end) }
-    ensures size { IfSome result (λ end. end ≤ at + length rdata.now) }
-    ensures room { at + length rdata.now ≤ most → IsSome result }
+    ensures size { IfSome result (λ end. end ≤ at + length item.now.rdata.now) }
+    ensures room { at + length item.now.rdata.now ≤ most → IsSome result }
     ensures length { length out.new ≡ length out.old }
     ensures kept { take at out.new ≡ take at out.old }
 {
-    match rdata_layout(rtype) {
-        Layout::Name(before) => put_named(hints, out, at, most, top, before, rdata),
-        Layout::TwoNames(_) => put_octets(out, at, most, rdata),
-        Layout::Plain => put_octets(out, at, most, rdata),
+    match layout_of_item(item) {
+        Layout::Name(before) => put_named(hints, out, at, most, top, before, item.rdata),
+        Layout::TwoNames(_) => put_octets(out, at, most, item.rdata),
+        Layout::Plain => put_octets(out, at, most, item.rdata),
     }
 }

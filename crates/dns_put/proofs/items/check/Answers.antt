@@ -12,7 +12,7 @@ returns-clause-means c =
       | else-is_record-via-then-is_record+else-item-gt-MOST_DATA w ↦ omega arith
       | else-is_record-via-else-is_record w ↦ absurd (z w.if-is_record.false)
     ] in
-    let fields : item.section ≢ 0 → HasFields (layout_of item.rtype) item.rdata.now = λ z. elim c.else-is_record-2.branch [
+    let fields : item.section ≢ 0 → HasFields (layout_of item) item.rdata.now = λ z. elim c.else-is_record-2.branch [
       | else-is_record-2-via-then-is_record-2+else-not-has_fields w ↦ w.has_fields.ensures.yes w.if-not-has_fields.false
       | else-is_record-2-via-else-is_record-2 w ↦ absurd (z w.if-is_record-2.false)
     ] in
