@@ -1,6 +1,6 @@
 /* A server's part: reads a query, and writes the response item by item into one buffer, without allocation. The response has
- * twenty addresses, or TC and none of them if they don't fit. It has an OPT record if the query has one. Prints, in hexadecimal,
- * the responses to a query without an OPT record and to one with it, for `show` to read. */
+ * twenty addresses, or TC and none of them if they don't fit. It has an OPT record if the query has one. Prints, in
+ * hexadecimal, the responses to a query without an OPT record and to one with it, for `show` to read. */
 #include "dnsm.h"
 
 #include <stdbool.h>
