@@ -1,16 +1,6 @@
-//! RDATA as fields. The rows are examples of the RFCs, or have their form.
-//!
-//! `certificates`, `dnssec`, `hosts` and `services` have three rows or more for each type, which
-//! `rows` reads, cuts at each octet, and writes. `malformed` has octets that aren't RDATA.
+//! RDATA as fields: its order, and copies that own it. `crates/cases_rdata` has the octets, fields
+//! and texts of each type.
 
-mod canonical;
-mod certificates;
-mod dnssec;
-mod hosts;
-mod long;
-mod malformed;
 mod orders;
 mod owned;
-mod pointers;
 mod rows;
-mod services;

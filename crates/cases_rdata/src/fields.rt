@@ -35,11 +35,21 @@ fn print_values<W: Write>(
     data: &FieldData<'_>,
 ) -> io::Result<()> {
     write!(writer, "{rtype}")?;
+    write_values(alloc, writer, data)?;
+    writeln!(writer, "")
+}
+
+/// Writes each field as a space, its name and its value.
+pub(crate) fn write_values<W: Write>(
+    alloc: Global,
+    writer: &mut W,
+    data: &FieldData<'_>,
+) -> io::Result<()> {
     for field in data.fields() {
         write!(writer, " {}=", field.name)?;
         print_value(alloc, writer, &field.value())?;
     }
-    writeln!(writer, "")
+    Ok(())
 }
 
 /// Prints numbers as decimal digits, and octets as hexadecimal digits.
