@@ -1,6 +1,5 @@
 //! A case, and what the library makes of its RDATA.
 use crate::fields::write_values;
-use crate::octets::digits_of;
 use dns_code::Rtype;
 use dns_data::{ComposeRecordData, ParseAnyRecordData};
 use dns_data_read::from_text;
@@ -11,23 +10,18 @@ use dns_wire::{ParseError, Parser};
 use std::alloc::Global;
 use std::io;
 
-/// A case: its name, how many checks it had, the type of its RDATA, octets, and where among them
-/// the RDATA starts.
+/// The RDATA of a case: its type, octets, and where among them the RDATA starts.
 #[derive(Drop)]
-pub(crate) struct Case<'a> {
-    pub(crate) name: &'a str,
-    pub(crate) checks: u64,
+pub(crate) struct Case {
     pub(crate) rtype: u16,
     pub(crate) octets: Vec<u8>,
     pub(crate) start: usize,
 }
 
-impl<'a> Case<'a> {
+impl Case {
     /// A case with no RDATA yet.
-    pub(crate) fn named(alloc: Global, name: &'a str) -> Case<'a> {
+    pub(crate) fn new(alloc: Global) -> Case {
         Case {
-            name,
-            checks: 0,
             rtype: 0,
             octets: Vec::new(alloc),
             start: 0,
@@ -134,17 +128,6 @@ impl<'a> Case<'a> {
         match from_text(alloc, Rtype::from_int(self.rtype), words) {
             Ok(data) => digits_written(alloc, &data),
             Err(error) => Ok(format!(in alloc; "{error}")?),
-        }
-    }
-
-    /// Takes the octets of a line after those that the case has. Returns whether they are octets.
-    pub(crate) fn take_octets(&mut self, alloc: Global, line: &str) -> io::Result<bool> {
-        match digits_of(alloc, line)? {
-            Some(octets) => {
-                self.octets.extend_from_slice(octets.as_slice())?;
-                Ok(true)
-            }
-            None => Ok(false),
         }
     }
 }

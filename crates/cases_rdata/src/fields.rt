@@ -3,41 +3,13 @@ ghost use Rattle.std.specs.Prelude.{OnOk};
 ghost use Rattle.std.specs.Io.KnownBytes.{Appends};
 ghost use Rattle.hex.specs.Hex.{encode_lower};
 
-use dns_code::Rtype;
-use dns_data::{ComposeRecordData, ParseAnyRecordData};
+use dns_data::ComposeRecordData;
 use dns_fields::{FieldData, Value};
 use dns_fields_text::DataText;
 use dns_read::Message;
-use dns_wire::Parser;
 use std::alloc::Global;
 use std::io;
 use std::io::Write;
-
-/// Prints the fields of RDATA of this type, in a line.
-pub(crate) fn print_fields<W: Write>(
-    alloc: Global,
-    writer: &mut W,
-    rtype: u16,
-    octets: &[u8],
-) -> io::Result<()> {
-    let mut parser = Parser::new(octets);
-    match FieldData::parse_any_rdata(Rtype::from_int(rtype), &mut parser) {
-        Ok(data) => print_values(alloc, writer, rtype, &data),
-        Err(error) => writeln!(writer, "{rtype} {error}"),
-    }
-}
-
-/// Prints each field as its name and its value.
-fn print_values<W: Write>(
-    alloc: Global,
-    writer: &mut W,
-    rtype: u16,
-    data: &FieldData<'_>,
-) -> io::Result<()> {
-    write!(writer, "{rtype}")?;
-    write_values(alloc, writer, data)?;
-    writeln!(writer, "")
-}
 
 /// Writes each field as a space, its name and its value.
 pub(crate) fn write_values<W: Write>(

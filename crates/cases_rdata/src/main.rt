@@ -2,29 +2,26 @@
 //!
 //!     cases_rdata < CASES
 //!
-//! The head of `stdin` says what a case has. The program prints each check of a case that fails,
-//! and at last the counts. Outside of a case, a line has the word `rdata`, a record type and RDATA,
-//! or the word `message` and a message, both as hexadecimal digits; what follows `#` is a comment.
-//! For RDATA the program prints the fields by name. For a message it prints the message written
-//! again from its fields, with compressed names, and for each answer the canonical form of its
-//! RDATA (RFC 4034 section 6.2) and its text. Or a line has the word `text`, a record type and
-//! RDATA in presentation format, of which the program prints the octets.
+//! The program prints a line for each check of a case that fails, and the counts. Its page says
+//! what the keys of a case are. Outside of a case, a line has the word `message` and a message as
+//! hexadecimal digits, or the word `text`, a record type and RDATA in presentation format. Of a
+//! message the program prints the message written again from its fields, with compressed names, and
+//! for each answer the canonical form of its RDATA (RFC 4034 section 6.2) and its text. Of a text it
+//! prints the octets of the RDATA.
 #![tactic(auto)]
 
 mod case;
 mod checks;
 mod fields;
-mod octets;
 mod reading;
-mod report;
 mod rewriting;
 
 use crate::case::Case;
 use crate::checks::take_line;
-use crate::fields::{print_canonical, print_fields};
+use crate::fields::print_canonical;
 use crate::reading::print_read;
-use crate::report::Report;
 use crate::rewriting::rewritten;
+use dns_cases::{Report, blocks, case_of};
 use dns_read::Message;
 use std::alloc::Global;
 use std::io;
@@ -33,41 +30,40 @@ use std::io::{BufWriter, Write};
 fn main(rt: HostRuntime) -> io::Result<()> {
     let text = io::read_to_string(rt.alloc(), rt.stdin())?;
     let mut report = Report::new(BufWriter::new(rt.alloc(), rt.stdout())?);
-    let mut case = None;
-    for line in text.lines() {
-        case = after_line(rt.alloc(), &mut report, case, line)?;
+    for block in &blocks(rt.alloc(), text.as_str())? {
+        match case_of(block.as_slice()) {
+            Some((name, lines)) => check_case(rt.alloc(), &mut report, name, lines)?,
+            None => print_lines(rt.alloc(), &mut report.writer, block.as_slice())?,
+        }
     }
-    report.end(case)?;
     report.finish()
 }
 
-/// Does what a line asks for. Returns the case that it belongs to: an empty line ends a case, and
-/// `case NAME` begins one. `#` begins a comment.
-fn after_line<'a, W: Write + Drop>(
+/// Checks a case. One that has no check fails.
+fn check_case<'a, W: Write + Drop>(
     alloc: Global,
-    report: &mut Report<W>,
-    case: Option<Case<'a>>,
-    line: &'a str,
-) -> io::Result<Option<Case<'a>>> {
-    let words = line.trim_ascii_start();
-    if words.starts_with('#') {
-        return Ok(case);
+    report: &mut Report<'a, W>,
+    name: &'a str,
+    lines: &[&str],
+) -> io::Result<()> {
+    report.begin(name);
+    let checks = report.counts.checks;
+    let mut case = Case::new(alloc);
+    for line in lines {
+        take_line(alloc, report, &mut case, line.trim_ascii_start())?;
     }
-    if let Some(name) = line.strip_prefix("case ") {
-        report.end(case)?;
-        report.cases = report.cases.saturating_add(1);
-        return Ok(Some(Case::named(alloc, name)));
+    if report.counts.checks == checks {
+        report.bad_line("no check")?;
     }
-    if words.is_empty() {
-        report.end(case)?;
-        return Ok(None);
+    Ok(())
+}
+
+/// Prints what each of the lines outside of cases asks for.
+fn print_lines<W: Write>(alloc: Global, writer: &mut W, lines: &[&str]) -> io::Result<()> {
+    for line in lines {
+        print_line(alloc, writer, line)?;
     }
-    let Some(mut case) = case else {
-        print_line(alloc, &mut report.writer, line)?;
-        return Ok(None);
-    };
-    take_line(alloc, report, &mut case, words)?;
-    Ok(Some(case))
+    Ok(())
 }
 
 /// Prints what a line asks for.
@@ -75,36 +71,10 @@ fn print_line<W: Write>(alloc: Global, writer: &mut W, line: &str) -> io::Result
     if let Some(words) = line.strip_prefix("text ") {
         return print_read(alloc, writer, words);
     }
-    let (words, _) = line.split_once('#').unwrap_or((line, ""));
-    print_digits_of(alloc, writer, words.trim_ascii())
-}
-
-/// Prints what a line asks for, whose octets are hexadecimal digits.
-fn print_digits_of<W: Write>(alloc: Global, writer: &mut W, line: &str) -> io::Result<()> {
     if let Some(digits) = line.strip_prefix("message ") {
         return print_message(alloc, writer, digits);
     }
-    if let Some(words) = line.strip_prefix("rdata ") {
-        let (rtype, digits) = words.split_once(' ').unwrap_or((words, ""));
-        return print_rdata(alloc, writer, rtype, digits);
-    }
-    writeln!(writer, "neither rdata, message nor text")
-}
-
-/// Prints the fields of RDATA of this type.
-fn print_rdata<W: Write>(
-    alloc: Global,
-    writer: &mut W,
-    rtype: &str,
-    digits: &str,
-) -> io::Result<()> {
-    let Ok(rtype) = rtype.parse::<u16>() else {
-        return writeln!(writer, "bad record type");
-    };
-    match hex::decode(alloc, digits) {
-        Ok(octets) => print_fields(alloc, writer, rtype, &octets),
-        Err(_) => writeln!(writer, "bad digits"),
-    }
+    writeln!(writer, "neither message nor text")
 }
 
 /// Prints the message written again, and the canonical form of each record's RDATA.

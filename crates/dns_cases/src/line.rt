@@ -9,7 +9,6 @@ pub fn case_of<'a, 'b>(block: &'b [&'a str]) -> Option<(&'a str, &'b [&'a str])>
 
 /// The key of a line, and what is after the space that follows it.
 pub fn key_of<'a>(line: &'a str) -> (&'a str, &'a str) {
-    let line = line.trim_ascii_start();
     line.split_once(' ').unwrap_or((line, ""))
 }
 

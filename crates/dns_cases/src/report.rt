@@ -60,12 +60,12 @@ impl<'a, W: Write + Drop> Report<'a, W> {
         print_difference(&mut self.writer, wanted, shown)
     }
 
-    /// Prints that the case fails for another reason, such as a malformed line.
-    pub fn fail(&mut self, reason: &str) -> io::Result<()>
+    /// Prints that a line of the case is malformed, which is a failure.
+    pub fn bad_line(&mut self, line: &str) -> io::Result<()>
         ensures { self.new.counts ≡ record self.old.counts { failures = next self.old.counts.failures } }
     {
         self.counts.failures = self.counts.failures.saturating_add(1);
-        writeln!(self.writer, "FAILED {} | {reason}", self.name)
+        writeln!(self.writer, "FAILED {} | bad line: {line}", self.name)
     }
 
     /// Prints the counts, if there was a case.
@@ -73,7 +73,11 @@ impl<'a, W: Write + Drop> Report<'a, W> {
         let (mut writer, counts) = (self.writer, self.counts);
         if counts.cases > 0 {
             let (cases, checks) = (counts.cases, counts.checks);
-            writeln!(writer, "{cases} cases, {checks} checks, {} failed", counts.failures)?;
+            writeln!(
+                writer,
+                "{cases} cases, {checks} checks, {} failed",
+                counts.failures
+            )?;
         }
         writer.flush()
     }

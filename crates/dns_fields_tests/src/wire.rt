@@ -1,5 +1,5 @@
-//! RDATA as fields: its order, and copies that own it. `crates/cases_rdata` has the octets, fields
-//! and texts of each type.
+//! RDATA as fields: its order, and copies that own it. The octets and fields of each type are in
+//! the cases of `cases_rdata`.
 
 mod orders;
 mod owned;

@@ -13,7 +13,7 @@ loop-line-init c =
 pub loop-line-preserved-in-None-mark_of : goal.loop-line-preserved-in-None-mark_of
 loop-line-preserved-in-None-mark_of c =
     let same : all_lines c.loop-line.ended.items ++ texts c.loop-line.block.items ≡ all_lines c.push.new.self.items ++ texts c.new-block-in-None-mark_of.result.items =
-        rw (c.in_ok-push-in-None-mark_of.ensures.items, all_lines-push, c.new-block-in-None-mark_of.ensures.items) (search rules) in
+    rw (c.in_ok-push-in-None-mark_of.ensures.items, all_lines-push, c.new-block-in-None-mark_of.ensures.items) (search rules) in
     skips c.in-Some.line c.next.new.self c.loop-line.invariant c.in-Some.ensures.steps (ap is_content (sym c.mark_of.ensures ∙ c.in-None-mark_of.is)) same
 
 pub loop-line-preserved-in-Some-eq35 : goal.loop-line-preserved-in-Some-eq35

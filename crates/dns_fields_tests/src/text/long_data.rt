@@ -1,4 +1,4 @@
-//! Words that aren't record data of a type.
+//! Record data of as many octets as there may be.
 use crate::text::asserts::assert_holds;
 use dns_code::Rtype;
 use dns_data_read::from_text;
