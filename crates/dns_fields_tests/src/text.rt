@@ -2,32 +2,19 @@
 //! The expected texts and octets are examples of the RFCs, or what other DNS programs print and
 //! read.
 //!
-//! * `row` prints the record data of a row and reads its text. `hosts`, `services`, `certificates`
-//!   and `dnssec` have three rows or more of each type of the table, and `forms` rows of further
-//!   forms. A text that no RFC has is one that dnspython 2.3.0 reads as the same octets, except for
-//!   TKEY and the types that it doesn't read.
-//! * `printed_records` and `read_records` have whole records, and `bad_words` words that aren't
-//!   record data.
-//! * `printed` has values and their texts. `digits`, `values`, `octets`, `locations`, `gateways`
-//!   and `parameters` have words and what they represent, and `lines` lines and their words.
+//! * `printed_records` and `read_records` have whole records, and `long_data` the longest RDATA.
+//! * `printed` has values and their texts, `sized` octets after their length, and `lines` lines and
+//!   their words. `readers` calls each reader of words once.
 //! * `asserts` and `reading` have assertions.
+//!
+//! The texts of each type are in the cases of `cases_rdata`.
 
 mod asserts;
-mod bad_words;
-mod certificates;
-mod digits;
-mod dnssec;
-mod forms;
-mod gateways;
-mod hosts;
 mod lines;
-mod locations;
-mod octets;
-mod parameters;
+mod long_data;
 mod printed;
 mod printed_records;
 mod read_records;
+mod readers;
 mod reading;
-mod row;
-mod services;
-mod values;
+mod sized;

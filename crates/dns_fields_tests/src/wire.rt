@@ -1,16 +1,6 @@
-//! RDATA as fields. The rows are examples of the RFCs, or have their form.
-//!
-//! `certificates`, `dnssec`, `hosts` and `services` have three rows or more for each type, which
-//! `rows` reads, cuts at each octet, and writes. `malformed` has octets that aren't RDATA.
+//! RDATA as fields: its order, and copies that own it. The octets and fields of each type are in
+//! the cases of `cases_rdata`.
 
-mod canonical;
-mod certificates;
-mod dnssec;
-mod hosts;
-mod long;
-mod malformed;
 mod orders;
 mod owned;
-mod pointers;
 mod rows;
-mod services;

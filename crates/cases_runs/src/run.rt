@@ -1,0 +1,154 @@
+//! A run of a program.
+use dns_cases::{Report, key_of, octets_of, push_times};
+use std::alloc::{AllocError, Global};
+use std::io;
+use std::io::Write;
+
+/// A run: the program and its arguments, its input, and what it prints. `is_whole` says that
+/// `printed` is all of it after the skipped lines.
+#[derive(Drop)]
+pub(crate) struct Run<'a> {
+    words: &'a str,
+    pub(crate) input: Vec<u8>,
+    printed: Vec<u8>,
+    errors: Vec<u8>,
+    status: &'a str,
+    skipped: usize,
+    is_whole: bool,
+}
+
+/// What a run printed, and its exit status.
+#[derive(Drop)]
+pub(crate) struct Ended {
+    pub(crate) output: Vec<u8>,
+    errors: Vec<u8>,
+    status: u8,
+}
+
+impl<'a> Run<'a> {
+    /// A run of no program.
+    pub(crate) fn new(alloc: Global) -> Run<'a> {
+        Run {
+            words: "",
+            input: Vec::new(alloc),
+            printed: Vec::new(alloc),
+            errors: Vec::new(alloc),
+            status: "0",
+            skipped: 0,
+            is_whole: true,
+        }
+    }
+
+    /// Takes a line of a case. Returns whether its key is one of a run, and its text has the form.
+    pub(crate) fn take_line(&mut self, alloc: Global, line: &'a str) -> Result<bool, AllocError> {
+        let (key, text) = key_of(line);
+        match key {
+            "run" => self.words = text,
+            "status" => self.status = text,
+            "skip" => self.skipped = text.parse::<usize>().unwrap_or(usize::MAX),
+            "<" => push_line(&mut self.input, text)?,
+            ">" => push_line(&mut self.printed, text)?,
+            "2>" => push_line(&mut self.errors, text)?,
+            "<." => self.input.extend_from_slice(text.as_bytes())?,
+            ">." => self.printed.extend_from_slice(text.as_bytes())?,
+            "<x" => return push_octets(alloc, &mut self.input, text),
+            ">x" => return push_octets(alloc, &mut self.printed, text),
+            "starts" | "ends" | "has" | "count" | "line" | "most" => self.is_whole = false,
+            "opt" => {}
+            _ => return self.take_repeated(alloc, key, text),
+        }
+        Ok(true)
+    }
+
+    /// Takes a line whose key is `<*` and how often the text is a line of the input.
+    fn take_repeated(&mut self, alloc: Global, key: &str, text: &str) -> Result<bool, AllocError> {
+        let count = key.strip_prefix("<*").unwrap_or("").parse::<u32>();
+        let Ok(count) = count else {
+            return Ok(false);
+        };
+        let mut line = Vec::new(alloc);
+        push_line(&mut line, text)?;
+        push_times(&mut self.input, line.as_slice(), count)?;
+        Ok(true)
+    }
+
+    /// Runs the program.
+    pub(crate) fn end(&self, alloc: Global) -> io::Result<Ended> {
+        let (program, words) = self.words.split_once(' ').unwrap_or((self.words, ""));
+        let words = words_of(alloc, words)?;
+        let (mut output, mut errors) = (Vec::new(alloc), Vec::new(alloc));
+        let input = self.input.as_slice();
+        let status = match program {
+            "dnsmsg" => dns_tool::tool(alloc, &words, input, &mut output),
+            "dnsview" => dns_view::tool(alloc, &words, input, &mut output, &mut errors),
+            _ => u8::MAX,
+        };
+        Ok(Ended {
+            output,
+            errors,
+            status,
+        })
+    }
+
+    /// Checks what the run printed, and its exit status. No line of `dnsview` without arguments has
+    /// more than 80 columns.
+    pub(crate) fn check<W: Write + Drop>(
+        &self,
+        alloc: Global,
+        report: &mut Report<'_, W>,
+        ended: &Ended,
+    ) -> io::Result<()> {
+        let status = format!(in alloc; "{}", ended.status)?;
+        report.check("status", self.status.as_bytes(), status.as_bytes())?;
+        report.check("errors", self.errors.as_slice(), ended.errors.as_slice())?;
+        let output = ended.output.as_slice();
+        if self.is_whole {
+            let printed = after_lines(output, self.skipped);
+            report.check("printed", self.printed.as_slice(), printed)?;
+        }
+        if self.words == "dnsview" {
+            report.check("columns", b"", wide_line(output))?;
+        }
+        Ok(())
+    }
+}
+
+/// Appends a line.
+fn push_line(octets: &mut Vec<u8>, text: &str) -> Result<(), AllocError> {
+    octets.extend_from_slice(text.as_bytes())?;
+    Ok(octets.push(b'\n')?)
+}
+
+/// Appends the octets that digits represent. Returns whether they represent some.
+fn push_octets(alloc: Global, octets: &mut Vec<u8>, digits: &str) -> Result<bool, AllocError> {
+    let Some(others) = octets_of(alloc, digits)? else {
+        return Ok(false);
+    };
+    octets.extend_from_slice(others.as_slice())?;
+    Ok(true)
+}
+
+/// Arguments that are separated by spaces, as a program takes them.
+fn words_of(alloc: Global, words: &str) -> Result<Vec<String>, AllocError> {
+    let mut strings = Vec::new(alloc);
+    for word in words.split_ascii_whitespace() {
+        strings.push(String::from_str(alloc, word)?)?;
+    }
+    Ok(strings)
+}
+
+/// The octets after some lines.
+fn after_lines(octets: &[u8], lines: usize) -> &[u8] {
+    octets
+        .splitn(lines.saturating_add(1), |octet| *octet == b'\n')
+        .nth(lines)
+        .unwrap_or(b"")
+}
+
+/// The first line of more than 80 columns. Empty if there is none.
+fn wide_line(octets: &[u8]) -> &[u8] {
+    octets
+        .split(|octet| *octet == b'\n')
+        .find(|line| line.len() > 80)
+        .unwrap_or(b"")
+}
