@@ -15,6 +15,7 @@ use Rattle.dns_line_words.specs.FieldLaws.{AreWordsOfData, DataSplits}
 use Rattle.dns_line_words.specs.LineWords.{AreWordsOf, texts}
 use Rattle.dns_line_words.specs.ListLaws.{opaque_words}
 use Rattle.dns_line_words.proofs.LineLemmas.{one_list}
+use Rattle.dns_fields.proofs.theory.PartOctets.{plain_octets}
 use Rattle.dns_data_read.specs.DataWords.{AreDataWords}
 use Rattle.dns_data_read.specs.FieldWords.{Words}
 use Rattle.dns_data_read.specs.Laws.{DataReadsBack, HasOctets}
@@ -23,7 +24,6 @@ use Rattle.dns_data_read.proofs.FirstFields.{AreLayoutParts, data_ends}
 use Rattle.dns_data_read.proofs.PrintedLaws.{PrintedLaws}
 use Rattle.dns_data_read.proofs.OpaqueBack.{opaque_back}
 use Rattle.dns_data_read.proofs.RdataBack.{are_parts, rdata_back}
-use Rattle.dns_data_read.proofs.RdataLemmas.{plain_octets}
 
 short_octets : (parts : List Part) → length (octets_of_parts parts) ≤ parts_size parts
 short_octets parts = subst (λ (xs : List ℕ). length xs ≤ parts_size parts) (plain_octets parts nothing 0) (parts_are_short Plain parts nothing 0)

@@ -24,7 +24,8 @@ use Rattle.dns_parameters_read.proofs.theory.OneParameters.{one_parameters}
 use Rattle.dns_value_text.specs.declared.text_error.TextError.{TextError}
 use Rattle.dns_data_read.specs.DataWords.{AreCountedDigits, AreDataWords, AreFields, IsDataText, ReadsData}
 use Rattle.dns_data_read.specs.Extents.{extent_of}
-use Rattle.dns_data_read.specs.FieldWords.{AreFieldWords, AreStrings, IsField, IsFieldOf, IsFieldWord, IsHash, IsNumberIn, IsOne, IsSalt, IsString, IsTime, IsType, Words, counted}
+use Rattle.dns_fields_read.specs.LengthOctets.{counted}
+use Rattle.dns_data_read.specs.FieldWords.{AreFieldWords, AreStrings, IsField, IsFieldOf, IsFieldWord, IsHash, IsNumberIn, IsOne, IsSalt, IsString, IsTime, IsType, Words}
 use Rattle.dns_data_read.specs.Rdata.{IsRdata, ReadsRdata}
 use Rattle.dns_data_read.specs.declared.extent.Extent.{Extent}
 use Rattle.dns_data_read.specs.declared.extent.Extent.TheVariants.{One, OneOrTwo, All}

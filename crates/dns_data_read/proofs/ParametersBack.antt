@@ -1,19 +1,19 @@
 -- Printed fields of service parameters read back.
 use Rattle.std.proofs.Common.{◌≡◌, ◌∙◌, ℕ, zero, suc, ◌+◌, ◌*◌, ◌/◌, ◌%◌, ◌^◌, ◌<◌, ◌≤◌, true, List, [], ◌∷◌, ◌++◌, length, take, drop, map, refl, sym, ap, subst, arith, length-take-le, length-drop, take-append-drop}
-use Rattle.std.specs.Prelude.{Option, nat_le}
+use Rattle.std.specs.Prelude.{nat_le}
 use Rattle.std.specs.List.{AllByRecursion, flat_map}
-use Rattle.std.specs.Option.{option_map_or}
 use Rattle.std.proofs.lemmas.Bool.{and_parts, false≢true, leb-true}
 use Rattle.hex.specs.Hex.{IsBytes}
 use Rattle.dns_fields.specs.Parameters.{are_parameters, parameters_after}
-use Rattle.dns_fields_text.specs.ParameterItems.{ParameterItem, parameter_at, parameters_of}
+use Rattle.dns_fields_text.specs.ParameterItems.{ParameterItem, parameter_at, parameter_octets, parameters_of}
 use Rattle.dns_fields_text.specs.Parameters.{parameter_word}
-use Rattle.dns_fields_text.proofs.theory.ItemLemmas.{IsShrinking, items_of_first}
+use Rattle.dns_fields_text.proofs.theory.ItemLemmas.{items_of_first}
+use Rattle.dns_fields_text.proofs.theory.Shrinking.{parameter_shrinks}
 use Rattle.dns_line_words.specs.LineWords.{texts}
 use Rattle.dns_fields_read.proofs.theory.ByteLemmas.{bytes_drop, bytes_take}
 use Rattle.dns_parameters_read.specs.AnyOrder.{AreIncreasing, InAnyOrder}
 use Rattle.dns_parameters_read.specs.Laws.{ParametersReadBack}
-use Rattle.dns_parameters_read.specs.ParameterWords.{AreParameterWords, IsParameterWord, key_of, parameter_octets}
+use Rattle.dns_parameters_read.specs.ParameterWords.{AreParameterWords, IsParameterWord, key_of}
 use Rattle.dns_data_read.specs.FieldWords.{Words}
 
 -- two octets are the key of a parameter, and two count its value
@@ -23,17 +23,6 @@ Fits item = IsBytes item.value × (item.key < 2 ^ 16) × (length item.value < 2 
 -- the octets are those of parameters with increasing keys
 abbrev AreItems : ℕ → List ParameterItem → List ℕ → Type 0
 AreItems least items octets = AllByRecursion Fits items × AreIncreasing key_of least items × (octets ≡ flat_map parameter_octets items)
-
-parameter_shrinks : IsShrinking parameter_at
-parameter_shrinks [] after item e = cc
-parameter_shrinks (a ∷ []) after item e = cc
-parameter_shrinks (a ∷ b ∷ []) after item e = cc
-parameter_shrinks (a ∷ b ∷ c ∷ []) after item e = cc
-parameter_shrinks (a ∷ b ∷ c ∷ d ∷ octets) after item e =
-    let left : drop (c * 256 + d) octets ≡ after = ap (λ (o : Option (ParameterItem × List ℕ)). option_map_or (λ split. split.1) o []) e in
-    let n = ap length left in
-    let size = length-drop (c * 256 + d) octets in
-    omega arith
 
 -- the octets that a size counts, and the parameters after them
 parameters_left : (least left : ℕ) (octets : List ℕ) → parameters_after least left octets ≡ true → (left ≤ length octets) × (parameters_after least 0 (drop left octets) ≡ true)

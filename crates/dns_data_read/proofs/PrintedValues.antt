@@ -24,7 +24,8 @@ use Rattle.dns_fields_read.specs.LocatorWords.{IsLocatorWord}
 use Rattle.dns_fields_read.specs.NameWords.{IsNameWord}
 use Rattle.dns_fields_read.proofs.theory.ByteLemmas.{labels_of_octets}
 use Rattle.dns_line_words.specs.LineWords.{IsWord}
-use Rattle.dns_data_read.specs.FieldWords.{IsHash, IsNumberIn, IsSalt, IsString, IsTagWord, IsTime, IsType, counted}
+use Rattle.dns_fields_read.specs.LengthOctets.{counted}
+use Rattle.dns_data_read.specs.FieldWords.{IsHash, IsNumberIn, IsSalt, IsString, IsTagWord, IsTime, IsType}
 use Rattle.dns_data_read.proofs.MarkedWords.{number_differs, type_differs}
 use Rattle.dns_data_read.proofs.NumberOctets.{number_octets, number_small}
 use Rattle.dns_data_read.proofs.PrintedLaws.{PrintedLaws}

@@ -13,9 +13,9 @@ use Rattle.dns_fields.specs.EncodedData.{data_is_there}
 use Rattle.dns_fields.specs.FieldData.{type_layout}
 use Rattle.dns_fields.specs.LaidOut.{encoded_parts}
 use Rattle.dns_fields.specs.declared.field_data.FieldData.{FieldData}
+use Rattle.dns_fields.proofs.theory.PartOctets.{plain_octets}
 use Rattle.dns_data_read.specs.Laws.{HasOctets}
 use Rattle.dns_data_read.specs.Rdata.{IsRdata}
-use Rattle.dns_data_read.proofs.RdataLemmas.{plain_octets}
 
 -- the names among the parts of a view are names
 pub are_parts : (fields : FieldData) → AreParts (parts_of fields)

@@ -1,22 +1,15 @@
 -- Octets as RDATA.
-use Rattle.std.proofs.Common.{◌≡◌, ◌≢◌, ◌∙◌, ℕ, ◌+◌, ◌<◌, List, [], ◌∷◌, ◌++◌, length, refl, sym, ap, subst, arith}
+use Rattle.std.proofs.Common.{◌≡◌, ◌≢◌, ◌∙◌, ℕ, ◌<◌, List, [], length, sym, ap, subst, arith}
 use Rattle.dns_name.specs.Names.{Fault, uncompressed}
-use Rattle.dns_wire.specs.Encoders.{CompressionTable, Plain, encode_name, nothing}
-use Rattle.dns_wire.specs.Parts.{Part, Octets, CompressibleName, UncompressedName, encode_parts}
+use Rattle.dns_wire.specs.Encoders.{Plain, nothing}
+use Rattle.dns_wire.specs.Parts.{Part, encode_parts}
 use Rattle.dns_wire.specs.Targets.{Written, append, with_empty_table}
 use Rattle.dns_data.specs.Layout.{DataAt, DataFaultAt}
 use Rattle.dns_data.proofs.theory.DataReading.{not_both, one_rdata}
 use Rattle.dns_fields.specs.DataOrders.{octets_of_parts}
 use Rattle.dns_fields.specs.FieldData.{type_layout}
+use Rattle.dns_fields.proofs.theory.PartOctets.{plain_octets}
 use Rattle.dns_data_read.specs.Rdata.{IsRdata}
-
--- parts that are written without compression
-pub plain_octets : (parts : List Part) (m : CompressionTable) (w : ℕ) → (encode_parts Plain parts m w).octets ≡ octets_of_parts parts
-unfolding encode_parts encode_name
-plain_octets [] m w = refl
-plain_octets (Octets octets ∷ parts) m w = ap (λ (xs : List ℕ). octets ++ xs) (plain_octets parts m (w + length octets))
-plain_octets (CompressibleName name ∷ parts) m w = ap (λ (xs : List ℕ). uncompressed name ++ xs) (plain_octets parts m (w + length (uncompressed name)))
-plain_octets (UncompressedName lowers name ∷ parts) m w = ap (λ (xs : List ℕ). uncompressed name ++ xs) (plain_octets parts m (w + length (uncompressed name)))
 
 pub plain_written : (parts : List Part) (none octets : List ℕ) → none ≡ [] → with_empty_table octets ≡ append (encode_parts Plain parts) (with_empty_table none) → octets ≡ octets_of_parts parts
 plain_written parts none octets empty e =

@@ -12,7 +12,8 @@ use Rattle.dns_fields_text.specs.Strings.{string_at, strings_of}
 use Rattle.dns_fields_read.specs.Laws.{StringsReadBack}
 use Rattle.dns_fields_read.proofs.theory.ByteLemmas.{bytes_drop, bytes_take}
 use Rattle.dns_line_words.specs.LineWords.{texts}
-use Rattle.dns_data_read.specs.FieldWords.{AreStrings, IsString, Words, counted}
+use Rattle.dns_fields_read.specs.LengthOctets.{counted}
+use Rattle.dns_data_read.specs.FieldWords.{AreStrings, IsString, Words}
 
 -- octets that end a character string are there, and strings follow them
 after_string : (left : ℕ) (octets : List ℕ) → strings_after left octets ≡ true → (left ≤ length octets) × (strings_after 0 (drop left octets) ≡ true)

@@ -18,7 +18,8 @@ use Rattle.dns_value_text.specs.String.{quoted}
 use Rattle.dns_fields_text.specs.FieldTexts.{sized_text, strings_text, text_of_any, value_text}
 use Rattle.dns_fields_text.specs.Strings.{strings_of}
 use Rattle.dns_fields_read.specs.JoinedWords.{joined}
-use Rattle.dns_fields_read.specs.SizedWords.{AreSized, IsSizedWords, sized}
+use Rattle.dns_fields_read.specs.LengthOctets.{sized}
+use Rattle.dns_fields_read.specs.SizedWords.{AreSized, IsSizedWords}
 use Rattle.dns_line_words.specs.LineWords.{AreWordsOf, IsWord, texts}
 use Rattle.dns_line_words.specs.LineWords.AreWordsWithin.{none, more}
 use Rattle.dns_line_words.specs.ListLaws.{word_of_any}

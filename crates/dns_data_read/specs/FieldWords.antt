@@ -12,6 +12,7 @@ use Rattle.dns_fields_read.specs.EuiWords.{IsEuiWord}
 use Rattle.dns_fields_read.specs.GatewayWords.{IsGateway, IsRelay}
 use Rattle.dns_fields_read.specs.IdentityWords.{IsHostIdentity}
 use Rattle.dns_fields_read.specs.JoinedWords.{AreBase64, AreHex}
+use Rattle.dns_fields_read.specs.LengthOctets.{counted}
 use Rattle.dns_fields_read.specs.LocationWords.{IsLocation}
 use Rattle.dns_fields_read.specs.LocatorWords.{IsLocatorWord}
 use Rattle.dns_fields_read.specs.NameWords.{IsNameWord}
@@ -40,10 +41,6 @@ IsTime word octets = (n : ℕ) × IsTimeWord word n × (octets ≡ last_octets 4
 -- a record type. RFC 4034 section 3.2
 abbrev pub IsType : List ℕ → List ℕ → Type 0
 IsType word octets = (n : ℕ) × IsTypeWord word n × (octets ≡ last_octets 2 n)
-
--- octets after a length octet
-abbrev pub counted : List ℕ → List ℕ
-counted octets = length octets ∷ octets
 
 -- a character string. RFC 1035 section 3.3
 abbrev pub IsString : List ℕ → List ℕ → Type 0

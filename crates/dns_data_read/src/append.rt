@@ -1,7 +1,7 @@
 //! Appending octets.
 ghost use Rattle.std.specs.Prelude.{◌≡◌, ◌++◌, ◌≤◌, length, IfErr, OnOk};
 ghost use Rattle.dns_data_read.specs.Appended.{AppendsRead};
-ghost use Rattle.dns_data_read.specs.FieldWords.{counted};
+ghost use Rattle.dns_fields_read.specs.LengthOctets.{counted};
 ghost use Rattle.dns_value_text.specs.declared.text_error.TextError.TheVariants.{OutOfMemory};
 
 use dns_fields_read::push_octets;

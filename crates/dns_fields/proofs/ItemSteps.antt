@@ -7,6 +7,7 @@ use Rattle.dns_fields.specs.Strings.{strings_after, are_strings}
 use Rattle.dns_fields.specs.TypeMaps.{is_bit_map, blocks_after}
 use Rattle.dns_fields.specs.Parameters.{parameters_after}
 use Rattle.dns_fields.specs.Prefixes.{prefixes_after}
+use Rattle.dns_fields.proofs.theory.SkippedItems.{skip_address, skip_block, skip_string, skip_value}
 
 -- the octets after the first k
 abbrev pub after : ℕ → List ℕ → List ℕ
@@ -23,11 +24,6 @@ pub after_length : (k : ℕ) (xs rest : List ℕ) → drop k xs ≡ rest → len
 after_length k xs rest e = ap length (after_is k xs ∙ e)
 
 -- Character strings.
-
-skip_string : (left : ℕ) (xs : List ℕ) → left ≤ length xs → strings_after left xs ≡ strings_after 0 (drop left xs)
-skip_string zero xs l = refl
-skip_string (suc left) [] l = absurd (omega arith)
-skip_string (suc left) (x ∷ xs) l = skip_string left xs (omega arith)
 
 short_string : (left : ℕ) (xs : List ℕ) → length xs < left → strings_after left xs ≡ false
 short_string zero xs l = absurd (omega arith)
@@ -52,11 +48,6 @@ module _ (octets : List ℕ) where
 
 -- Blocks of a type bit map.
 
-skip_block : (least left : ℕ) (xs : List ℕ) → left ≤ length xs → blocks_after least left xs ≡ blocks_after least 0 (drop left xs)
-skip_block least zero xs l = refl
-skip_block least (suc left) [] l = absurd (omega arith)
-skip_block least (suc left) (x ∷ xs) l = skip_block least left xs (omega arith)
-
 short_block : (least left : ℕ) (xs : List ℕ) → length xs < left → blocks_after least left xs ≡ false
 short_block least zero xs l = absurd (omega arith)
 short_block least (suc left) [] l = refl
@@ -78,11 +69,6 @@ block_step least size next (window ∷ size' ∷ xs) l e n few above good =
     ∙ ap (λ k. blocks_after k 0 (drop size xs)) (sym n) ∙ ap (blocks_after next 0) (sym (after_both 2 size (window ∷ size' ∷ xs) xs refl))
 
 -- Service parameters.
-
-skip_value : (least left : ℕ) (xs : List ℕ) → left ≤ length xs → parameters_after least left xs ≡ parameters_after least 0 (drop left xs)
-skip_value least zero xs l = refl
-skip_value least (suc left) [] l = absurd (omega arith)
-skip_value least (suc left) (x ∷ xs) l = skip_value least left xs (omega arith)
 
 short_value : (least left : ℕ) (xs : List ℕ) → length xs < left → parameters_after least left xs ≡ false
 short_value least zero xs l = absurd (omega arith)
@@ -118,11 +104,6 @@ parameter_short least key size xs h few =
     parameter_is least key size xs h ∙ and_right _ _ (short_value (key + 1) size (drop 4 xs) (omega (arith, ap length (after_is 4 xs))))
 
 -- Address prefixes.
-
-skip_address : (left : ℕ) (xs : List ℕ) → left ≤ length xs → prefixes_after left xs ≡ prefixes_after 0 (drop left xs)
-skip_address zero xs l = refl
-skip_address (suc left) [] l = absurd (omega arith)
-skip_address (suc left) (x ∷ xs) l = skip_address left xs (omega arith)
 
 short_address : (left : ℕ) (xs : List ℕ) → length xs < left → prefixes_after left xs ≡ false
 short_address zero xs l = absurd (omega arith)

@@ -1,8 +1,10 @@
+pub mod theory
 mod CanonicalOrders
 mod ComposedFields
 mod FieldLemmas
 mod ItemSteps
 mod Iterated
+mod MadeData
 mod NamedFields
 mod NameSteps
 mod OrderedData

@@ -12,6 +12,7 @@ pub mod Gateways
 pub mod HostIdentities
 pub mod LaidOut
 pub mod Layouts
+pub mod MadeData
 pub mod NamesOfTypes
 pub mod OrderLaws
 pub mod OwnedData

@@ -4,6 +4,7 @@ ghost use Rattle.std.specs.List.{list_all, range_with_len};
 ghost use Rattle.dns_number.specs.Mnemonics.{mnemonic};
 ghost use Rattle.dns_number.specs.Registry.{registered_types};
 ghost use Rattle.dns_fields.specs.Layouts.{rest_is_last};
+ghost use Rattle.dns_fields.specs.MadeData.{MadePartsReadBack};
 ghost use Rattle.dns_fields.specs.NamesOfTypes.{types_with, may_be_compressed, may_have_pointer, is_lowercased};
 ghost use Rattle.dns_fields.specs.RecordTypes.{record_types};
 ghost use Rattle.dns_fields.specs.Table.{kinds_in, table_types};
@@ -39,4 +40,9 @@ pub fn names_of_types()
 #[tactic(auto, unfolding(crate::specs::RecordTypes::record_types))]
 pub fn rest_fields_are_last()
     ensures { list_all (λ type. rest_is_last (kinds_in type.fields)) record_types ≡ true }
+{}
+
+/// Parts with the layout of a type are what is read from their uncompressed octets.
+pub fn made_parts_read_back()
+    ensures { MadePartsReadBack }
 {}

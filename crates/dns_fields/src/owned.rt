@@ -33,6 +33,19 @@ impl OwnedFieldData {
         FieldData::of_encoded(self.rtype, Parser::new(self.octets.as_slice()))
     }
 
+    /// RDATA of this type with these octets.
+    pub(crate) fn from_octets(rtype: Rtype, octets: Vec<u8>) -> Self
+        requires encoded { AreThere rtype octets.items }
+        requires short { parts_size (parts_in rtype octets.items) ≤ most }
+        ensures rtype { owned_rtype_of result ≡ rtype }
+        ensures parts { owned_parts_of result ≡ parts_in rtype octets.items }
+    {
+        OwnedFieldData {
+            rtype: rtype.to_int(),
+            octets,
+        }
+    }
+
     /// Copies RDATA. Returns `OutOfMemory` if an allocation fails.
     pub fn from_field_data(alloc: Global, source: &FieldData<'_>) -> Result<Self, AppendError>
         ensures { Converts result (keeps_data source.now) ⊥ ⊤ }

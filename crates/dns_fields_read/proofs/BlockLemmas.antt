@@ -2,10 +2,11 @@
 use Rattle.std.proofs.Common.{◌≡◌, ◌∙◌, ℕ, zero, suc, ◌+◌, ◌-◌, ◌*◌, ◌<◌, ◌≤◌, ◌++◌, true, List, [], ◌∷◌, length, take, drop, get_or, refl, ap, subst, arith, length-append, le-leb}
 use Rattle.std.specs.List.{flat_map}
 use Rattle.std.specs.Prelude.{nat_le, nat_lt, ◌&&◌}
-use Rattle.std.proofs.Math.Seq.{take-append_seam}
+use Rattle.std.proofs.Math.Seq.{drop-append_seam, take-append_seam}
 use Rattle.std.proofs.lemmas.Bool.{and_from, and_parts, cond-true, false≢true, leb-true, lt-ltb}
 use Rattle.hex.specs.Hex.{IsBytes}
 use Rattle.dns_fields.specs.TypeMaps.{blocks_after, is_bit_map}
+use Rattle.dns_fields.proofs.theory.SkippedItems.{skip_block}
 use Rattle.dns_fields_text.proofs.theory.BlockLemmas.{block_shrinks}
 use Rattle.dns_fields_text.proofs.theory.ItemLemmas.{items_of_first}
 use Rattle.dns_fields_text.specs.TypeMaps.{Block, block_at, ends_nonzero, map_types, octet_types}
@@ -19,14 +20,10 @@ map_first window size octets short fits =
     (items_of_first block_at block_shrinks (window ∷ size ∷ octets) (drop size octets) (record { first = window * 256; octets = take size octets })
     (cond-true _ _ _ (and_from _ _ (le-leb size 32 short) (le-leb size (length octets) fits))))
 
-pub drop_seam : (xs ys : List ℕ) → drop (length xs) (xs ++ ys) ≡ ys
-drop_seam [] ys = refl
-drop_seam (x ∷ xs) ys = drop_seam xs ys
-
 pub map_more : (window : ℕ) (bits after : List ℕ) → length bits ≤ 32 → map_types (window ∷ length bits ∷ (bits ++ after)) ≡ octet_types (window * 256) bits ++ map_types after
 map_more window bits after short =
     map_first window (length bits) (bits ++ after) short (omega (arith, length-append bits after))
-    ∙ (λ i. octet_types (window * 256) (take-append_seam bits after i) ++ map_types (drop_seam bits after i))
+    ∙ (λ i. octet_types (window * 256) (take-append_seam bits after i) ++ map_types (drop-append_seam bits after i))
 
 -- the octets that a size counts, and the blocks after them
 blocks_left : (least left : ℕ) (octets : List ℕ) → blocks_after least left octets ≡ true → (left ≤ length octets) × (blocks_after least 0 (drop left octets) ≡ true)
@@ -72,8 +69,8 @@ some_bits [] ends = absurd (false≢true ends)
 some_bits (x ∷ bits) ends = omega arith
 
 skip_bits : (least : ℕ) (bits after : List ℕ) → blocks_after least (length bits) (bits ++ after) ≡ blocks_after least 0 after
-skip_bits least [] after = refl
-skip_bits least (x ∷ bits) after = skip_bits least bits after
+skip_bits least bits after =
+    skip_block least (length bits) (bits ++ after) (omega (arith, length-append bits after)) ∙ ap (blocks_after least 0) (drop-append_seam bits after)
 
 pub more_blocks : (least window : ℕ) (bits after : List ℕ) → least ≤ window → length bits ≤ 32 → ends_nonzero bits ≡ true → blocks_after (window + 1) 0 after ≡ true
     → blocks_after least 0 (window ∷ length bits ∷ (bits ++ after)) ≡ true

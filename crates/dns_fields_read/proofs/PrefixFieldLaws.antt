@@ -6,7 +6,6 @@ use Rattle.std.specs.Char.{digit_value}
 use Rattle.std.specs.Fmt.{◌++?◌}
 use Rattle.std.specs.Net.Addr.{octets_of, segments_of}
 use Rattle.std.specs.Net.Text.{hex_groups_text, ipv4_text, ipv6_text}
-use Rattle.std.specs.Option.{option_map_or}
 use Rattle.std.specs.Str.Parse.{AllDigits}
 use Rattle.std.proofs.NetLemmas.Alphabet.{All-hex_groups_text, All-ipv4_text, IsDigitOrDot, IsHexOrColon}
 use Rattle.std.proofs.NetLemmas.Texts.{AllSegments, AllSegments-drop}
@@ -20,7 +19,8 @@ use Rattle.dns_fields_text.specs.FieldTexts.{prefixes_text}
 use Rattle.dns_fields_text.specs.PrefixItems.{PrefixItem, prefix_at, prefixes_of}
 use Rattle.dns_fields_text.specs.Prefixes.{address_text, has_word, padded, prefix_text, prefix_word, sign}
 use Rattle.dns_fields_text.specs.Separated.{separated, spaced, spaced_if_all}
-use Rattle.dns_fields_text.proofs.theory.ItemLemmas.{IsShrinking, items_of_first}
+use Rattle.dns_fields_text.proofs.theory.ItemLemmas.{items_of_first}
+use Rattle.dns_fields_text.proofs.theory.Shrinking.{prefix_shrinks}
 use Rattle.dns_fields_read.specs.PrefixWords.{ArePrefixWords, IsPrefixWord, prefix_octets}
 use Rattle.dns_fields_read.proofs.theory.AddressLaws.{segments_fit, octets_fit}
 use Rattle.dns_fields_read.proofs.theory.ByteLemmas.{bytes_drop, bytes_take}
@@ -106,17 +106,6 @@ texts_of first (item ∷ items) text e =
 abbrev AreItems : List PrefixItem → List ℕ → Type 0
 AreItems [] octets = octets ≡ []
 AreItems (item ∷ items) octets = (after : List ℕ) × IsBytes item.address × (octets ≡ prefix_octets item ++ after) × AreItems items after
-
-prefix_shrinks : IsShrinking prefix_at
-prefix_shrinks [] after item e = cc
-prefix_shrinks (a ∷ []) after item e = cc
-prefix_shrinks (a ∷ b ∷ []) after item e = cc
-prefix_shrinks (a ∷ b ∷ c ∷ []) after item e = cc
-prefix_shrinks (a ∷ b ∷ c ∷ bits ∷ octets) after item e =
-    let left : drop (bits % 128) octets ≡ after = ap (λ (o : Option (PrefixItem × List ℕ)). option_map_or (λ split. split.1) o []) e in
-    let n = ap length left in
-    let size = length-drop (bits % 128) octets in
-    omega arith
 
 -- the octets that a size counts, and the prefixes after them
 prefixes_left : (left : ℕ) (octets : List ℕ) → prefixes_after left octets ≡ true → (left ≤ length octets) × (prefixes_after 0 (drop left octets) ≡ true)

@@ -14,7 +14,8 @@ use Rattle.dns_fields_text.specs.FieldTexts.{sized_text}
 use Rattle.dns_fields_text.specs.GatewayTexts.{key_text}
 use Rattle.dns_fields_read.specs.JoinedWords.{AreBase64}
 use Rattle.dns_fields_read.specs.PrintedWords.{AreWords}
-use Rattle.dns_fields_read.specs.SizedWords.{AreSized, IsSizedWords, sized}
+use Rattle.dns_fields_read.specs.LengthOctets.{sized}
+use Rattle.dns_fields_read.specs.SizedWords.{AreSized, IsSizedWords}
 use Rattle.dns_fields_read.proofs.theory.SpaceLemmas.{BeginsWithSpace, Separate, Taken, base64_clear, decimal_clear, no_words, taken, texts}
 
 abbrev Words : Type 0

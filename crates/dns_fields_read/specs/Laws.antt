@@ -33,7 +33,8 @@ use Rattle.dns_fields_read.specs.NameWords.{IsNameText}
 use Rattle.dns_fields_read.specs.PrefixWords.{ArePrefixWords, IsPrefixWord}
 use Rattle.dns_fields_read.specs.PrintedWords.{AreWords}
 use Rattle.dns_fields_read.specs.Salts.{IsCounted, IsHashWord, IsSaltWord}
-use Rattle.dns_fields_read.specs.SizedWords.{IsSizedWords, sized}
+use Rattle.dns_fields_read.specs.LengthOctets.{sized}
+use Rattle.dns_fields_read.specs.SizedWords.{IsSizedWords}
 use Rattle.dns_fields_read.specs.TimeWords.{IsTimeWord}
 use Rattle.dns_fields_read.specs.TypeMapWords.{AreTypeTexts, IsSmallTypeMap, IsTypeMap}
 use Rattle.dns_fields_read.specs.TypeWords.{IsTypeWord}

@@ -5,6 +5,7 @@ pub mod GatewayWords
 pub mod IdentityWords
 pub mod JoinedWords
 pub mod Laws
+pub mod LengthOctets
 pub mod LocationWords
 pub mod LocatorWords
 pub mod NameWords

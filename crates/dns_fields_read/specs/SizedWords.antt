@@ -1,8 +1,9 @@
 -- Words that represent octets after their length. RFC 8945 section 4.2.
-use Rattle.std.specs.Prelude.{◌≡◌, ℕ, ◌/◌, ◌%◌, ◌<◌, List, [], ◌∷◌, length}
+use Rattle.std.specs.Prelude.{◌≡◌, ℕ, ◌<◌, List, [], ◌∷◌, length}
 use Rattle.std.specs.Borrow.{Bor}
 use Rattle.std.specs.Net.Grammar.{IsNumber}
 use Rattle.dns_value_text.specs.Octets.{IsBase64}
+use Rattle.dns_fields_read.specs.LengthOctets.{sized}
 
 -- the word is octets in base64, and a length of 16 bits counts them; there is one at least
 abbrev pub IsCountedBase64 : List ℕ → List ℕ → Type 0
@@ -13,10 +14,6 @@ abbrev pub AreSized : List (Bor (List ℕ)) → List ℕ → Type 0
 AreSized (number ∷ []) octets = IsNumber 10 number.now 0 × (octets ≡ [])
 AreSized (number ∷ word ∷ []) octets = IsNumber 10 number.now (length octets) × IsCountedBase64 word.now octets
 AreSized _ octets = ⊥
-
--- octets after their length of 16 bits
-abbrev pub sized : List ℕ → List ℕ
-sized octets = length octets / 256 ∷ length octets % 256 ∷ octets
 
 -- the words represent octets, and these are the octets after their length
 abbrev pub IsSizedWords : List (Bor (List ℕ)) → List ℕ → Type 0

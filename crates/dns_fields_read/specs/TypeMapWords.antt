@@ -1,9 +1,11 @@
 -- Words that represent type bit maps. The words: RFC 4034 section 4.2, RFC 2535 section 7.3. The bit maps: RFC 4034 section 4.1.2, RFC 2535 section 5.2.
-use Rattle.std.specs.Prelude.{◌≡◌, ◌⊎◌, ◌↔◌, ℕ, ◌^◌, ◌<◌, ◌==◌, Bool, true, List, [], ◌∷◌}
+use Rattle.std.specs.Prelude.{◌≡◌, ◌⊎◌, ◌↔◌, ℕ, ◌^◌, ◌<◌, ◌==◌, Bool, true, List, [], ◌∷◌, ◌++◌, Result, MatchResult}
 use Rattle.std.specs.Borrow.{Bor}
 use Rattle.std.specs.List.{list_any}
 use Rattle.hex.specs.Hex.{IsBytes}
 use Rattle.dns_fields.specs.TypeMaps.{is_type_map}
+use Rattle.dns_value_text.specs.declared.text_error.TextError.{TextError}
+use Rattle.dns_value_text.specs.declared.text_error.TextError.TheVariants.{OutOfMemory}
 use Rattle.dns_fields_text.specs.TypeMaps.{is_small_map, map_types, octet_types}
 use Rattle.dns_fields_text.specs.TypeNames.{type_word}
 use Rattle.dns_fields_read.specs.TypeWords.{IsTypeWord}
@@ -21,6 +23,17 @@ AreTypes (word ∷ words) = ((n : ℕ) × IsTypeWord word.now n) × AreTypes wor
 -- whether the type is among these
 abbrev pub has : List ℕ → ℕ → Bool
 has types n = list_any (λ rtype. rtype == n) types
+
+-- the octets are the bit map of these types, in any order
+pub record IsTypeMapOf (types octets : List ℕ) : Type 0 where
+  pub bytes : IsBytes octets
+  pub blocks : is_type_map octets ≡ true
+  pub bits : (n : ℕ) → n < 2 ^ 16 → has (map_types octets) n ≡ has types n
+
+-- the bit map of the types is appended, or an allocation fails
+abbrev pub AppendsTypeMap : List ℕ → List ℕ → List ℕ → Result Unit TextError → Type 0
+AppendsTypeMap types old new result =
+    MatchResult result (λ _. (map : List ℕ) × IsTypeMapOf types map × (new ≡ old ++ map)) (λ error. error ≡ OutOfMemory)
 
 -- each of the words represents a type, and the octets are the bit map of these types: a bit is set exactly if a word represents its type
 pub record IsTypeMap (words : List (Bor (List ℕ))) (octets : List ℕ) : Type 0 where

@@ -35,5 +35,5 @@ pub use salt::{read_hash, read_salt};
 pub use sized::read_sized;
 pub use small_type_map::read_small_type_map;
 pub use time::read_time;
-pub use type_map::read_type_map;
+pub use type_map::{push_type_map, read_type_map};
 pub use type_name::read_type;

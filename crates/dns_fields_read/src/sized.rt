@@ -1,7 +1,8 @@
 //! Octets after their length (RFC 8945 section 4.2).
 ghost use Rattle.std.specs.Prelude.{◌≡◌, ◌<◌, length, IfErr, IfOk, []};
 ghost use Rattle.std.specs.Net.Grammar.{IsNumber};
-ghost use Rattle.dns_fields_read.specs.SizedWords.{AreSized, IsCountedBase64, IsSizedWords, sized};
+ghost use Rattle.dns_fields_read.specs.LengthOctets.{sized};
+ghost use Rattle.dns_fields_read.specs.SizedWords.{AreSized, IsCountedBase64, IsSizedWords};
 ghost use Rattle.dns_value_text.specs.Reading.{ReadsOctets};
 ghost use Rattle.dns_value_text.specs.declared.text_error.TextError.TheVariants.{OutOfMemory};
 

@@ -2,7 +2,7 @@
 ghost use Rattle.std.specs.Prelude.{◌≡◌, ◌==◌, ◌≤◌, ◌+◌, ◌*◌, ◌/◌, ◌++◌, length};
 ghost use Rattle.std.specs.List.{list_any};
 ghost use Rattle.dns_fields_read.specs.TypeBits.{AppendsBlock, AppendsBlocks, AppendsTypes, octet_bits, octets_bits};
-ghost use Rattle.dns_fields_read.specs.TypeMapWords.{IsTypeMap, has};
+ghost use Rattle.dns_fields_read.specs.TypeMapWords.{AppendsTypeMap, IsTypeMap, has};
 ghost use Rattle.dns_value_text.specs.Reading.{ReadsOctets};
 
 use crate::prefix::trimmed;
@@ -99,6 +99,14 @@ pub(crate) fn push_types(types: &mut Vec<u16>, words: &[&str]) -> Result<(), Tex
         return Err(TextError::OutOfMemory);
     }
     push_types(types, after)
+}
+
+/// Appends the type bit map of these types, which are in any order. Fails only if an allocation
+/// fails.
+pub fn push_type_map(map: &mut Vec<u8>, types: &[u16]) -> Result<(), TextError>
+    ensures { AppendsTypeMap types.now map.old.items map.new.items result }
+{
+    push_blocks(map, types, 0)
 }
 
 /// The type bit map of the types of words.

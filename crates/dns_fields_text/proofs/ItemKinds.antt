@@ -1,24 +1,14 @@
 -- The first parameter, prefix and string of octets, and groups.
-use Rattle.std.proofs.Common.{◌≡◌, min, ◌∙◌, ℕ, ◌+◌, ◌-◌, ◌*◌, ◌%◌, ◌<◌, ◌≤◌, true, false, List, [], ◌∷◌, length, get_or, take, drop, length-drop, Option, Some, None, refl, sym, ap, arith}
+use Rattle.std.proofs.Common.{◌≡◌, min, ◌∙◌, ℕ, ◌+◌, ◌-◌, ◌*◌, ◌%◌, ◌<◌, ◌≤◌, true, false, List, [], ◌∷◌, length, get_or, take, drop, length-drop, Some, None, refl, sym, ap, arith}
 use Rattle.std.specs.Prelude.{nat_le}
 use Rattle.std.proofs.lemmas.Bool.{le-leb, lt-leb, leb-true, leb-false}
-use Rattle.std.proofs.lemmas.List.{take_all, take_min, drop_min}
+use Rattle.std.proofs.lemmas.List.{take_min, take_rest, drop_min}
 use Rattle.dns_fields_text.specs.Groups.{group_at, groups}
 use Rattle.dns_fields_text.specs.ParameterItems.{ParameterItem, parameter_at, parameters_of}
 use Rattle.dns_fields_text.specs.PrefixItems.{PrefixItem, prefix_at, prefixes_of}
 use Rattle.dns_fields_text.specs.Strings.{string_at, strings_of}
 use Rattle.dns_fields_text.proofs.theory.ItemLemmas.{IsShrinking, items_of_first, items_of_none}
-
-some_same : {A : Type 0} (x y : A) → Some x ≡ Some y → x ≡ y
-some_same x y e = cc
-
--- the octets after an item
-same_after : {A : Type 0} (x y : A × List ℕ) (o : Option (A × List ℕ)) → o ≡ Some x → o ≡ Some y → x.1 ≡ y.1
-same_after {A = A} x y o e f = ap (λ (p : A × List ℕ). p.1) (some_same x y (sym e ∙ f))
-
--- the octets after the first k
-pub after_is : (k : ℕ) (xs : List ℕ) → take (length xs - k) (drop k xs) ≡ drop k xs
-after_is k xs = take_all (length xs - k) (drop k xs) (omega (arith, length-drop k xs))
+use Rattle.dns_fields_text.proofs.theory.Shrinking.{parameter_shrinks, prefix_shrinks, same_after, string_shrinks}
 
 -- Groups.
 
@@ -59,17 +49,11 @@ pub cut_at : (k : ℕ) (octets : List ℕ) (size n : ℕ) (value left : List ℕ
 cut_at k octets size n value left e front back =
     let rest : List ℕ = take (length octets - k) (drop k octets) in
     record {
-      value_is = front ∙ ap (λ (m : ℕ). take m rest) e ∙ take_min size rest ∙ ap (take size) (after_is k octets);
-      left_is = back ∙ ap (λ (m : ℕ). drop m rest) e ∙ drop_min size rest ∙ ap (drop size) (after_is k octets);
+      value_is = front ∙ ap (λ (m : ℕ). take m rest) e ∙ take_min size rest ∙ ap (take size) (take_rest octets k);
+      left_is = back ∙ ap (λ (m : ℕ). drop m rest) e ∙ drop_min size rest ∙ ap (drop size) (take_rest octets k);
     }
 
 -- Character strings.
-
-string_shrinks : IsShrinking string_at
-string_shrinks [] after item e = absurd (cc)
-string_shrinks (size ∷ octets) after item e =
-    let is : drop size octets ≡ after = same_after (take size octets, drop size octets) (item, after) (string_at (size ∷ octets)) refl e in
-    omega (arith, ap length is, length-drop size octets)
 
 string_first : (octets : List ℕ) (size : ℕ) → 1 ≤ length octets → size ≡ get_or octets 0 0 → string_at octets ≡ Some (take size (drop 1 octets), drop size (drop 1 octets))
 string_first [] size some e = absurd (omega arith)
@@ -82,16 +66,6 @@ strings_first octets value left size some e cut =
     (items_of_first string_at string_shrinks octets (drop size (drop 1 octets)) (take size (drop 1 octets)) (string_first octets size some e))
 
 -- Parameters.
-
-parameter_shrinks : IsShrinking parameter_at
-parameter_shrinks [] after item e = absurd (cc)
-parameter_shrinks (a ∷ []) after item e = absurd (cc)
-parameter_shrinks (a ∷ b ∷ []) after item e = absurd (cc)
-parameter_shrinks (a ∷ b ∷ c ∷ []) after item e = absurd (cc)
-parameter_shrinks (a ∷ b ∷ c ∷ d ∷ octets) after item e =
-    let first : ParameterItem = record { key = a * 256 + b; value = take (c * 256 + d) octets } in
-    let is : drop (c * 256 + d) octets ≡ after = same_after (first, drop (c * 256 + d) octets) (item, after) (parameter_at (a ∷ b ∷ c ∷ d ∷ octets)) refl e in
-    omega (arith, ap length is, length-drop (c * 256 + d) octets)
 
 -- the first parameter: its key, and the size of its value
 pub record FirstParameter (octets : List ℕ) (key size : ℕ) : Type 0 where
@@ -117,16 +91,6 @@ parameters_first octets value left key size h cut =
     (items_of_first parameter_at parameter_shrinks octets (drop size (drop 4 octets)) (parameter_of key (take size (drop 4 octets))) (parameter_first octets key size h))
 
 -- Prefixes.
-
-prefix_shrinks : IsShrinking prefix_at
-prefix_shrinks [] after item e = absurd (cc)
-prefix_shrinks (a ∷ []) after item e = absurd (cc)
-prefix_shrinks (a ∷ b ∷ []) after item e = absurd (cc)
-prefix_shrinks (a ∷ b ∷ c ∷ []) after item e = absurd (cc)
-prefix_shrinks (a ∷ b ∷ c ∷ d ∷ octets) after item e =
-    let first : PrefixItem = record { family = a * 256 + b; size = c; negated = nat_le 128 d; address = take (d % 128) octets } in
-    let is : drop (d % 128) octets ≡ after = same_after (first, drop (d % 128) octets) (item, after) (prefix_at (a ∷ b ∷ c ∷ d ∷ octets)) refl e in
-    omega (arith, ap length is, length-drop (d % 128) octets)
 
 -- the first prefix: its family, its size, and the octet of its bit and of the length of its address
 pub record FirstPrefix (octets : List ℕ) (family size bits : ℕ) : Type 0 where

@@ -11,4 +11,5 @@ mod Printing
 mod RecordLines
 mod ProtocolLemmas
 mod TypeMapLemmas
+mod TypeSteps
 mod WordSteps

@@ -17,6 +17,7 @@ pub mod RecordLines
 pub mod Separated
 pub mod SmallMaps
 pub mod Strings
+pub mod TypeItems
 pub mod TypeMaps
 pub mod TypeNames
 pub mod ZoneNames

@@ -1,5 +1,5 @@
 -- Service parameters as octets. RFC 9460 section 2.2.
-use Rattle.std.specs.Prelude.{ℕ, ◌+◌, ◌*◌, List, ◌∷◌, take, drop, Option, Some, None}
+use Rattle.std.specs.Prelude.{ℕ, ◌+◌, ◌*◌, ◌/◌, ◌%◌, List, [], ◌∷◌, ◌++◌, length, take, drop, Option, Some, None}
 use Rattle.dns_fields_text.specs.Items.{items_of}
 
 -- a service parameter: its key and its value
@@ -17,3 +17,11 @@ parameter_at _ = None
 -- the parameters of octets
 abbrev pub parameters_of : List ℕ → List ParameterItem
 parameters_of octets = items_of parameter_at octets
+
+-- a number as two octets
+abbrev pub two_octets : ℕ → List ℕ
+two_octets number = number / 256 ∷ number % 256 ∷ []
+
+-- a parameter as octets: its key, the size of its value, and its value
+abbrev pub parameter_octets : ParameterItem → List ℕ
+parameter_octets item = two_octets item.key ++ two_octets (length item.value) ++ item.value

@@ -16,6 +16,7 @@ mod record_text;
 mod strings;
 mod type_map;
 mod type_name;
+mod types;
 mod unknown;
 mod zone_name;
 
@@ -28,4 +29,5 @@ pub use record_text::RecordText;
 pub use strings::Strings;
 pub use type_map::{SmallTypeMap, TypeMap};
 pub use type_name::TypeName;
+pub use types::Types;
 pub use zone_name::ZoneName;

@@ -5,6 +5,7 @@ ghost use Rattle.dns_fields_text.specs.TypeMaps.{bit_types, is_small_map, map_ty
 ghost use Rattle.dns_fields_text.specs.Blocks.{SplitsBlock};
 
 use crate::type_name::TypeName;
+use crate::types::Types;
 use dns_number::Rtype;
 use std::fmt;
 
@@ -12,6 +13,26 @@ use std::fmt;
 /// set, each after a space, up to the first block that is malformed.
 #[derive(Clone, Copy, Debug)]
 pub struct TypeMap<'a>(pub &'a [u8]);
+
+impl<'a> TypeMap<'a> {
+    ghost use Rattle.std.specs.Prelude.{◌==◌};
+    ghost use Rattle.std.specs.List.{list_any};
+    ghost use Rattle.dns_fields_text.specs.TypeItems.{types_left};
+
+    /// The types whose bits are set.
+    pub fn types(&self) -> Types<'a>
+        ensures { types_left result ≡ map_types self.now.0.now }
+    {
+        Types::new(self.0)
+    }
+
+    /// Whether the bit of this type is set.
+    pub fn contains(&self, rtype: Rtype) -> bool
+        ensures { result ≡ list_any (λ found. found == rtype) (map_types self.now.0.now) }
+    {
+        self.types().any(|found| found == rtype)
+    }
+}
 
 /// Prints the types of the `count` high bits of an octet, from `first` on, each after a space.
 fn write_bits<W: fmt::Write>(
@@ -47,7 +68,7 @@ fn write_octets<W: fmt::Write>(f: &mut fmt::Formatter<W>, first: u32, octets: &[
 }
 
 /// The first type and the octets of the block at the start of octets, and the octets after it.
-fn split_block(octets: &[u8]) -> Option<(u32, &[u8], &[u8])>
+pub(crate) fn split_block(octets: &[u8]) -> Option<(u32, &[u8], &[u8])>
     ensures { SplitsBlock octets.now result }
 {
     let [window, size, after @ ..] = octets else {

@@ -1,18 +1,16 @@
 -- The words of record data.
-use Rattle.std.proofs.Common.{◌≡◌, ◌∙◌, ◌⊎◌, ℕ, zero, suc, ◌+◌, ◌<◌, ◌^◌, Bool, List, [], ◌∷◌, ◌++◌, length, refl, sym, ap, subst, arith, inl, inr, length-append}
+use Rattle.std.proofs.Common.{◌≡◌, ◌⊎◌, ℕ, zero, suc, ◌+◌, ◌<◌, ◌^◌, Bool, List, [], ◌∷◌, ◌++◌, length, refl, sym, ap, subst, arith, inl, inr, length-append}
 use Rattle.std.specs.Prelude.{Option, Some, None, unwrap_or}
-use Rattle.std.specs.List.{flat_map}
 use Rattle.std.proofs.lemmas.List.Elements.{All-cons, All-nil}
 use Rattle.hex.specs.Hex.{IsBytes}
-use Rattle.dns_name.specs.Names.{uncompressed}
 use Rattle.dns_name.specs.Parsers.{offset, seen}
 use Rattle.dns_data.specs.Layout.{IsLaidOut, Layout}
 use Rattle.dns_data.specs.Printing.{opaque_text}
-use Rattle.dns_wire.specs.Parts.{AreParts, Part, parts_size}
+use Rattle.dns_wire.specs.Parts.{AreParts, Part}
 use Rattle.dns_wire.specs.Parts.Part.{Octets as OctetsPart, CompressibleName, UncompressedName as UncompressedPart}
 use Rattle.dns_fields.specs.Accepts.{accepts}
 use Rattle.dns_fields.specs.Data.{any_laid_out, parts_of, rtype_of}
-use Rattle.dns_fields.specs.DataOrders.{part_octets}
+use Rattle.dns_fields.specs.DataOrders.{octets_of_parts, part_octets}
 use Rattle.dns_fields.specs.EncodedData.{data_is_there}
 use Rattle.dns_fields.specs.FieldParts.{NamedPart, named_parts}
 use Rattle.dns_fields.specs.LaidOut.{encoded_parts}
@@ -22,6 +20,7 @@ use Rattle.dns_fields.specs.Table.{Definition, definitions_of, kinds_in, kinds_o
 use Rattle.dns_fields.specs.declared.field_data.FieldData.{FieldData}
 use Rattle.dns_fields.specs.declared.shape.Shape.{Shape}
 use Rattle.dns_fields.specs.declared.shape.Shape.TheVariants.{Octets, Counted, Sized, Name, UncompressedName, Rest}
+use Rattle.dns_fields.proofs.theory.PartOctets.{parts_length}
 use Rattle.dns_fields_text.specs.DataTexts.{data_fields, data_line, data_text}
 use Rattle.dns_fields_text.specs.FieldTexts.{fields_octets, fields_text}
 use Rattle.dns_fields_text.specs.Laws.{FieldsAreAll}
@@ -44,10 +43,6 @@ text_split fields are bytes small (Some text) e = let h = fields_split fields te
 data_split : (fields : List NamedPart) → HaveParts fields → IsBytes (fields_octets fields) → length (fields_octets fields) < 2 ^ 64 → HasWords fields (data_text fields)
 data_split fields are bytes small = text_split fields are bytes small (fields_text [] fields) refl
 
--- the octets of parts
-abbrev octets_of : List Part → List ℕ
-octets_of parts = flat_map part_octets parts
-
 bytes_left : (xs ys : List ℕ) → IsBytes (xs ++ ys) → IsBytes xs
 bytes_left [] ys bytes i = omega arith
 bytes_left (x ∷ xs) ys bytes zero = bytes 0
@@ -61,30 +56,24 @@ bytes_right (x ∷ xs) ys bytes i = bytes_right xs ys (λ k. bytes (suc k)) i
 abbrev HasFirst : Shape → Layout → List Part → Type 0
 HasFirst shape others parts = (part : Part) × (left : List Part) × (parts ≡ part ∷ left) × IsPartOf shape part × ((left ≡ []) ⊎ IsLaidOut others left)
 
-parts_length : (parts : List Part) → length (octets_of parts) ≡ parts_size parts
-parts_length [] = refl
-parts_length (OctetsPart octets ∷ parts) = length-append octets (octets_of parts) ∙ ap (λ (n : ℕ). length octets + n) (parts_length parts)
-parts_length (CompressibleName name ∷ parts) = length-append (uncompressed name) (octets_of parts) ∙ ap (λ (n : ℕ). length (uncompressed name) + n) (parts_length parts)
-parts_length (UncompressedPart lowered name ∷ parts) = length-append (uncompressed name) (octets_of parts) ∙ ap (λ (n : ℕ). length (uncompressed name) + n) (parts_length parts)
-
-first_of : (s : Shape) (test : List ℕ → Bool) (others : Layout) (parts : List Part) → IsLaidOut (field_layout s test others) parts → AreParts parts → IsBytes (octets_of parts)
-    → length (octets_of parts) < 2 ^ 16 → HasFirst s others parts
+first_of : (s : Shape) (test : List ℕ → Bool) (others : Layout) (parts : List Part) → IsLaidOut (field_layout s test others) parts → AreParts parts → IsBytes (octets_of_parts parts)
+    → length (octets_of_parts parts) < 2 ^ 16 → HasFirst s others parts
 first_of Rest test others parts h names bytes small =
-    let own = subst (λ (ps : List Part). IsBytes (octets_of ps)) h.1 bytes in
-    let size = ap (λ (ps : List Part). length (octets_of ps)) h.1 in
+    let own = subst (λ (ps : List Part). IsBytes (octets_of_parts ps)) h.1 bytes in
+    let size = ap (λ (ps : List Part). length (octets_of_parts ps)) h.1 in
     (OctetsPart h.0, [], h.1, (bytes_left h.0 [] own, omega (arith, size, length-append {A = ℕ} h.0 [])), inl refl)
 first_of (Octets n) test others [] h names bytes small = absurd h
-first_of (Octets n) test others (OctetsPart xs ∷ ps) h names bytes small = (OctetsPart xs, ps, refl, (bytes_left xs (octets_of ps) bytes, h.0), inr h.1)
+first_of (Octets n) test others (OctetsPart xs ∷ ps) h names bytes small = (OctetsPart xs, ps, refl, (bytes_left xs (octets_of_parts ps) bytes, h.0), inr h.1)
 first_of (Octets n) test others (CompressibleName x ∷ ps) h names bytes small = absurd h
 first_of (Octets n) test others (UncompressedPart a x ∷ ps) h names bytes small = absurd h
 first_of Counted test others [] h names bytes small = absurd h
 first_of Counted test others (OctetsPart xs ∷ ps) h names bytes small =
-    (OctetsPart xs, ps, refl, (bytes_left xs (octets_of ps) bytes, omega (arith, small, length-append xs (octets_of ps))), inr h.1)
+    (OctetsPart xs, ps, refl, (bytes_left xs (octets_of_parts ps) bytes, omega (arith, small, length-append xs (octets_of_parts ps))), inr h.1)
 first_of Counted test others (CompressibleName x ∷ ps) h names bytes small = absurd h
 first_of Counted test others (UncompressedPart a x ∷ ps) h names bytes small = absurd h
 first_of Sized test others [] h names bytes small = absurd h
 first_of Sized test others (OctetsPart xs ∷ ps) h names bytes small =
-    (OctetsPart xs, ps, refl, (bytes_left xs (octets_of ps) bytes, omega (arith, small, length-append xs (octets_of ps))), inr h.1)
+    (OctetsPart xs, ps, refl, (bytes_left xs (octets_of_parts ps) bytes, omega (arith, small, length-append xs (octets_of_parts ps))), inr h.1)
 first_of Sized test others (CompressibleName x ∷ ps) h names bytes small = absurd h
 first_of Sized test others (UncompressedPart a x ∷ ps) h names bytes small = absurd h
 first_of Name test others [] h names bytes small = absurd h
@@ -109,21 +98,21 @@ no_fields [] = All-nil IsField
 no_fields (d ∷ ds) = All-nil IsField
 
 -- parts that have the layout of fields are parts of these fields
-are_fields : (ds : List Definition) (parts : List Part) → IsLaidOut (layout_of (kinds_in ds)) parts → AreParts parts → IsBytes (octets_of parts) → length (octets_of parts) < 2 ^ 16
+are_fields : (ds : List Definition) (parts : List Part) → IsLaidOut (layout_of (kinds_in ds)) parts → AreParts parts → IsBytes (octets_of_parts parts) → length (octets_of_parts parts) < 2 ^ 16
     → HaveParts (named_parts ds parts)
 unfolding layout_of
 are_fields [] parts h names bytes small = All-nil IsField
 are_fields (d ∷ ds) parts h names bytes small =
     let first = first_of (shape_of d.1) (accepts d.1) (layout_of (kinds_in ds)) parts h names bytes small in
     let own = subst AreParts first.2 names in
-    let octets = subst (λ (ps : List Part). IsBytes (octets_of ps)) first.2 bytes in
-    let size = ap (λ (ps : List Part). length (octets_of ps)) first.2 in
+    let octets = subst (λ (ps : List Part). IsBytes (octets_of_parts ps)) first.2 bytes in
+    let size = ap (λ (ps : List Part). length (octets_of_parts ps)) first.2 in
     let later : HaveParts (named_parts ds first.1) =
     elim first.4 [
       | inl e ↦ subst (λ (ps : List Part). HaveParts (named_parts ds ps)) (sym e) (no_fields ds)
       | inr laid ↦
-          are_fields ds first.1 laid (names_left first.0 first.1 own) (bytes_right (part_octets first.0) (octets_of first.1) octets)
-          (omega (arith, size, small, length-append (part_octets first.0) (octets_of first.1)))
+          are_fields ds first.1 laid (names_left first.0 first.1 own) (bytes_right (part_octets first.0) (octets_of_parts first.1) octets)
+          (omega (arith, size, small, length-append (part_octets first.0) (octets_of_parts first.1)))
     ] in
     subst (λ (ps : List Part). HaveParts (named_parts (d ∷ ds) ps)) (sym first.2)
     (All-cons IsField (record { name = d.0; kind = d.1; part = first.0 }) (named_parts ds first.1) first.3 later)
@@ -136,6 +125,6 @@ line_split all d bytes =
     let own = subst IsBytes (all d) bytes in
     let size = parts_length (parts_of d) in
     let short = laid.0 in
-    let small : length (octets_of (parts_of d)) < 2 ^ 16 = omega (arith, size, short) in
+    let small : length (octets_of_parts (parts_of d)) < 2 ^ 16 = omega (arith, size, short) in
     let same = ap length (all d) in
     data_split (data_fields d) (are_fields (definitions_of (rtype_of d)) (parts_of d) laid.1 names own small) bytes (omega (arith, same, small))

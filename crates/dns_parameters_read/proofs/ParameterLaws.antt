@@ -21,8 +21,9 @@ use Rattle.base64.specs.GeneralPurpose.{encode_of}
 use Rattle.base64.specs.Rfc4648.{encode_symbols}
 use Rattle.hex.specs.Hex.{IsBytes}
 use Rattle.dns_fields_text.proofs.theory.ItemLemmas.{IsShrinking, items_of_first}
+use Rattle.dns_fields_text.proofs.theory.Shrinking.{string_shrinks}
 use Rattle.dns_fields_text.specs.Groups.{group_at, groups}
-use Rattle.dns_fields_text.specs.ParameterItems.{ParameterItem}
+use Rattle.dns_fields_text.specs.ParameterItems.{ParameterItem, two_octets}
 use Rattle.dns_fields_text.specs.Parameters.{are_groups, are_keys, are_keys_above, are_protocols, are_protocols_from, has_named_value, is_bare, key_name, key_word, keys_text, named_value, other_value, parameter_word, port_text, protocols}
 use Rattle.dns_fields_text.specs.Separated.{comma_text, separated}
 use Rattle.dns_fields_text.specs.Strings.{string_at, strings_of}
@@ -36,7 +37,7 @@ use Rattle.dns_fields_read.proofs.theory.ByteLemmas.{bytes_drop, bytes_take, non
 use Rattle.dns_fields_read.proofs.theory.StringLaws.{string_reads_back, within_is}
 use Rattle.dns_parameters_read.specs.AnyOrder.{AreIncreasing, InAnyOrder}
 use Rattle.dns_parameters_read.specs.ParameterKeys.{IsKey}
-use Rattle.dns_parameters_read.specs.ParameterValues.{AreJoined, AreMandatory, AreProtocols, IsAlpn, IsEch, IsHint, IsListedKey, IsNothing, IsPort, comma_texts, escaped, two_octets}
+use Rattle.dns_parameters_read.specs.ParameterValues.{AreJoined, AreMandatory, AreProtocols, IsAlpn, IsEch, IsHint, IsListedKey, IsNothing, IsPort, comma_texts, escaped}
 use Rattle.dns_parameters_read.specs.ParameterWords.{IsKeyAndValue, IsParameterWord, equals}
 use Rattle.dns_parameters_read.proofs.CommaLemmas.{NoComma, first_text, text_alone}
 use Rattle.dns_parameters_read.proofs.KeyLemmas.{by_name, or_else}
@@ -285,15 +286,6 @@ mandatory_reads (high ∷ low ∷ octets) bytes are =
     mandatory_text (high ∷ low ∷ octets) (high * 256 + low) (keys_of octets) refl bytes (and_parts (are_keys_above 0 (high ∷ low ∷ octets)) (not (length (high ∷ low ∷ octets) == 0)) are).0
 
 -- protocol names
-string_shrinks : IsShrinking string_at
-string_shrinks [] after item e = absurd (cc e)
-string_shrinks (size ∷ octets) after item e =
-    let found : List ℕ × List ℕ = (take size octets, drop size octets) in
-    let given : List ℕ × List ℕ = (item, after) in
-    let both : found ≡ given = same_Some found given e in
-    let rest : drop size octets ≡ after = ap (λ (p : List ℕ × List ℕ). p.1) both in
-    omega (arith, ap length rest, length-drop size octets)
-
 strings_more : (size : ℕ) (octets : List ℕ) → strings_of (size ∷ octets) ≡ take size octets ∷ strings_of (drop size octets)
 strings_more size octets = items_of_first string_at string_shrinks (size ∷ octets) (drop size octets) (take size octets) refl
 

@@ -17,7 +17,8 @@ use Rattle.dns_fields_read.specs.Laws.{RepresentsOne}
 use Rattle.dns_fields_read.proofs.theory.OneWords.{one_ipv4, one_ipv6, same_value}
 use Rattle.dns_fields_read.proofs.theory.StringLaws.{within_is}
 use Rattle.dns_fields_read.proofs.theory.StringLemmas.{one_string}
-use Rattle.dns_parameters_read.specs.ParameterValues.{AreHints, AreJoined, AreMandatory, AreProtocols, IsAlpn, IsEch, IsHint, IsListedKey, IsNamedValue, IsNothing, IsPort, comma_texts, two_octets}
+use Rattle.dns_fields_text.specs.ParameterItems.{two_octets}
+use Rattle.dns_parameters_read.specs.ParameterValues.{AreHints, AreJoined, AreMandatory, AreProtocols, IsAlpn, IsEch, IsHint, IsListedKey, IsNamedValue, IsNothing, IsPort, comma_texts}
 use Rattle.dns_parameters_read.proofs.AnyOrderLemmas.{one_order}
 use Rattle.dns_parameters_read.proofs.KeyLemmas.{one_key}
 use Rattle.dns_parameters_read.proofs.ProtocolLemmas.{one_list}

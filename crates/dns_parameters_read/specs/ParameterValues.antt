@@ -1,8 +1,9 @@
 -- Values of service parameters with a named key. RFC 9460 sections 7 and 8; ech: RFC 9848 section 3; dohpath: RFC 9461 section 5; ohttp: RFC 9540 section 4.
-use Rattle.std.specs.Prelude.{◌≡◌, ℕ, ◌/◌, ◌%◌, ◌^◌, ◌<◌, ◌==◌, ◌||◌, if◌then◌else◌, List, [], ◌∷◌, ◌++◌, map, length}
+use Rattle.std.specs.Prelude.{◌≡◌, ℕ, ◌^◌, ◌<◌, ◌==◌, ◌||◌, if◌then◌else◌, List, [], ◌∷◌, ◌++◌, map, length}
 use Rattle.std.specs.Bool.{MatchBool}
 use Rattle.std.specs.List.{AllByRecursion, flat_map}
 use Rattle.std.specs.Net.Grammar.{IsDotted, IsNumber}
+use Rattle.dns_fields_text.specs.ParameterItems.{two_octets}
 use Rattle.dns_fields_text.specs.Separated.{comma_text}
 use Rattle.dns_value_text.specs.Octets.{IsBase64}
 use Rattle.dns_value_text.specs.String.{backslash}
@@ -15,10 +16,6 @@ use Rattle.dns_parameters_read.specs.ParameterKeys.{IsKey}
 -- the ASCII code of a comma
 abbrev pub comma : ℕ
 comma = 0x2c
-
--- a number as two octets
-abbrev pub two_octets : ℕ → List ℕ
-two_octets number = number / 256 ∷ number % 256 ∷ []
 
 -- the texts of a list with commas between them; there is one at least. Appendix A.1
 abbrev pub with_first : ℕ → List (List ℕ) → List (List ℕ)

@@ -1,12 +1,12 @@
 -- Words that represent service parameters. RFC 9460 sections 2.1 and 2.2.
-use Rattle.std.specs.Prelude.{◌≡◌, ◌⊎◌, ℕ, ◌^◌, ◌<◌, ◌==◌, List, ◌++◌, length}
+use Rattle.std.specs.Prelude.{◌≡◌, ◌⊎◌, ℕ, ◌^◌, ◌<◌, ◌==◌, List, length}
 use Rattle.std.specs.Borrow.{Bor}
 use Rattle.std.specs.List.{after_first, before_first, flat_map}
-use Rattle.dns_fields_text.specs.ParameterItems.{ParameterItem}
+use Rattle.dns_fields_text.specs.ParameterItems.{ParameterItem, parameter_octets}
 use Rattle.dns_value_text.specs.Strings.{SpellsString}
 use Rattle.dns_parameters_read.specs.AnyOrder.{AreIncreasing, InAnyOrder}
 use Rattle.dns_parameters_read.specs.ParameterKeys.{IsNamedKey, IsNumberedKey}
-use Rattle.dns_parameters_read.specs.ParameterValues.{IsNamedValue, two_octets}
+use Rattle.dns_parameters_read.specs.ParameterValues.{IsNamedValue}
 
 -- the ASCII code of an equals sign
 abbrev pub equals : ℕ
@@ -24,10 +24,6 @@ IsShort item = length item.value < 2 ^ 16
 -- The word is the parameter: the key is before the first equals sign, and the value after it. Without an equals sign the value is empty.
 abbrev pub IsParameterWord : List ℕ → ParameterItem → Type 0
 IsParameterWord word item = IsKeyAndValue (before_first (λ c. c == equals) word) (after_first (λ c. c == equals) word) item × IsShort item
-
--- a parameter as octets: its key, the size of its value, and its value. Section 2.2
-abbrev pub parameter_octets : ParameterItem → List ℕ
-parameter_octets item = two_octets item.key ++ two_octets (length item.value) ++ item.value
 
 abbrev pub key_of : ParameterItem → ℕ
 key_of item = item.key

@@ -5,10 +5,10 @@ use Rattle.std.proofs.Math.Nat.{mul-le-mul_right, pow-suc}
 use Rattle.std.proofs.lemmas.Bool.{and_from, and_parts, cases_eq, cases_lt, false≢true, leb-true, ltb-true, not_from_false, or_cases, or_left}
 use Rattle.std.proofs.lemmas.List.Folds.{list_any-append}
 use Rattle.hex.specs.Hex.{IsBytes}
-use Rattle.dns_fields.specs.TypeMaps.{blocks_after, is_bit_map}
+use Rattle.dns_fields.specs.TypeMaps.{blocks_after, is_bit_map, is_type_map}
 use Rattle.dns_fields_text.specs.TypeMaps.{bit_types, ends_nonzero, map_types, octet_types}
 use Rattle.dns_fields_read.specs.Laws.{RepresentsOne}
-use Rattle.dns_fields_read.specs.TypeMapWords.{IsSmallTypeMap, IsTypeMap, has}
+use Rattle.dns_fields_read.specs.TypeMapWords.{IsSmallTypeMap, IsTypeMap, IsTypeMapOf, has}
 use Rattle.dns_fields_read.proofs.BlockLemmas.{first_block, map_first}
 use Rattle.dns_fields_read.proofs.theory.ByteLemmas.{bytes_drop, bytes_take}
 use Rattle.dns_fields_read.proofs.SmallMapLemmas.{bit_clear, bit_set, ends, has_some}
@@ -329,14 +329,24 @@ one_by (suc fuel) least (w ∷ s ∷ os) (v ∷ t ∷ ps) few a b p q same =
           again x.after z.after (omega (arith, less, few)) x.after_bytes z.after_bytes x.blocks z.blocks (same_after w (w ∷ s ∷ os) (v ∷ t ∷ ps) x z same) in
           x.whole ∙ (λ i. w ∷ length (bits i) ∷ (bits i ++ after i)) ∙ sym z.whole
 
-pub one_map : RepresentsOne IsTypeMap
-one_map words xs ys a b = one_by (length xs) 0 xs ys (omega arith) a.bytes b.bytes a.blocks b.blocks same where
-  none_above : (zs : List ℕ) (n : ℕ) → IsTypeMap words zs → 65536 ≤ n → has (map_types zs) n ≡ false
-  none_above zs n is above = not_true _ (λ h. let small = map_bound (length zs) 0 n zs (omega arith) is.bytes is.blocks h in omega arith)
+-- bit maps of the same types below 65,536 are the same
+same_maps : (xs ys : List ℕ) → IsBytes xs → IsBytes ys → is_type_map xs ≡ true → is_type_map ys ≡ true → ((n : ℕ) → n < 65536 → has (map_types xs) n ≡ has (map_types ys) n) → xs ≡ ys
+same_maps xs ys a b p q below = one_by (length xs) 0 xs ys (omega arith) a b p q same where
+  none_above : (zs : List ℕ) (n : ℕ) → IsBytes zs → is_type_map zs ≡ true → 65536 ≤ n → has (map_types zs) n ≡ false
+  none_above zs n bytes is above = not_true _ (λ h. let small = map_bound (length zs) 0 n zs (omega arith) bytes is h in omega arith)
 
   same : SameTypes (map_types xs) (map_types ys)
   same n =
       elim (cases_lt n 65536) [
-        | inl small ↦ same_truth _ _ (λ h. (b.bits n small).1 ((a.bits n small).0 h)) (λ h. (a.bits n small).1 ((b.bits n small).0 h))
-        | inr above ↦ none_above xs n a above ∙ sym (none_above ys n b above)
+        | inl small ↦ below n small
+        | inr above ↦ none_above xs n a p above ∙ sym (none_above ys n b q above)
       ]
+
+-- types have one bit map
+pub one_type_map : (types xs ys : List ℕ) → IsTypeMapOf types xs → IsTypeMapOf types ys → xs ≡ ys
+one_type_map types xs ys a b = same_maps xs ys a.bytes b.bytes a.blocks b.blocks (λ n small. a.bits n small ∙ sym (b.bits n small))
+
+pub one_map : RepresentsOne IsTypeMap
+one_map words xs ys a b =
+    same_maps xs ys a.bytes b.bytes a.blocks b.blocks
+    (λ n small. same_truth _ _ (λ h. (b.bits n small).1 ((a.bits n small).0 h)) (λ h. (a.bits n small).1 ((b.bits n small).0 h)))

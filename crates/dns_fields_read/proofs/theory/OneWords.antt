@@ -20,7 +20,8 @@ use Rattle.dns_fields_read.specs.Laws.{RepresentsOne}
 use Rattle.dns_fields_read.specs.LocatorWords.{IsLocatorWord}
 use Rattle.dns_fields_read.specs.NameWords.{IsNameWord}
 use Rattle.dns_fields_read.specs.Salts.{IsHashWord, IsSaltWord}
-use Rattle.dns_fields_read.specs.SizedWords.{AreSized, IsSizedWords, sized}
+use Rattle.dns_fields_read.specs.LengthOctets.{sized}
+use Rattle.dns_fields_read.specs.SizedWords.{AreSized, IsSizedWords}
 use Rattle.dns_fields_read.specs.TimeWords.{IsDateWord, IsTimeWord}
 use Rattle.dns_fields_read.proofs.Base32Lemmas.{one_base32}
 use Rattle.dns_fields_read.proofs.Calendar.{clock_part, date_size, day_part, one_clock_word, one_day_word}

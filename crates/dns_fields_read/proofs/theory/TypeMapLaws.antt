@@ -1,5 +1,6 @@
 -- The printed words of a type bit map read back.
 use Rattle.std.proofs.Common.{◌≡◌, ◌∙◌, ℕ, zero, suc, ◌+◌, ◌*◌, ◌<◌, ◌≤◌, ◌==◌, ◌↔◌, Bool, true, List, [], ◌∷◌, length, take, drop, length-take-le, length-drop, refl, sym, ap, subst, arith, inl, inr, eq-eqb}
+use Rattle.std.proofs.Math.Seq.{drop-append_seam}
 use Rattle.std.specs.Prelude.{Some, codes, ◌||◌}
 use Rattle.std.specs.Borrow.{Bor}
 use Rattle.std.specs.Char.{to_ascii_lowercase}
@@ -17,7 +18,7 @@ use Rattle.dns_fields.specs.TypeMaps.{blocks_after, is_type_map}
 use Rattle.dns_fields_text.specs.TypeMaps.{is_small_map, map_types, octet_types}
 use Rattle.dns_fields_read.specs.TypeMapWords.{AreTypeTexts, AreTypes, HasType, IsSmallTypeMap, IsTypeMap, has}
 use Rattle.dns_fields_read.specs.TypeWords.{IsTypeWord, table_mnemonics}
-use Rattle.dns_fields_read.proofs.BlockLemmas.{drop_seam, first_block, map_first}
+use Rattle.dns_fields_read.proofs.BlockLemmas.{first_block, map_first}
 use Rattle.dns_fields_read.proofs.theory.ByteLemmas.{bytes_drop}
 use Rattle.dns_fields_read.proofs.SmallMapLemmas.{type_is_small}
 use Rattle.dns_fields_read.proofs.TypeLaws.{types_read_back}
@@ -28,7 +29,7 @@ use Rattle.dns_fields_read.proofs.TypeMapLemmas.{has_type, octet_range, or_true,
 digits_at : (word text : List ℕ) (n : ℕ) (x : IsNumbered word text n) → drop (length word) text ≡ x.digits
 digits_at word text n x =
     let size : length word ≡ length x.front = sym (length-map word to_ascii_lowercase) ∙ ap length (sym x.same) ∙ length-map x.front to_ascii_lowercase in
-    ap (λ (k : ℕ). drop k text) size ∙ ap (λ (xs : List ℕ). drop (length x.front) xs) x.whole ∙ drop_seam x.front x.digits
+    ap (λ (k : ℕ). drop k text) size ∙ ap (λ (xs : List ℕ). drop (length x.front) xs) x.whole ∙ drop-append_seam x.front x.digits
 
 numbered_same : (word text : List ℕ) (k n : ℕ) → IsNumbered word text k → IsNumbered word text n → k ≡ n
 numbered_same word text k n x y = sym x.value ∙ ap (digits_value 10) (sym (digits_at word text k x) ∙ digits_at word text n y) ∙ y.value

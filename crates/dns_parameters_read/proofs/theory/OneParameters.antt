@@ -2,9 +2,9 @@
 use Rattle.std.proofs.Common.{◌≡◌, ◌∙◌, ◌==◌, List, ℕ, ap, sym}
 use Rattle.std.specs.Borrow.{Bor}
 use Rattle.std.specs.List.{after_first, before_first, flat_map}
-use Rattle.dns_fields_text.specs.ParameterItems.{ParameterItem}
+use Rattle.dns_fields_text.specs.ParameterItems.{ParameterItem, parameter_octets}
 use Rattle.dns_fields_read.specs.Laws.{RepresentsOne}
-use Rattle.dns_parameters_read.specs.ParameterWords.{AreParameterWords, IsParameterWord, equals, key_of, parameter_octets}
+use Rattle.dns_parameters_read.specs.ParameterWords.{AreParameterWords, IsParameterWord, equals, key_of}
 use Rattle.dns_parameters_read.proofs.AnyOrderLemmas.{one_order}
 use Rattle.dns_parameters_read.proofs.ParameterLemmas.{one_item}
 

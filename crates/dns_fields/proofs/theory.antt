@@ -1,0 +1,3 @@
+-- Lemmas that other crates cite, so a change here affects them too.
+pub mod PartOctets
+pub mod SkippedItems
