@@ -29,11 +29,18 @@ use std::io::{BufWriter, Write};
 
 fn main(rt: HostRuntime) -> io::Result<()> {
     let text = io::read_to_string(rt.alloc(), rt.stdin())?;
-    let mut report = Report::new(BufWriter::new(rt.alloc(), rt.stdout())?);
-    for block in &blocks(rt.alloc(), text.as_str())? {
+    let blocks = blocks(rt.alloc(), text.as_str())?;
+    let writer = BufWriter::new(rt.alloc(), rt.stdout())?;
+    check_blocks(rt.alloc(), writer, blocks.as_slice())
+}
+
+/// Checks the blocks that are cases, and prints what those outside of cases ask for.
+fn check_blocks<W: Write + Drop>(alloc: Global, writer: W, blocks: &[Vec<&str>]) -> io::Result<()> {
+    let mut report = Report::new(writer);
+    for block in blocks {
         match case_of(block.as_slice()) {
-            Some((name, lines)) => check_case(rt.alloc(), &mut report, name, lines)?,
-            None => print_lines(rt.alloc(), &mut report.writer, block.as_slice())?,
+            Some((name, lines)) => check_case(alloc, &mut report, name, lines)?,
+            None => print_lines(alloc, &mut report.writer, block.as_slice())?,
         }
     }
     report.finish()

@@ -19,9 +19,16 @@ use std::io::{BufWriter, Write};
 
 fn main(rt: HostRuntime) -> io::Result<()> {
     let text = io::read_to_string(rt.alloc(), rt.stdin())?;
-    let mut report = Report::new(BufWriter::new(rt.alloc(), rt.stdout())?);
-    for block in &blocks(rt.alloc(), text.as_str())? {
-        check_block(rt.alloc(), &mut report, block.as_slice())?;
+    let blocks = blocks(rt.alloc(), text.as_str())?;
+    let writer = BufWriter::new(rt.alloc(), rt.stdout())?;
+    check_blocks(rt.alloc(), writer, blocks.as_slice())
+}
+
+/// Runs the cases of all blocks.
+fn check_blocks<W: Write + Drop>(alloc: Global, writer: W, blocks: &[Vec<&str>]) -> io::Result<()> {
+    let mut report = Report::new(writer);
+    for block in blocks {
+        check_block(alloc, &mut report, block.as_slice())?;
     }
     report.finish()
 }
