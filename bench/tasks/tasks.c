@@ -1,6 +1,6 @@
 /* Times the tasks of one library. README.md says what they are.
  *
- *     tasks LIBRARY               prints a row for each task
+ *     tasks LIBRARY               prints for each task the library, the work, the way, nanoseconds and octets, separated by `|`
  *     tasks LIBRARY -n N TASK     does one of them N times, counted from 0, for an instruction counter
  */
 
@@ -50,10 +50,11 @@ static double least(const struct task *task)
 static void report(const char *library, const struct task *task)
 {
     size_t len = task->run(1);
-    if (len == 0)
-        printf("%-14s  %-20s  %-26s  FAILED\n", library, task->work, task->way);
-    else
-        printf("%-14s  %-20s  %-26s  %10.0f  %8zu\n", library, task->work, task->way, least(task), len);
+    if (len == 0) {
+        fprintf(stderr, "tasks: %s, %s failed\n", task->work, task->way);
+        exit(1);
+    }
+    printf("%s|%s|%s|%.0f|%zu\n", library, task->work, task->way, least(task), len);
     fflush(stdout);
 }
 
