@@ -53,9 +53,9 @@ typedef enum dnsm_status {
     DNSM_LONG_NAME = 5,     /* a name has more than 255 octets */
     DNSM_FORM = 6,          /* returned only if the caller gave the cursor this status */
     DNSM_NO_ROOM = 7,       /* the output buffer is too short */
-    DNSM_BAD_TEXT = 8,      /* a text is no valid name */
+    DNSM_BAD_TEXT = 8,      /* a text, or the name of a dnsm_put_item, is no valid name */
     DNSM_NO_QUESTION = 9,   /* the query doesn't have exactly one question */
-    DNSM_BAD_SECTION = 10,  /* a section number exceeds 3, or the RDATA of a question is asked for */
+    DNSM_BAD_SECTION = 10,  /* a section number exceeds 3 or is before the last one, or the RDATA of a question is asked for */
     DNSM_NO_MEMORY = 11,    /* an allocation failed */
     DNSM_LONG_DATA = 12,    /* RDATA or an option of more than 65,535 octets */
     DNSM_TOO_MANY = 13,     /* more than 65,535 items for a section */
