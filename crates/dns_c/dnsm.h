@@ -53,9 +53,9 @@ typedef enum dnsm_status {
     DNSM_LONG_NAME = 5,     /* a name has more than 255 octets */
     DNSM_FORM = 6,          /* returned only if the caller gave the cursor this status */
     DNSM_NO_ROOM = 7,       /* the output buffer is too short */
-    DNSM_BAD_TEXT = 8,      /* a text is no valid name */
+    DNSM_BAD_TEXT = 8,      /* a text, or the name of a dnsm_put_item, is no valid name */
     DNSM_NO_QUESTION = 9,   /* the query doesn't have exactly one question */
-    DNSM_BAD_SECTION = 10,  /* a section number exceeds 3, or the RDATA of a question is asked for */
+    DNSM_BAD_SECTION = 10,  /* a section number exceeds 3 or is before the last one, or the RDATA of a question is asked for */
     DNSM_NO_MEMORY = 11,    /* an allocation failed */
     DNSM_LONG_DATA = 12,    /* RDATA or an option of more than 65,535 octets */
     DNSM_TOO_MANY = 13,     /* more than 65,535 items for a section */
@@ -312,8 +312,9 @@ typedef struct dnsm_put_item {
 dnsm_status dnsm_begin(dnsm_draft *draft, uint8_t *out, size_t out_len, uint16_t id, uint16_t flags);
 
 /* Appends a question or a record. The items come in the order of the sections. Names of questions and owners are compressed, and
- * those in the RDATA of NS, MD, MF, CNAME, MB, MG, MR, PTR and MX. Other RDATA is copied as it is. That of these nine types, SOA
- * and MINFO has to be exactly their fields, without compression pointers; that of all other types isn't checked.
+ * those in the RDATA of NS, MD, MF, CNAME, SOA, MB, MG, MR, PTR, MINFO and MX. RDATA of these eleven types has to be exactly the
+ * fields of the type, without compression pointers; but a record of class NONE (254) or ANY (255) may have none. All other RDATA
+ * is copied as it is, and isn't checked.
  *
  * Errors, the first that applies: DNSM_BAD_SECTION if the section exceeds 3 or is before that of the last item; DNSM_BAD_TEXT if
  * the octets aren't exactly one uncompressed name; DNSM_LONG_DATA; DNSM_BAD_DATA; DNSM_TOO_MANY if the section has 65,535 items;

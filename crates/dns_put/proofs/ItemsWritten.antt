@@ -1,9 +1,9 @@
 -- Questions and records that were written, and what an item that passes the check means.
-use Rattle.std.proofs.Common.{◌≡◌, ◌≢◌, ℕ, zero, suc, ◌+◌, ◌-◌, ◌<◌, ◌≤◌, ◌^◌, List, [], ◌∷◌, ◌++◌, length, length-drop, take, drop, arith, ap, sym, ◌∙◌, subst, refl}
+use Rattle.std.proofs.Common.{◌≡◌, ◌≢◌, ℕ, zero, suc, ◌+◌, ◌-◌, ◌<◌, ◌≤◌, ◌^◌, List, [], ◌∷◌, ◌++◌, length, length-append, length-drop, take, drop, arith, ap, sym, ◌∙◌, subst, refl}
 use Rattle.std.specs.Int.{to_be_bytes, w16, w32}
 use Rattle.std.proofs.lemmas.List.{length-take-le, take-take}
 use Rattle.dns_octets.specs.Octets.{overwritten}
-use Rattle.dns_name.specs.Names.{NameAt, NameEndsAt}
+use Rattle.dns_name.specs.Names.{NameAt, NameEndsAt, uncompressed}
 use Rattle.dns_name.specs.Uncompressed.{IsUncompressed}
 use Rattle.dns_name.specs.Parsers.{number_at}
 use Rattle.dns_wire.specs.Parts.{Part, Octets, CompressibleName, AreParts, PartsAt, PartsPointed, parts_size}
@@ -148,7 +148,13 @@ alone (x ∷ xs) = (tt, omega arith)
 
 data_of : (layout : Layout) (rdata : List ℕ) → HasFields layout rdata → Data layout rdata
 data_of (Name before) rdata h = named_data before rdata h
-data_of (TwoNames after) rdata h = let o = alone rdata in record { parts = octets_alone rdata; are = refl; names = o.0; size = o.1 }
+data_of (TwoNames after) rdata h =
+    let o = alone h.rest in
+    let e = ap length h.octets in
+    let a = length-append (uncompressed h.first) (uncompressed h.second ++ h.rest) in
+    let b = length-append (uncompressed h.second) h.rest in
+    let z = o.1 in
+    record { parts = CompressibleName h.first ∷ CompressibleName h.second ∷ octets_alone h.rest; are = (h, refl); names = (h.is_first, (h.is_second, o.0)); size = omega arith }
 data_of Plain rdata h = let o = alone rdata in record { parts = octets_alone rdata; are = refl; names = o.0; size = o.1 }
 
 pub means : (item : PutItem) → IsUncompressed item.name.now → (item.section ≢ 0 → length item.rdata.now ≤ 65535) → (item.section ≢ 0 → HasFields (layout_of item) item.rdata.now)

@@ -1,6 +1,7 @@
 -- RDATA that was written, and the names with which octets begin.
 use Rattle.std.proofs.Common.{◌≡◌, ◌≢◌, ℕ, zero, suc, ◌+◌, ◌-◌, ◌<◌, ◌≤◌, List, [], ◌∷◌, ◌++◌, length, length-append, length-drop, take, drop, get_or, arith, ap, sym, ◌∙◌, subst, refl}
 use Rattle.std.proofs.lemmas.List.{take-append-drop}
+use Rattle.std.proofs.Math.Seq.{drop-append_seam, take-append_seam}
 use Rattle.dns_name.specs.Names.{Labels, IsName, uncompressed}
 use Rattle.dns_name.specs.Uncompressed.{IsUncompressed}
 use Rattle.dns_wire.specs.Parts.{Part, CompressibleName, AreParts, PartsAt, PartsPointed}
@@ -8,7 +9,7 @@ use Rattle.dns_wire.specs.Targets.{At}
 use Rattle.dns_wire.specs.TargetLaws.{Agree}
 use Rattle.dns_put.specs.Rdata.{AreTwoNames, octets_alone, octets_before}
 use Rattle.dns_put.specs.Writing.{IsPut, AreWritten, IsNamed}
-use Rattle.dns_put.proofs.Buffers.{at_over, length_over, at_agreed, agree_of_take, agree_both, agree_from, agree_with_taken}
+use Rattle.dns_put.proofs.Buffers.{at_over, length_over, take_over, agree_to, at_agreed, agree_of_take, agree_both, agree_from, agree_with_taken}
 use Rattle.dns_put.proofs.Steps.{Progress, no_progress, next_label, last_label}
 use Rattle.dns_put.proofs.NamesWritten.{name_some}
 
@@ -72,6 +73,44 @@ written_octets out0 out1 top at most end rdata room put =
       within = omega arith;
       parts_at = λ c a b. octets_at c at end rdata (sym size) (at_agreed b (omega arith) (omega arith) there);
       pointed = λ c a b. octets_pointed c at end rdata (sym size);
+    }
+
+-- two names and octets that were written
+pub written_two : (out0 out1 out2 out3 : List ℕ) (top at most middle last end : ℕ) (m n : Labels) (rest : List ℕ) → 12 ≤ at → top ≤ at → most ≤ length out2 → IsNamed out1 top at middle m
+    → take middle out2 ≡ take middle out1 → length out2 ≡ length out1 → IsNamed out2 top middle last n → IsPut out2 out3 last most rest end
+    → AreWritten out3 top at end (CompressibleName m ∷ CompressibleName n ∷ octets_alone rest)
+written_two out0 out1 out2 out3 top at most middle last end m n rest low under room first kept long second put =
+    let a1 = first.after in
+    let a2 = second.after in
+    let w1 = first.within in
+    let w2 = second.within in
+    let e3 = put.written in
+    let size = put.ends in
+    let w3 = put.within in
+    let l3 : length out3 ≡ length out2 = ap length e3 ∙ length_over out2 rest last (omega arith) in
+    let P : List ℕ → Type 0 = λ b. At b last rest in
+    let there : At out3 last rest = subst P (sym e3) (at_over out2 rest last (omega arith)) in
+    let k3 : take last out3 ≡ take last out2 = ap (take last) e3 ∙ take_over out2 rest last last (omega arith) (omega arith) in
+    let from2 : Agree out2 out3 12 last = agree_of_take out2 out3 12 last (omega arith) k3 in
+    let from1 : Agree out1 out3 12 middle = agree_both (omega arith) (agree_of_take out1 out2 12 middle (omega arith) kept) from2 in
+    let top2 = λ (c : List ℕ) (a : Agree out3 c 12 top). agree_both (omega arith) (agree_to (omega arith) from2) a in
+    let top1 = λ (c : List ℕ) (a : Agree out3 c 12 top). agree_both (omega arith) (agree_to (omega arith) from1) a in
+    let name2 = λ (c : List ℕ) (b : Agree out3 c at end). agree_both (omega arith) (agree_from (omega arith) from2) (agree_from (omega arith) b) in
+    let name1 = λ (c : List ℕ) (b : Agree out3 c at end). agree_both (omega arith) (agree_from (omega arith) from1) b in
+    record {
+      after = omega arith;
+      within = omega arith;
+      parts_at = λ c a b.
+          let long = b.long in
+          let d = take end c in
+          let t : Agree out3 d 12 top = agree_both (omega arith) a (agree_with_taken c 12 top end (omega arith) (let l = a.long in l)) in
+          let u : Agree out3 d at end = agree_both (omega arith) b (agree_with_taken c at end end (omega arith) long) in (
+            middle,
+            first.name d (top1 d t) (name1 d u),
+            first.ends d (top1 d t) (name1 d u),
+            (last, second.name d (top2 d t) (name2 d u), second.ends d (top2 d t) (name2 d u), octets_at c last end rest (sym size) (at_agreed b (omega arith) (omega arith) there)),
+          );
+      pointed = λ c a b. (middle, first.pointed c (top1 c a) (name1 c b), (last, second.pointed c (top2 c a) (name2 c b), octets_pointed c last end rest (sym size)));
     }
 
 -- The walk over the labels of the first name.
@@ -144,6 +183,25 @@ two_names octets others a b first second after eo ea eb within ua ub size =
           ∙ ap (λ (xs : List ℕ). take first octets ++ (xs ++ rest)) (ub.2 ∙ eb)
           ∙ ap (λ (xs : List ℕ). take first octets ++ xs) (take-append-drop second others ∙ eo)
           ∙ take-append-drop first octets);
+    }
+
+-- where the names of two end, and what follows them
+pub record Found (octets : List ℕ) (first second after : ℕ) (two : AreTwoNames after octets) : Type 0 where
+  pub first_name : take first octets ≡ uncompressed two.first
+  pub second_name : take second (drop first octets) ≡ uncompressed two.second
+  pub rest_left : drop second (drop first octets) ≡ two.rest
+
+pub found_names : (octets : List ℕ) (first second after : ℕ) → ((n : Labels) (rest : List ℕ) → IsName n → octets ≡ uncompressed n ++ rest → first ≡ length (uncompressed n))
+    → ((n : Labels) (rest : List ℕ) → IsName n → drop first octets ≡ uncompressed n ++ rest → second ≡ length (uncompressed n)) → (two : AreTwoNames after octets) → Found octets first second after two
+found_names octets first second after at at' two =
+    let others = uncompressed two.second ++ two.rest in
+    let e : first ≡ length (uncompressed two.first) = at two.first others two.is_first two.octets in
+    let left : drop first octets ≡ others = ap (drop first) two.octets ∙ ap (λ k. drop k (uncompressed two.first ++ others)) e ∙ drop-append_seam (uncompressed two.first) others in
+    let f : second ≡ length (uncompressed two.second) = at' two.second two.rest two.is_second left in
+    record {
+      first_name = ap (take first) two.octets ∙ ap (λ k. take k (uncompressed two.first ++ others)) e ∙ take-append_seam (uncompressed two.first) others;
+      second_name = ap (take second) left ∙ ap (λ k. take k others) f ∙ take-append_seam (uncompressed two.second) two.rest;
+      rest_left = ap (drop second) left ∙ ap (λ k. drop k others) f ∙ drop-append_seam (uncompressed two.second) two.rest;
     }
 
 -- the name after octets

@@ -74,18 +74,18 @@ last_label octets n i p e = go p.left refl p.rest p.is_name
         let size : length label ≡ 0 = sym (first_octet octets i (length label) (label ++ uncompressed rest) u) ∙ e in
         absurd (let l = t.0.some in omega arith)
 
--- The labels before i equal those from `place` on that lead to `at`.
-pub record Reached (b : List ℕ) (place : ℕ) (octets : List ℕ) (n : Labels) (at i : ℕ) : Type 0 where
+-- The labels before i equal those from `offset` on that lead to `at`.
+pub record Reached (b : List ℕ) (offset : ℕ) (octets : List ℕ) (n : Labels) (at i : ℕ) : Type 0 where
   pub progress : Progress octets n i
-  pub leads : NameAtWithin b 12 (length b) at progress.left → NameAtWithin b 12 (length b) place n
+  pub leads : NameAtWithin b 12 (length b) at progress.left → NameAtWithin b 12 (length b) offset n
 
-pub reached_none : (b : List ℕ) (place : ℕ) (octets : List ℕ) (n : Labels) → IsName n → octets ≡ uncompressed n → Reached b place octets n place 0
+pub reached_none : (b : List ℕ) (offset : ℕ) (octets : List ℕ) (n : Labels) → IsName n → octets ≡ uncompressed n → Reached b offset octets n offset 0
 unfolding no_progress
-reached_none b place octets n is e = record { progress = no_progress octets n is e; leads = λ h. h }
+reached_none b offset octets n is e = record { progress = no_progress octets n is e; leads = λ h. h }
 
-pub reached_pointer : (b : List ℕ) (place : ℕ) (octets : List ℕ) (n : Labels) (at i x y to : ℕ) → Reached b place octets n at i → 12 ≤ at → at + 2 ≤ length b
-    → x ≡ get_or b at 0 → y ≡ get_or b (at + 1) 0 → 192 ≤ x → x < 256 → y < 256 → to ≡ (x - 192) * 256 + y → to < at → Reached b place octets n to i
-reached_pointer b place octets n at i x y to r low high ex ey big small small' is back =
+pub reached_pointer : (b : List ℕ) (offset : ℕ) (octets : List ℕ) (n : Labels) (at i x y to : ℕ) → Reached b offset octets n at i → 12 ≤ at → at + 2 ≤ length b
+    → x ≡ get_or b at 0 → y ≡ get_or b (at + 1) 0 → 192 ≤ x → x < 256 → y < 256 → to ≡ (x - 192) * 256 + y → to < at → Reached b offset octets n to i
+reached_pointer b offset octets n at i x y to r low high ex ey big small small' is back =
     let first : slice_get b at ≡ Some (192 + to / 256) = slice_get-get_or b at 0 (omega arith) ∙ ap Some (let e : get_or b at 0 ≡ 192 + to / 256 = omega arith in e) in
     let second : slice_get b (at + 1) ≡ Some (to % 256) = slice_get-get_or b (at + 1) 0 (omega arith) ∙ ap Some (let e : get_or b (at + 1) 0 ≡ to % 256 = omega arith in e) in
     record {
@@ -104,9 +104,9 @@ same_label b octets at i k label rest size u within same =
       same = ap (slice_range b at) j ∙ same ∙ ap (λ m. take m (drop i octets)) d ∙ ap (take (length (framed label))) (sym u) ∙ take-append_seam (framed label) (uncompressed rest);
     }
 
-pub reached_label : (b : List ℕ) (place : ℕ) (octets : List ℕ) (n : Labels) (at i k : ℕ) → Reached b place octets n at i → 12 ≤ at → get_or octets i 0 ≡ k → k ≢ 0
-    → at + 1 + k ≤ length b → slice_range b at (at + 1 + k) ≡ slice_range octets i (i + 1 + k) → Reached b place octets n (at + 1 + k) (i + 1 + k)
-reached_label b place octets n at i k r low e some within same =
+pub reached_label : (b : List ℕ) (offset : ℕ) (octets : List ℕ) (n : Labels) (at i k : ℕ) → Reached b offset octets n at i → 12 ≤ at → get_or octets i 0 ≡ k → k ≢ 0
+    → at + 1 + k ≤ length b → slice_range b at (at + 1 + k) ≡ slice_range octets i (i + 1 + k) → Reached b offset octets n (at + 1 + k) (i + 1 + k)
+reached_label b offset octets n at i k r low e some within same =
     let s = next_label octets n i k r.progress e some in
     let label = s.label in
     let rest = s.next.left in
@@ -123,8 +123,8 @@ reached_label b place octets n at i k r low e some within same =
           r.leads (subst (λ (m : Labels). NameAtWithin b 12 (length b) at m) (sym s.left) whole);
     }
 
-pub reached_root : (b : List ℕ) (place : ℕ) (octets : List ℕ) (n : Labels) (at i : ℕ) → Reached b place octets n at i → 12 ≤ at → at < length b → get_or b at 0 ≡ 0 → get_or octets i 0 ≡ 0 → NameAtWithin b 12 (length b) place n
-reached_root b place octets n at i r low within zero' e =
+pub reached_root : (b : List ℕ) (offset : ℕ) (octets : List ℕ) (n : Labels) (at i : ℕ) → Reached b offset octets n at i → 12 ≤ at → at < length b → get_or b at 0 ≡ 0 → get_or octets i 0 ≡ 0 → NameAtWithin b 12 (length b) offset n
+reached_root b offset octets n at i r low within zero' e =
     let none = last_label octets n i r.progress e in
     let there : slice_get b at ≡ Some 0 = slice_get-get_or b at 0 within ∙ ap Some zero' in
     r.leads (subst (λ (m : Labels). NameAtWithin b 12 (length b) at m) (sym none) (NameAtWithin.root low (omega arith) (heads.root_begins b at there)))
@@ -139,8 +139,8 @@ flat_within b lo hi p (label ∷ rest) is low high there =
     let first = label_part label (uncompressed rest) there in
     subst P (label_octets first) (NameAtWithin.label low (omega arith) (label_begins t.0 first) (flat_within b lo hi (p + 1 + length label) rest t.1 (omega arith) (omega arith) (after_label label (uncompressed rest) there)) (omega (arith, is.short)))
 
-pub reached_at : (b : List ℕ) (place : ℕ) (octets : List ℕ) (n : Labels) (at i at' i' : ℕ) → Reached b place octets n at i → at' ≡ at → i' ≡ i → Reached b place octets n at' i'
-reached_at b place octets n at i at' i' r e f = subst (λ j. Reached b place octets n at' j) (sym f) (subst (λ k. Reached b place octets n k i) (sym e) r)
+pub reached_at : (b : List ℕ) (offset : ℕ) (octets : List ℕ) (n : Labels) (at i at' i' : ℕ) → Reached b offset octets n at i → at' ≡ at → i' ≡ i → Reached b offset octets n at' i'
+reached_at b offset octets n at i at' i' r e f = subst (λ j. Reached b offset octets n at' j) (sym f) (subst (λ k. Reached b offset octets n k i) (sym e) r)
 
 pub same_range : (b octets : List ℕ) (at i f k : ℕ) → f ≡ k → slice_range b at (at + (1 + f)) ≡ slice_range octets i (i + (1 + f)) → slice_range b at (at + 1 + k) ≡ slice_range octets i (i + 1 + k)
 same_range b octets at i f k e same =

@@ -53,8 +53,8 @@ abbrev pub octets_alone : List ℕ → List Part
 octets_alone [] = []
 octets_alone (x ∷ xs) = Octets (x ∷ xs) ∷ []
 
--- The parts are the RDATA: the octets before a name and the name, which may be compressed, or octets alone.
+-- The parts are the RDATA: the octets before a name and the name, or two names and the octets after them, where names may be compressed; or octets alone.
 abbrev pub AreDataOf : Layout → List ℕ → List Part → Type 0
 AreDataOf (Name before) rdata parts = (n : Labels) × (parts ≡ octets_before before rdata ++ (CompressibleName n ∷ [])) × (drop before rdata ≡ uncompressed n)
-AreDataOf (TwoNames after) rdata parts = parts ≡ octets_alone rdata
+AreDataOf (TwoNames after) rdata parts = (t : AreTwoNames after rdata) × (parts ≡ CompressibleName t.first ∷ CompressibleName t.second ∷ octets_alone t.rest)
 AreDataOf Plain rdata parts = parts ≡ octets_alone rdata

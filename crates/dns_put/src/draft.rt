@@ -10,6 +10,7 @@ pub struct Draft {
     pub limit: usize,
     /// The octets to keep free at the end.
     pub reserved: usize,
+    /// The ID of the header section.
     pub id: u16,
     /// The third and fourth octets of the header section (RFC 1035 section 4.1.1).
     pub flags: u16,

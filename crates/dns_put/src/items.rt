@@ -84,7 +84,8 @@ fn put_question(
     put_octets(out, fields, most, &question_fields_of(item))
 }
 
-/// Writes a record at offset `at`. Returns the offset after it, or `None` if it would be past `most`.
+/// Writes a record at offset `at`. Returns the offset after it, or `None` if it would be past
+/// `most`.
 #[inline(always)]
 fn put_record(
     hints: &mut [u16; 64],
@@ -116,7 +117,8 @@ fn put_record(
     Some(end)
 }
 
-/// Writes an item at offset `at`. Returns the offset after it, or `None` if it would be past `most`.
+/// Writes an item at offset `at`. Returns the offset after it, or `None` if it would be past
+/// `most`.
 #[inline(always)]
 fn put_item(
     hints: &mut [u16; 64],

@@ -32,7 +32,8 @@ pub(crate) fn is_name(octets: &[u8]) -> bool
     }
 }
 
-/// Whether the name at `offset` is the uncompressed `name`, and uses no octet of the header section.
+/// Whether the name at `offset` is the uncompressed `name`, and uses no octet of the header
+/// section.
 fn leads_to(octets: &[u8], offset: usize, name: &[u8]) -> bool
     ensures { result ≡ true → (n : Labels) → IsName n → name.now ≡ uncompressed n
         → NameAtWithin octets.now 12 (length octets.now) offset n }
@@ -74,8 +75,8 @@ fn leads_to(octets: &[u8], offset: usize, name: &[u8]) -> bool
     false
 }
 
-/// Like `leads_to`, and the name at `offset` begins with a label as `name` does, not with a pointer.
-/// First tries the usual case, that the octets of `name` are there.
+/// Like `leads_to`, and the name at `offset` begins with a label as `name` does, not with a
+/// pointer. First tries the usual case, that the octets of `name` are there.
 #[inline(always)]
 fn is_at(octets: &[u8], offset: usize, name: &[u8]) -> bool
     requires after_header { 12 ≤ offset }

@@ -19,7 +19,7 @@ const CLASS_ANY: u16 = 255;
 pub enum Layout {
     /// This number of octets, and then a name, which is compressed.
     Name(usize),
-    /// Two names, and then this number of octets. Neither name is compressed.
+    /// Two names, which are compressed, and then this number of octets.
     TwoNames(usize),
     /// Any octets.
     Plain,
@@ -126,6 +126,40 @@ fn put_named(
     put_name(hints, out, name, most, top, &rdata[before..])
 }
 
+/// Writes two names at offset `at`, and then this number of octets. Like `put_rdata`.
+#[inline(always)]
+fn put_two_names(
+    hints: &mut [u16; 64],
+    out: &mut [u8],
+    at: usize,
+    most: usize,
+    top: usize,
+    after: usize,
+    rdata: &[u8],
+) -> Option<usize>
+    requires most { most ≤ length out.old }
+    requires at { at ≤ most }
+    requires top { top ≤ at }
+    requires after_header { 12 ≤ at }
+    requires fields { HasFields (Layout.TwoNames after) rdata.now }
+    ensures written { IfSome result (λ end. (parts : List Part) → AreParts parts
+        → AreDataOf (Layout.TwoNames after) rdata.now parts
+        → AreWritten out.new top at end parts) }
+    ensures within { IfSome result (λ end. end ≤ most) }
+    ensures after { IfSome result (λ end. at ≤ end) }
+    ensures size { IfSome result (λ end. end ≤ at + length rdata.now) }
+    ensures room { at + length rdata.now ≤ most → IsSome result }
+    ensures length { length out.new ≡ length out.old }
+    ensures kept { take at out.new ≡ take at out.old }
+{
+    let first = first_name(rdata);
+    let others = &rdata[first..];
+    let second = first_name(others);
+    let middle = put_name(hints, out, at, most, top, &rdata[..first])?;
+    let end = put_name(hints, out, middle, most, top, &others[..second])?;
+    put_octets(out, end, most, &others[second..])
+}
+
 /// Writes RDATA at offset `at`. Pointers lead to offsets below `top`. Returns the offset after the
 /// RDATA, or `None` if it would be past `most`.
 #[inline(always)]
@@ -154,7 +188,7 @@ pub(crate) fn put_rdata(
 {
     match layout_of_item(item) {
         Layout::Name(before) => put_named(hints, out, at, most, top, before, item.rdata),
-        Layout::TwoNames(_) => put_octets(out, at, most, item.rdata),
+        Layout::TwoNames(after) => put_two_names(hints, out, at, most, top, after, item.rdata),
         Layout::Plain => put_octets(out, at, most, item.rdata),
     }
 }
