@@ -1,9 +1,9 @@
 //! Record data (RDATA) of any record type from native values, one for each field: numbers, names,
 //! addresses, strings and lists.
 //!
-//! `from_values` makes the data of any type, and `mx`, `aaaa`, `txt` and so on that of one type. The
-//! contracts say which octets the fields have, or why there is no such data. By `laws`, reading the
-//! fields yields the values.
+//! `from_values` makes the data of any type, and `mx`, `aaaa`, `txt` and others that of one type.
+//! The contracts say which octets the fields have, or why there is no such data. By `laws`, reading
+//! the fields yields the values.
 #![tactic(auto)]
 
 mod form;

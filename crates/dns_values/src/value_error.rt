@@ -10,9 +10,9 @@ pub enum ValueError {
     /// The field takes another variant than that of the value at this index, counted from 0.
     #[error("wrong kind of value {0}")]
     WrongKind(usize),
-    /// The field takes values of this variant, but not the one at this index: a number is too large,
-    /// a string is too long, there is no string, the keys of parameters don't increase, or octets
-    /// are malformed.
+    /// The field takes values of this variant, but not the one at this index: a number is too
+    /// large, a string is too long, there is no string, the keys of parameters don't increase, or
+    /// octets are malformed.
     #[error("value {0} out of range")]
     OutOfRange(usize),
     /// The fields take more than 65,535 octets.
