@@ -1,0 +1,10 @@
+mod AppendLemmas
+mod LaidOutValues
+mod ListSteps
+mod MadeLemmas
+mod MadeParts
+mod NamedValues
+mod NumberLemmas
+mod OneValues
+mod ReadBackLemmas
+mod SplitLemmas

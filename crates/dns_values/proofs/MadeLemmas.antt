@@ -1,0 +1,55 @@
+-- Record data that is made of values.
+use Rattle.std.proofs.Common.{◌≡◌, ◌∙◌, ℕ, ◌≤◌, ◌<◌, true, List, [], ◌++◌, length, ap, sym, subst, arith}
+use Rattle.std.specs.List.{list_all}
+use Rattle.dns_wire.specs.Parts.{Part, parts_size}
+use Rattle.dns_fields.specs.DataOrders.{octets_of_parts}
+use Rattle.dns_fields.specs.Layouts.{most, rest_is_last}
+use Rattle.dns_fields.specs.MadeData.{MadePartsReadBack}
+use Rattle.dns_fields.specs.OwnedFields.{AreThere, parts_in}
+use Rattle.dns_fields.specs.RecordTypes.{record_types}
+use Rattle.dns_fields.specs.Table.{Field, definitions, definitions_of, kinds, kinds_in, kinds_of}
+use Rattle.dns_fields.specs.declared.kind.Kind.{Kind}
+use Rattle.dns_fields.proofs.theory.PartOctets.{parts_length}
+use Rattle.dns_values.specs.ValueData.{AreValuesOf}
+use Rattle.dns_values.specs.declared.new_value.NewValue.{NewValue}
+use Rattle.dns_values.proofs.LaidOutValues.{type_last, values_are, values_laid}
+
+last_of_type : (rtype : ℕ) → list_all (λ type. rest_is_last (kinds_in type.fields)) record_types ≡ true → rest_is_last (kinds_of rtype) ≡ true
+unfolding definitions_of
+last_of_type rtype all = type_last record_types rtype all
+
+-- the octets are those of the parts of the values
+abbrev pub AreOctetsOfValues : ℕ → List NewValue → List ℕ → Type 0
+AreOctetsOfValues rtype values octets = (parts : List Part) × AreValuesOf (kinds_of rtype) values parts × (octets ≡ octets_of_parts parts)
+
+pub whole_octets : (rtype : ℕ) (fields : List Field) (values : List NewValue) (start octets : List ℕ) → definitions fields ≡ definitions_of rtype → start ≡ []
+    → (parts : List Part) × AreValuesOf (kinds fields) values parts × (octets ≡ start ++ octets_of_parts parts) → AreOctetsOfValues rtype values octets
+whole_octets rtype fields values start octets same empty h = (
+  h.0,
+  subst (λ (ks : List Kind). AreValuesOf ks values h.0) (ap kinds_in same) h.1,
+  h.2 ∙ ap (λ (xs : List ℕ). xs ++ octets_of_parts h.0) empty,
+)
+
+module _ (back : MadePartsReadBack) (all : list_all (λ type. rest_is_last (kinds_in type.fields)) record_types ≡ true)
+    (rtype : ℕ) (values : List NewValue) (octets : List ℕ) (h : AreOctetsOfValues rtype values octets) where
+  made : AreThere rtype octets × (parts_in rtype octets ≡ h.0)
+  made =
+      subst (λ (xs : List ℕ). AreThere rtype xs × (parts_in rtype xs ≡ h.0)) (sym h.2)
+      (back rtype h.0 (values_laid (kinds_of rtype) values h.0 (last_of_type rtype all) h.1) (values_are (kinds_of rtype) values h.0 h.1))
+
+  pub there : AreThere rtype octets
+  there = made.0
+
+  pub short : length octets ≤ most → parts_size (parts_in rtype octets) ≤ most
+  short few =
+      let size : length octets ≡ parts_size h.0 = ap (λ (xs : List ℕ). length xs) h.2 ∙ parts_length h.0 in
+      let same : parts_size (parts_in rtype octets) ≡ parts_size h.0 = ap parts_size made.1 in
+      omega (arith, few, size, same)
+
+  pub have_values : (parts : List Part) → parts ≡ parts_in rtype octets → AreValuesOf (kinds_of rtype) values parts
+  have_values parts e = subst (λ (ps : List Part). AreValuesOf (kinds_of rtype) values ps) (sym (e ∙ made.1)) h.1
+
+  pub too_long : most < length octets → (parts : List Part) × AreValuesOf (kinds_of rtype) values parts × (most < parts_size parts)
+  too_long many =
+      let size : length octets ≡ parts_size h.0 = ap (λ (xs : List ℕ). length xs) h.2 ∙ parts_length h.0 in
+      (h.0, h.1, omega (arith, many, size))

@@ -1,0 +1,7 @@
+pub mod Appending
+pub mod Forms
+pub mod Laws
+pub mod Named
+pub mod NewValues
+pub mod ReadBack
+pub mod ValueData
