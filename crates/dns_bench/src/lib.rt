@@ -9,6 +9,7 @@
 mod edit;
 mod messages;
 mod names;
+mod values;
 mod walk;
 
 ghost use Rattle.dns_bench.specs.Message.{HandsOut};
@@ -190,4 +191,15 @@ pub extern "C" fn dns_bench_zone(
 #[unsafe(no_mangle)]
 pub extern "C" fn dns_bench_age(alloc: Global, octets: &[u8], rounds: usize) -> usize {
     edit::age(alloc, octets, rounds).unwrap_or(0)
+}
+
+/// Makes RDATA of MX with preference 10, `rounds` times: of the octets of the exchange by value, or of
+/// its text if `text` isn't 0. Returns `rounds`, or 0 on failure.
+#[unsafe(no_mangle)]
+pub extern "C" fn dns_bench_mx(alloc: Global, exchange: &[u8], text: u32, rounds: usize) -> usize {
+    let made = match text {
+        0 => values::by_value(alloc, exchange, rounds),
+        _ => values::by_text(alloc, exchange, rounds),
+    };
+    made.unwrap_or(0)
 }
