@@ -27,3 +27,16 @@ pub use Rattle.dns_fields_text.specs.TypeNames.{type_word}
 pub use Rattle.dns_line_words.specs.LineWords.{AreWordsOf, SplitsWords}
 pub use Rattle.dns_data_read.specs.DataWords.{IsDataText, ReadsData}
 pub use Rattle.dns_data_read.specs.RecordWords.{IsRecordText, ReadsRecord}
+-- lists in fields, and the iterators over them
+pub use Rattle.dns_fields_text.specs.Strings.{strings_of}
+pub use Rattle.dns_fields_text.specs.ParameterItems.{ParameterItem, parameters_of}
+pub use Rattle.dns_fields_text.specs.PrefixItems.{PrefixItem, prefixes_of}
+pub use Rattle.dns_fields_text.specs.TypeMaps.{map_types}
+pub use Rattle.dns_fields_text.specs.ItemsLeft.{strings_left, parameter_item, parameters_left, prefix_item, prefixes_left}
+pub use Rattle.dns_fields_text.specs.TypeItems.{types_left}
+-- RDATA from native values
+unfoldable pub use Rattle.dns_fields_read.specs.Base32Words.{last_octets}
+pub use Rattle.dns_values.specs.NewValues.{IsValueOf, takes}
+pub use Rattle.dns_values.specs.ValueData.{AreValuesOf, HasWrongKind, HoldsFirstAt, IsErrorOf, IsOutOfRange, MakesData, MakesParts}
+pub use Rattle.dns_values.specs.Named.{IsSplit, MakesNamed, MakesText}
+pub use Rattle.dns_values.specs.ReadBack.{ReadsBack}

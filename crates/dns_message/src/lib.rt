@@ -237,15 +237,40 @@ pub mod data {
 /// let words = split_words(alloc, text)?;
 /// let data = from_text(alloc, Rtype::from_int(*rtype), words.as_slice())?;
 /// ```
+///
+/// RDATA from native values, one for each field; the calls of `make` are for one type each:
+///
+/// ```rust
+/// let values = [NewValue::Name(next.as_parsed()), NewValue::Types(types)];
+/// from_values(alloc, Rtype::NSEC, &values)
+/// ```
 pub mod fields {
     pub use dns_data_read::{from_text, read_record};
     pub use dns_fields::{
         DataOf, Encoded, Field, FieldData, Fields, Kind, OPAQUE, OwnedFieldData, RecordFields,
         Shape, TABLE, Value, fields_of, laws,
     };
-    pub use dns_fields_text::{DataText, RecordText, TypeName, ZoneName};
+    pub use dns_fields_text::{
+        AddressPrefix, AddressPrefixes, DataText, Parameter, Parameters, RecordText, Strings,
+        TypeMap, TypeName, Types, ZoneName,
+    };
     pub use dns_line_words::split_words;
     pub use dns_value_text::TextError;
+    pub use dns_values::{NewValue, ValueError, from_values, laws as value_laws};
+}
+
+/// RDATA of one record type, from native values. `fields::from_values` makes RDATA of any type.
+///
+/// An MX record, pushed by a builder:
+///
+/// ```rust
+/// let mail = mx(alloc, 10, host).ok()?;
+/// response
+///     .push((owner, 3600u32, mail.as_field_data()))
+///     .ok()?;
+/// ```
+pub mod make {
+    pub use dns_values::{aaaa, caa, ds, https, mx, srv, text, txt};
 }
 
 /// Serial numbers of zones, compared and added by RFC 1982.
