@@ -1,10 +1,8 @@
-//! TTLs that are changed in place, in messages that are written by hand from RFC 1035, and proved
-//! callers.
-ghost use Rattle.std.specs.Prelude.{◌↔◌, IfSome, IsTrue};
+//! TTLs that are changed in place, in messages that are written by hand from RFC 1035, and a proved
+//! caller.
+ghost use Rattle.std.specs.Prelude.{◌↔◌, IsTrue};
 ghost use Rattle.dns_read.specs.Message.{message_octets};
 ghost use Rattle.dns_edit.specs.Acceptance.{AcceptsTtls};
-ghost use Rattle.dns_edit.specs.Readings.{ReadsAlike};
-ghost use Rattle.dns_edit.specs.declared.change.TtlChange.TheVariants.{Age};
 
 use crate::asserts::{POSITIVE_RESPONSE, assert_holds, assert_octets};
 use dns_edit::laws::never_both;
@@ -13,16 +11,6 @@ use dns_read::Message;
 use dns_wire::ParseError;
 use std::alloc::Global;
 use std::process::Abort;
-
-/// A response from a cache, `age` seconds after it was stored, or `None` if its TTLs can't be
-/// changed in place.
-fn after_seconds(mut response: Message<Vec<u8>>, age: u32) -> Option<Message<Vec<u8>>>
-    ensures { IfSome result (λ later. ReadsAlike (Age age) (message_octets response)
-        (message_octets later)) }
-{
-    age_ttls(&mut response, age).ok()?;
-    Some(response)
-}
 
 /// Lowers the TTLs of a response. Returns whether they can be changed in place.
 fn lowers_ttls(response: &mut Message<Vec<u8>>, age: u32) -> bool
@@ -110,11 +98,9 @@ fn copy_of(rt: &impl Abort, alloc: Global, octets: &[u8]) -> Message<Vec<u8>> {
 
 /// Fails unless the TTLs of a message can be lowered by 500 seconds, with these octets.
 fn assert_aged(rt: &impl Abort, alloc: Global, row: &str, before: &[u8], after: &[u8]) {
-    let message = copy_of(rt, alloc, before);
-    match after_seconds(message, 500) {
-        Some(later) => assert_octets(rt, row, later.as_slice(), after),
-        None => panic!(rt; "{row}"),
-    }
+    let mut message = copy_of(rt, alloc, before);
+    assert_holds(rt, row, age_ttls(&mut message, 500) == Ok(()));
+    assert_octets(rt, row, message.as_slice(), after);
 }
 
 /// Fails unless the TTLs of a message can't be lowered, with this error.
