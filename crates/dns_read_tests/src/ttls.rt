@@ -1,12 +1,15 @@
-//! TTLs that are changed in place, in messages that are written by hand from RFC 1035, and a proved
-//! caller.
-ghost use Rattle.std.specs.Prelude.{◌↔◌, IsTrue};
+//! TTLs that are changed in place, in messages that are written by hand from RFC 1035, and proved
+//! callers.
+ghost use Rattle.std.specs.Prelude.{◌↔◌, IsTrue, OnOk};
 ghost use Rattle.dns_read.specs.Message.{message_octets};
 ghost use Rattle.dns_edit.specs.Acceptance.{AcceptsTtls};
+ghost use Rattle.dns_edit.specs.Fields.{NamesAreFields};
+ghost use Rattle.dns_read_tests.specs.Ttls.{KeepsNames, KeepsData};
 
 use crate::asserts::{POSITIVE_RESPONSE, assert_holds, assert_octets};
-use dns_edit::laws::never_both;
-use dns_edit::{EditError, age_ttls};
+use dns_edit::laws::{names_are_fields, names_read_alike, never_both, rdata_reads_alike};
+use dns_edit::{EditError, TtlChange, age_ttls, cap_ttls, change_ttls, min_ttl};
+use dns_item::Ttl;
 use dns_read::Message;
 use dns_wire::ParseError;
 use std::alloc::Global;
@@ -18,6 +21,31 @@ fn lowers_ttls(response: &mut Message<Vec<u8>>, age: u32) -> bool
 {
     never_both();
     age_ttls(response, age).is_ok()
+}
+
+/// Lowers the TTLs of a response, whose names then read as before.
+fn lowers_under_names(response: &mut Message<Vec<u8>>, age: u32) -> Result<(), EditError>
+    ensures { OnOk result (KeepsNames (message_octets response.old)
+        (message_octets response.new)) }
+{
+    names_read_alike();
+    age_ttls(response, age)
+}
+
+/// Lowers the TTLs of a response, whose RDATA then reads as before.
+fn lowers_under_data(response: &mut Message<Vec<u8>>, age: u32) -> Result<(), EditError>
+    ensures { OnOk result (KeepsData (message_octets response.old)
+        (message_octets response.new)) }
+{
+    rdata_reads_alike();
+    age_ttls(response, age)
+}
+
+/// Which names in RDATA are looked at follows from the fields of the record types.
+fn knows_the_names()
+    ensures { NamesAreFields }
+{
+    names_are_fields();
 }
 
 const CUT: EditError = EditError::Parse(ParseError::ShortInput);
@@ -126,4 +154,35 @@ fn pointers_are_refused(rt: HostRuntime) {
     for row in REFUSED {
         assert_refused(&rt, rt.alloc(), row.name, row.message, row.error);
     }
+}
+
+#[test]
+fn ttls_are_capped(rt: HostRuntime) {
+    let mut message = copy_of(&rt, rt.alloc(), POSITIVE_RESPONSE);
+    let capped = cap_ttls(&mut message, Ttl::from_secs(3_100));
+    assert_holds(&rt, "a TTL of an hour", capped == Ok(()));
+    assert_octets(&rt, "a TTL of an hour", message.as_slice(), AGED[0].after);
+    let capped = change_ttls(&mut message, TtlChange::Cap(Ttl::HOUR));
+    assert_holds(&rt, "a TTL of less", capped == Ok(()));
+    assert_octets(&rt, "a TTL of less", message.as_slice(), AGED[0].after);
+}
+
+#[test]
+fn finds_the_least_ttl(rt: HostRuntime) {
+    let delegation = copy_of(&rt, rt.alloc(), AGED[1].before);
+    let least = Ok(Some(Ttl::from_secs(300)));
+    assert_holds(&rt, "two TTLs", min_ttl(&delegation) == least);
+    let query = b"\x00\x00\x01\x00\x00\x01\x00\x00\x00\x00\x00\x00\x00\x00\x01\x00\x01";
+    let query = copy_of(&rt, rt.alloc(), query);
+    assert_holds(&rt, "no record", min_ttl(&query) == Ok(None));
+    let cut = copy_of(&rt, rt.alloc(), &POSITIVE_RESPONSE[..44]);
+    let error = Err(ParseError::ShortInput);
+    assert_holds(&rt, "a record that is cut", min_ttl(&cut) == error);
+}
+
+#[test]
+fn errors_have_texts(rt: HostRuntime) {
+    let text = format!(in rt.alloc(); "{}; {CUT}", EditError::Pointer).expect(&rt, "memory");
+    let expected = b"pointer to no earlier label; short input";
+    assert_octets(&rt, "texts", text.as_bytes(), expected);
 }
