@@ -183,6 +183,6 @@ fn finds_the_least_ttl(rt: HostRuntime) {
 #[test]
 fn errors_have_texts(rt: HostRuntime) {
     let text = format!(in rt.alloc(); "{}; {CUT}", EditError::Pointer).expect(&rt, "memory");
-    let expected = b"pointer to no earlier label; short input";
+    let expected = b"pointer to no earlier label; unexpected end of input";
     assert_octets(&rt, "texts", text.as_bytes(), expected);
 }
