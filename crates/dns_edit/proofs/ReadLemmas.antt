@@ -28,27 +28,27 @@ use Rattle.dns_edit.specs.declared.change.TtlChange.TheVariants.{Age, Cap}
 use Rattle.dns_edit.specs.Ttls.{changed, holds_ttl, record_total, with_ttl, with_ttls}
 use Rattle.dns_edit.specs.Uses.{Apart, NameApart}
 use Rattle.dns_edit.specs.Edits.{NamesAvoid, QuestionApart, RecordApart}
-use Rattle.dns_edit.specs.Readings.{AreOctets, ChangedReadsAlike, SectionReadsAlike, with_changed_ttl, with_changed_item}
+use Rattle.dns_edit.specs.Readings.{FitInOctets, ChangedReadsAlike, SectionReadsAlike, with_changed_ttl, with_changed_item}
 use Rattle.dns_edit.proofs.EntryLemmas.{Split, Step, skipped_by, Held, TtlPlace, split_step, split_all, fields_after, fields_within, long_record, apart_after, apart_in}
 use Rattle.dns_edit.proofs.StayLemmas.{SameApart, InOctets, with_ttls_same, with_ttl_same, root_same, label_same, pointer_same, name_same, fault_same, part_same}
 
 -- numbers of four octets
 
-byte_take : (xs : List ℕ) → AreOctets xs → (n : ℕ) → AreOctets (take n xs)
+byte_take : (xs : List ℕ) → FitInOctets xs → (n : ℕ) → FitInOctets (take n xs)
 byte_take xs all zero k = omega arith
 byte_take [] all (suc n) k = omega arith
 byte_take (x ∷ xs) all (suc n) zero = all 0
 byte_take (x ∷ xs) all (suc n) (suc k) = byte_take xs (λ i. all (suc i)) n k
 
-byte_drop : (xs : List ℕ) → AreOctets xs → (n : ℕ) → AreOctets (drop n xs)
+byte_drop : (xs : List ℕ) → FitInOctets xs → (n : ℕ) → FitInOctets (drop n xs)
 byte_drop xs all zero = all
 byte_drop [] all (suc n) = all
 byte_drop (x ∷ xs) all (suc n) = byte_drop xs (λ i. all (suc i)) n
 
-below : (b : List ℕ) (p : ℕ) → AreOctets b → number_at w32 b p < 2 ^ 32
+below : (b : List ℕ) (p : ℕ) → FitInOctets b → number_at w32 b p < 2 ^ 32
 below b p all =
     let xs = take (p + 4 - p) (drop p b) in
-    let each : AreOctets xs = byte_take (drop p b) (byte_drop b all p) (p + 4 - p) in
+    let each : FitInOctets xs = byte_take (drop p b) (byte_drop b all p) (p + 4 - p) in
     let first = each 0 in
     let second = each 1 in
     let third = each 2 in
@@ -89,7 +89,7 @@ module _ {fields b c : List ℕ} (s : SameApart fields b c) where
       (ends_same (apart_in fields p r (p + 1 + n) r (omega arith) (omega arith) a) x)
 
 -- the TTL of a field after the change
-held_value : (change : TtlChange) (b : List ℕ) {fields : List ℕ} (f : ℕ) → AreOctets b → Held b fields f
+held_value : (change : TtlChange) (b : List ℕ) {fields : List ℕ} (f : ℕ) → FitInOctets b → Held b fields f
     → number_at w32 (with_ttls change fields b) f ≡ changed change (number_at w32 b f)
 held_value change b {fields = fields} f bytes h =
     let here = h.here in
@@ -108,12 +108,12 @@ held_value change b {fields = fields} f bytes h =
     ∙ sym last ∙ written change f c1 fits small ∙ ap (changed change) (sym first)
 
 -- the TTL that is read after the change
-ttl_value : (change : TtlChange) (b fields : List ℕ) (f : ℕ) (held : Bool) → AreOctets b → InOctets b fields → TtlPlace b fields held f
+ttl_value : (change : TtlChange) (b fields : List ℕ) (f : ℕ) (held : Bool) → FitInOctets b → InOctets b fields → TtlPlace b fields held f
     → cond held (changed change (number_at w32 b f)) (number_at w32 b f) ≡ number_at w32 (with_ttls change fields b) f
 ttl_value change b fields f held bytes within (inl (e, h)) = rw e (sym (held_value change b f bytes h))
 ttl_value change b fields f held bytes within (inr (e, a)) = rw e (number32_same (with_ttls_same change fields b within) f a)
 
-module _ (change : TtlChange) (b fields : List ℕ) (bytes : AreOctets b) (within : InOctets b fields) where
+module _ (change : TtlChange) (b fields : List ℕ) (bytes : FitInOctets b) (within : InOctets b fields) where
   abbrev after : List ℕ
   after = with_ttls change fields b
 
@@ -251,7 +251,7 @@ split_after {b = b} {fields = fields} k m {n = n} {p = p} e x (more {n = j} {q =
     let step : Step b fields (n - 1) p q = split_step b x (omega arith) h in
     split_after j m (omega arith) step.next rest
 
-module _ (change : TtlChange) (b fields : List ℕ) (bytes : AreOctets b) (avoid : NamesAvoid b fields) where
+module _ (change : TtlChange) (b fields : List ℕ) (bytes : FitInOctets b) (avoid : NamesAvoid b fields) where
   abbrev c : List ℕ
   c = with_ttls change fields b
 

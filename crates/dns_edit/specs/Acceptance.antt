@@ -73,11 +73,11 @@ pub record AcceptsFrom (b : List ℕ) (start : ℕ) : Type 0 where
   pub questions : AllAccepted (AcceptsQuestion b) (question_count b) [] header_size start asked
   pub records : AllAccepted (AcceptsRecord b) (record_total b) asked start end names
 
--- The TTLs of the message can be changed: each question and record can be skipped, and each pointer of their names leads to a label of an earlier name.
+-- The TTLs of the message can be changed: each question and record can be skipped, the names in RDATA are within it, and each pointer of a name leads to a label of an earlier name.
 abbrev pub AcceptsTtls : List ℕ → Type 0
 AcceptsTtls b = (start : ℕ) × AcceptsFrom b start
 
--- The message is refused with the error of its first question or record that can't be skipped, or that has a name whose pointer leads to no label of an earlier name.
+-- The message is refused with the error of its first question or record that isn't accepted.
 pub data RefusesTtls (b : List ℕ) (e : EditError) : Type 0 where
   question : OneRefused (AcceptsQuestion b) (RefusesQuestion b) (question_count b) [] header_size e → RefusesTtls b e
   entry : {start : ℕ} {asked : List ℕ} → AllAccepted (AcceptsQuestion b) (question_count b) [] header_size start asked

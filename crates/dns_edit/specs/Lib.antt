@@ -1,6 +1,7 @@
 pub mod Ttls
 pub mod Uses
 pub mod Rdata
+pub mod Fields
 pub mod Pointers
 pub mod Marks
 pub mod Acceptance

@@ -26,9 +26,9 @@ abbrev pub NamesReadAlike : Type 0
 NamesReadAlike = (change : TtlChange) (b fields : List ℕ) → NamesAvoid b fields
     → (length (with_ttls change fields b) ≡ length b) × ((p : ℕ) → NameApart b fields p → ReadsNameAlike b (with_ttls change fields b) p)
 
--- Numbers that are octets.
-abbrev pub AreOctets : List ℕ → Type 0
-AreOctets b = (k : ℕ) → get_or b k 0 < 256
+-- Each number fits an octet.
+abbrev pub FitInOctets : List ℕ → Type 0
+FitInOctets b = (k : ℕ) → get_or b k 0 < 256
 
 -- What is read of a record, with its TTL changed if it has one.
 abbrev pub with_changed_ttl : TtlChange → RecordEntry → RecordEntry
@@ -60,7 +60,7 @@ pub record ReadsAlike (change : TtlChange) (b c : List ℕ) : Type 0 where
 
 -- A message whose TTLs were changed in place reads as before but for the TTLs.
 abbrev pub ChangedReadsAlike : Type 0
-ChangedReadsAlike = (change : TtlChange) (b fields : List ℕ) → AreOctets b → NamesAvoid b fields → ReadsAlike change b (with_ttls change fields b)
+ChangedReadsAlike = (change : TtlChange) (b fields : List ℕ) → FitInOctets b → NamesAvoid b fields → ReadsAlike change b (with_ttls change fields b)
 
 -- The RDATA from `start` to `end` has the same octets in both, and each name that uses no octet of the fields reads the same to a parser that ends with the RDATA.
 pub record DataReadsAlike (b c fields : List ℕ) (start end : ℕ) : Type 0 where

@@ -13,9 +13,9 @@ abbrev pub changed : TtlChange → ℕ → ℕ
 changed (Age by) ttl = ttl - by
 changed (Cap most) ttl = min ttl most
 
--- Whether the TTL field of a record of this type holds a TTL. It doesn't in OPT (RFC 6891 section 6.1.3), nor in TSIG (RFC 8945 section 4.2) and SIG, which only SIG(0) still uses (RFC 2931, RFC 3755 section 3): these two are of the message and are never cached.
+-- Whether the TTL field of a record of this type holds a TTL for caches. It doesn't in OPT (41, RFC 6891 section 6.1.3) and TKEY (249, RFC 2930 section 2), nor in TSIG (250, RFC 8945 section 4.2) and SIG (24), which only SIG(0) still uses (RFC 2931, RFC 3755 section 3): these are of one message and are never cached.
 abbrev pub holds_ttl : ℕ → Bool
-holds_ttl rtype = cond (nat_eq rtype 41) false (cond (nat_eq rtype 24) false (cond (nat_eq rtype 250) false true))
+holds_ttl rtype = cond (nat_eq rtype 41) false (cond (nat_eq rtype 24) false (cond (nat_eq rtype 249) false (cond (nat_eq rtype 250) false true)))
 
 -- The number of records in the three sections.
 abbrev pub record_total : List ℕ → ℕ

@@ -8,7 +8,7 @@ ghost use Rattle.dns_section.specs.Sections.{question_count};
 ghost use Rattle.dns_edit.specs.Acceptance.{AcceptsFrom, AcceptsTtls, RefusesTtls};
 ghost use Rattle.dns_edit.specs.Edits.{ChangesTtls, IsLeastTtl, RecordsFault, least_with};
 ghost use Rattle.dns_edit.specs.Marks.{MarksLabels};
-ghost use Rattle.dns_edit.specs.Readings.{AreOctets, ReadsAlike};
+ghost use Rattle.dns_edit.specs.Readings.{FitInOctets, ReadsAlike};
 ghost use Rattle.dns_edit.specs.Ttls.{TtlFields, WritesTtl, holds_ttl, record_total, with_ttls};
 ghost use Rattle.dns_edit.specs.declared.change.TtlChange.TheVariants.{Age, Cap};
 
@@ -27,8 +27,8 @@ const SHORT: usize = 1_232;
 
 /// The least TTL of the message's records, or `None` if it has none.
 ///
-/// The records of the three sections count, but for OPT, TSIG and SIG, which have no TTL. Returns
-/// the error of the first entry that can't be skipped.
+/// The records of the three sections count, but for OPT, TSIG, TKEY and SIG, whose field holds no
+/// TTL for caches. Returns the error of the first entry that can't be skipped.
 pub fn min_ttl<Octs: Octets>(message: &Message<Octs>) -> Result<Option<Ttl>, ParseError>
     ensures least { IfOk result (IsLeastTtl (message_octets message.now)) }
     ensures fault { IfErr result (λ e. RecordsFault (message_octets message.now) (fault_of e)) }
@@ -80,8 +80,8 @@ pub fn age_ttls<Octs: OctetsMut>(message: &mut Message<Octs>, seconds: u32) -> R
     change_ttls(message, TtlChange::Age(seconds))
 }
 
-/// Lowers each TTL of more than `most` seconds to `most`, as [`change_ttls`] does.
-pub fn cap_ttls<Octs: OctetsMut>(message: &mut Message<Octs>, most: u32) -> Result<(), EditError>
+/// Lowers each TTL of more than `most` to `most`, as [`change_ttls`] does.
+pub fn cap_ttls<Octs: OctetsMut>(message: &mut Message<Octs>, most: Ttl) -> Result<(), EditError>
     ensures reads { OnOk result (ReadsAlike (Cap most) (message_octets message.old)
         (message_octets message.new)) }
     ensures changes { OnOk result (ChangesTtls (Cap most) (message_octets message.old)
@@ -93,15 +93,16 @@ pub fn cap_ttls<Octs: OctetsMut>(message: &mut Message<Octs>, most: u32) -> Resu
     change_ttls(message, TtlChange::Cap(most))
 }
 
-/// Changes the TTL of each record in place, but for OPT, TSIG and SIG. No other octet changes.
+/// Changes the TTL of each record in place, but for OPT, TSIG, TKEY and SIG. No other octet
+/// changes.
 ///
 /// The message reads as before but for the TTLs. It is read twice; no pointer is followed, and
 /// nothing is allocated.
 ///
-/// Returns the error of the first question or record that is refused: `Parse` if it can't be
-/// skipped or the names in its RDATA run past its end, `Pointer` if a pointer of its names leads to
-/// anything but a label of an earlier name (RFC 1035 section 4.1.4). The message then stays as it
-/// is.
+/// Returns the error of the first question or record that is refused: `Parse` if it or a name in
+/// its RDATA can't be skipped, or these names run past the RDATA; `Pointer` if a pointer of its
+/// names leads to anything but a label of an earlier name (RFC 1035 section 4.1.4). The message
+/// then stays as it is.
 pub fn change_ttls<Octs: OctetsMut>(
     message: &mut Message<Octs>,
     change: TtlChange,
@@ -123,7 +124,7 @@ pub fn change_ttls<Octs: OctetsMut>(
 
 /// What is in a slice of octets is octets.
 fn are_octets(octets: &[u8])
-    ensures { AreOctets octets.now }
+    ensures { FitInOctets octets.now }
 {
     let _len = octets.len();
 }
@@ -185,22 +186,27 @@ fn write_ttls<Octs: OctetsMut>(
 {
     let mut pos = start;
     for _record in 0..count {
-        pos = write_ttl(message, pos, change);
+        pos = write_ttl(message, pos, &change);
     }
 }
 
 /// Changes the TTL of the record at offset `start`, which is known to be there. Returns its end.
-fn write_ttl<Octs: OctetsMut>(message: &mut Message<Octs>, start: usize, change: TtlChange) -> usize
+fn write_ttl<Octs: OctetsMut>(
+    message: &mut Message<Octs>,
+    start: usize,
+    change: &TtlChange,
+) -> usize
     requires after_header { header_size ≤ start }
     requires skips { (end : ℕ) × SkipsRecord (message_octets message.old) start end }
-    ensures writes { WritesTtl change (message_octets message.old) (message_octets message.new) start
-        result }
+    ensures writes { WritesTtl change.now (message_octets message.old)
+        (message_octets message.new) start result }
     ensures later { start ≤ result }
 {
     match span_at(message.as_slice(), start) {
         Ok(span) => {
             if has_ttl(span.rtype) {
-                message.overwrite(span.fields + 4, &change.of(span.ttl).to_be_bytes());
+                let ttl = change.of(Ttl::from_secs(span.ttl));
+                message.overwrite(span.fields + 4, &ttl.as_secs().to_be_bytes());
             }
             span.end
         }

@@ -4,7 +4,8 @@ use thiserror::Error;
 /// Why the TTLs of a message can't be changed in place. The message is then unchanged.
 #[derive(Clone, Copy, Debug, PartialEq, Eq, Error)]
 pub enum EditError {
-    /// A question or record can't be skipped, or the names in RDATA run past its end.
+    /// A question, a record or a name in RDATA can't be skipped, or the names in RDATA run past its
+    /// end.
     #[error("{0}")]
     Parse(ParseError),
     /// A pointer doesn't lead to a label of an earlier name, so a name may use octets of a TTL.

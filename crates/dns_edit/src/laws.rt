@@ -1,6 +1,7 @@
 //! Theorems on messages whose TTLs are changed in place. The functions do nothing: each contract is
 //! a theorem.
 ghost use Rattle.dns_edit.specs.Acceptance.{NeverBoth};
+ghost use Rattle.dns_edit.specs.Fields.{NamesAreFields};
 ghost use Rattle.dns_edit.specs.Readings.{ChangedReadsAlike, NamesReadAlike, RdataReadsAlike};
 
 /// A name that uses no octet of the TTL fields reads the same after the TTLs are changed.
@@ -23,4 +24,10 @@ pub fn rdata_reads_alike()
 /// message is accepted, and returns an error exactly where it is refused.
 pub fn never_both()
     ensures { NeverBoth }
+{}
+
+/// The names in RDATA of each record type in `TABLE` of `dns_fields` are those among its fields.
+#[tactic(auto, unfolding(dns_fields::specs::RecordTypes::record_types))]
+pub fn names_are_fields()
+    ensures { NamesAreFields }
 {}

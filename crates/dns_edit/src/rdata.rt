@@ -7,10 +7,10 @@ fn octets_before_names(rtype: u16) -> usize
     ensures bound { result ≤ 18 }
 {
     match rtype {
-        // MX, AFSDB, RT, PX and KX
-        15 | 18 | 21 | 26 | 36 => 2,
-        // SIG
-        24 => 18,
+        // MX, AFSDB, RT, PX, KX, SVCB, HTTPS and LP
+        15 | 18 | 21 | 26 | 36 | 64 | 65 | 107 => 2,
+        // SIG and RRSIG
+        24 | 46 => 18,
         // SRV
         33 => 6,
         _ => 0,
@@ -24,8 +24,10 @@ pub(crate) fn names_in(rtype: u16) -> u8
     match rtype {
         // NS, MD, MF, CNAME, MB, MG, MR, PTR, MX, AFSDB, RT, SIG, NXT, SRV, NAPTR, KX and DNAME
         2 | 3 | 4 | 5 | 7 | 8 | 9 | 12 | 15 | 18 | 21 | 24 | 30 | 33 | 35 | 36 | 39 => 1,
-        // SOA, MINFO, RP and PX
-        6 | 14 | 17 | 26 => 2,
+        // RRSIG, NSEC, SVCB, HTTPS, LP, TKEY and TSIG
+        46 | 47 | 64 | 65 | 107 | 249 | 250 => 1,
+        // SOA, MINFO, RP, PX and TALINK
+        6 | 14 | 17 | 26 | 58 => 2,
         _ => 0,
     }
 }

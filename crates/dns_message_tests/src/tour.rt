@@ -11,6 +11,8 @@ ghost use Rattle.dns_message.specs.Data.{address_text};
 ghost use Rattle.dns_message.specs.Records.{record_fields_text};
 ghost use Rattle.dns_message.specs.Messages.{message_octets};
 ghost use Rattle.dns_message.specs.Builders.{IsMessageOf};
+ghost use Rattle.dns_message.specs.Edits.{ReadsAlike};
+ghost use Rattle.dns_message.specs.declared.edit.TtlChange.TheVariants.{Age};
 ghost use Rattle.dns_message_tests.specs.Callers.{AreAnswers};
 ghost use Rattle.dns_message_tests.specs.Tour.{HasQuestions, a_layout, address_parts, response_with};
 
@@ -19,6 +21,7 @@ use arrayvec::ArrayVec;
 use dns_message::builder::{MessageBuilder, PushError};
 use dns_message::code::{Class, Rcode, Rtype};
 use dns_message::data::A;
+use dns_message::edit::{age_ttls, min_ttl};
 use dns_message::message::Message;
 use dns_message::name::{Name, ParsedName, ToName, ToNameExt};
 use dns_message::question::Question;
@@ -116,6 +119,27 @@ fn answers_with_an_address(rt: HostRuntime) {
     let found = addresses(rt.alloc(), &response).expect(&rt, "answers");
     let is_one = found.len() == 1 && found[0].octets() == [192, 0, 2, 1];
     assert_holds(&rt, "the address", is_one);
+}
+
+/// A response from a cache, `age` seconds after it was stored, or `None` if its TTLs can't be
+/// changed in place.
+fn after_seconds(mut response: Message<Vec<u8>>, age: u32) -> Option<Message<Vec<u8>>>
+    ensures { IfSome result (λ later. ReadsAlike (Age age) (message_octets response)
+        (message_octets later)) }
+{
+    age_ttls(&mut response, age).ok()?;
+    Some(response)
+}
+
+#[test]
+fn lowers_a_ttl(rt: HostRuntime) {
+    let name = example_com(&rt);
+    let query = address_query(rt.alloc(), name).expect(&rt, "memory");
+    let answer = (name, 3600u32, A::from_octets(192, 0, 2, 1));
+    let response = response(rt.alloc(), &query, answer).expect(&rt, "memory");
+    let later = after_seconds(response, 600).expect(&rt, "a message that is accepted");
+    let is_lower = min_ttl(&later) == Ok(Some(Ttl::from_secs(3000)));
+    assert_holds(&rt, "the TTL", is_lower);
 }
 
 /// The query for the records of a name and a type, in a buffer of 512 octets. Nothing is allocated.

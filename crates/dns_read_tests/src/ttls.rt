@@ -1,28 +1,19 @@
 //! TTLs that are changed in place, in messages that are written by hand from RFC 1035, and proved
 //! callers.
-ghost use Rattle.std.specs.Prelude.{◌↔◌, IfSome, IsTrue};
+ghost use Rattle.std.specs.Prelude.{◌↔◌, IsTrue, OnOk};
 ghost use Rattle.dns_read.specs.Message.{message_octets};
 ghost use Rattle.dns_edit.specs.Acceptance.{AcceptsTtls};
-ghost use Rattle.dns_edit.specs.Readings.{ReadsAlike};
-ghost use Rattle.dns_edit.specs.declared.change.TtlChange.TheVariants.{Age};
+ghost use Rattle.dns_edit.specs.Fields.{NamesAreFields};
+ghost use Rattle.dns_read_tests.specs.Ttls.{KeepsNames, KeepsData};
 
 use crate::asserts::{POSITIVE_RESPONSE, assert_holds, assert_octets};
-use dns_edit::laws::never_both;
-use dns_edit::{EditError, age_ttls};
+use dns_edit::laws::{names_are_fields, names_read_alike, never_both, rdata_reads_alike};
+use dns_edit::{EditError, TtlChange, age_ttls, cap_ttls, change_ttls, min_ttl};
+use dns_item::Ttl;
 use dns_read::Message;
 use dns_wire::ParseError;
 use std::alloc::Global;
 use std::process::Abort;
-
-/// A response from a cache, `age` seconds after it was stored, or `None` if its TTLs can't be
-/// changed in place.
-fn after_seconds(mut response: Message<Vec<u8>>, age: u32) -> Option<Message<Vec<u8>>>
-    ensures { IfSome result (λ later. ReadsAlike (Age age) (message_octets response)
-        (message_octets later)) }
-{
-    age_ttls(&mut response, age).ok()?;
-    Some(response)
-}
 
 /// Lowers the TTLs of a response. Returns whether they can be changed in place.
 fn lowers_ttls(response: &mut Message<Vec<u8>>, age: u32) -> bool
@@ -30,6 +21,31 @@ fn lowers_ttls(response: &mut Message<Vec<u8>>, age: u32) -> bool
 {
     never_both();
     age_ttls(response, age).is_ok()
+}
+
+/// Lowers the TTLs of a response, whose names then read as before.
+fn lowers_under_names(response: &mut Message<Vec<u8>>, age: u32) -> Result<(), EditError>
+    ensures { OnOk result (KeepsNames (message_octets response.old)
+        (message_octets response.new)) }
+{
+    names_read_alike();
+    age_ttls(response, age)
+}
+
+/// Lowers the TTLs of a response, whose RDATA then reads as before.
+fn lowers_under_data(response: &mut Message<Vec<u8>>, age: u32) -> Result<(), EditError>
+    ensures { OnOk result (KeepsData (message_octets response.old)
+        (message_octets response.new)) }
+{
+    rdata_reads_alike();
+    age_ttls(response, age)
+}
+
+/// Which names in RDATA are looked at follows from the fields of the record types.
+fn knows_the_names()
+    ensures { NamesAreFields }
+{
+    names_are_fields();
 }
 
 const CUT: EditError = EditError::Parse(ParseError::ShortInput);
@@ -51,6 +67,11 @@ const AGED: &[Aged] = &[
         name: "An owner that points into RDATA, and OPT",
         before: b"\x00\x00\x81\xA0\x00\x01\x00\x01\x00\x00\x00\x02\x07example\x03com\x00\x00\x02\x00\x01\xC0\x0C\x00\x02\x00\x01\x00\x00\x01\x2C\x00\x06\x03ns1\xC0\x0C\xC0\x29\x00\x01\x00\x01\x00\x00\x02\x58\x00\x04\xCB\x00\x71\x01\x00\x00\x29\x04\xD0\x01\x00\x80\x00\x00\x00",
         after: b"\x00\x00\x81\xA0\x00\x01\x00\x01\x00\x00\x00\x02\x07example\x03com\x00\x00\x02\x00\x01\xC0\x0C\x00\x02\x00\x01\x00\x00\x00\x00\x00\x06\x03ns1\xC0\x0C\xC0\x29\x00\x01\x00\x01\x00\x00\x00\x64\x00\x04\xCB\x00\x71\x01\x00\x00\x29\x04\xD0\x01\x00\x80\x00\x00\x00",
+    },
+    Aged {
+        name: "An owner that points into the RDATA of HTTPS, as BIND 9.18 sends it",
+        before: b"\x00\x00\x84\x00\x00\x01\x00\x01\x00\x00\x00\x01\x01a\x07example\x00\x00\x41\x00\x01\xC0\x0C\x00\x41\x00\x01\x00\x00\x02\x58\x00\x0D\x00\x01\x01b\x07example\x00\xC0\x29\x00\x01\x00\x01\x00\x00\x02\x58\x00\x04\xCB\x00\x71\x01",
+        after: b"\x00\x00\x84\x00\x00\x01\x00\x01\x00\x00\x00\x01\x01a\x07example\x00\x00\x41\x00\x01\xC0\x0C\x00\x41\x00\x01\x00\x00\x00\x64\x00\x0D\x00\x01\x01b\x07example\x00\xC0\x29\x00\x01\x00\x01\x00\x00\x00\x64\x00\x04\xCB\x00\x71\x01",
     },
 ];
 
@@ -110,11 +131,9 @@ fn copy_of(rt: &impl Abort, alloc: Global, octets: &[u8]) -> Message<Vec<u8>> {
 
 /// Fails unless the TTLs of a message can be lowered by 500 seconds, with these octets.
 fn assert_aged(rt: &impl Abort, alloc: Global, row: &str, before: &[u8], after: &[u8]) {
-    let message = copy_of(rt, alloc, before);
-    match after_seconds(message, 500) {
-        Some(later) => assert_octets(rt, row, later.as_slice(), after),
-        None => panic!(rt; "{row}"),
-    }
+    let mut message = copy_of(rt, alloc, before);
+    assert_holds(rt, row, age_ttls(&mut message, 500) == Ok(()));
+    assert_octets(rt, row, message.as_slice(), after);
 }
 
 /// Fails unless the TTLs of a message can't be lowered, with this error.
@@ -135,4 +154,35 @@ fn pointers_are_refused(rt: HostRuntime) {
     for row in REFUSED {
         assert_refused(&rt, rt.alloc(), row.name, row.message, row.error);
     }
+}
+
+#[test]
+fn ttls_are_capped(rt: HostRuntime) {
+    let mut message = copy_of(&rt, rt.alloc(), POSITIVE_RESPONSE);
+    let capped = cap_ttls(&mut message, Ttl::from_secs(3_100));
+    assert_holds(&rt, "a TTL of an hour", capped == Ok(()));
+    assert_octets(&rt, "a TTL of an hour", message.as_slice(), AGED[0].after);
+    let capped = change_ttls(&mut message, TtlChange::Cap(Ttl::HOUR));
+    assert_holds(&rt, "a TTL of less", capped == Ok(()));
+    assert_octets(&rt, "a TTL of less", message.as_slice(), AGED[0].after);
+}
+
+#[test]
+fn finds_the_least_ttl(rt: HostRuntime) {
+    let delegation = copy_of(&rt, rt.alloc(), AGED[1].before);
+    let least = Ok(Some(Ttl::from_secs(300)));
+    assert_holds(&rt, "two TTLs", min_ttl(&delegation) == least);
+    let query = b"\x00\x00\x01\x00\x00\x01\x00\x00\x00\x00\x00\x00\x00\x00\x01\x00\x01";
+    let query = copy_of(&rt, rt.alloc(), query);
+    assert_holds(&rt, "no record", min_ttl(&query) == Ok(None));
+    let cut = copy_of(&rt, rt.alloc(), &POSITIVE_RESPONSE[..44]);
+    let error = Err(ParseError::ShortInput);
+    assert_holds(&rt, "a record that is cut", min_ttl(&cut) == error);
+}
+
+#[test]
+fn errors_have_texts(rt: HostRuntime) {
+    let text = format!(in rt.alloc(); "{}; {CUT}", EditError::Pointer).expect(&rt, "memory");
+    let expected = b"pointer to no earlier label; unexpected end of input";
+    assert_octets(&rt, "texts", text.as_bytes(), expected);
 }

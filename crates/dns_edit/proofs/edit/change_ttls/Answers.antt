@@ -5,7 +5,7 @@ use Rattle.dns_read.specs.Message.{message_octets}
 use Rattle.dns_section.specs.Reading.{Skipped}
 use Rattle.dns_edit.specs.Acceptance.{AcceptsFrom, RefusesTtls}
 use Rattle.dns_edit.specs.Edits.{NamesAvoid}
-use Rattle.dns_edit.specs.Readings.{AreOctets, ReadsAlike}
+use Rattle.dns_edit.specs.Readings.{FitInOctets, ReadsAlike}
 use Rattle.dns_edit.specs.Ttls.{TtlFields, record_total}
 use Rattle.dns_edit.proofs.AcceptLemmas.{names_avoid, questions_rise, records_skipped}
 use Rattle.dns_edit.proofs.EntryLemmas.{fields_of}
@@ -51,6 +51,6 @@ returns-clause-reads g c =
     let total : c.record_count-count.result ≡ record_total b = c.record_count-count.ensures ∙ ap (λ (b : List ℕ). record_total b) c.as_slice-3.ensures.octets in
     let avoid : NamesAvoid b f.0 = names_avoid a f.0 f.1 in
     let is = c.write_ttls.ensures f.0 (subst (λ n. TtlFields b n start f.0) (sym total) f.1) in
-    let bytes : AreOctets b = subst (λ (b : List ℕ). AreOctets b) c.as_slice.ensures.octets c.are_octets.ensures in
+    let bytes : FitInOctets b = subst (λ (b : List ℕ). FitInOctets b) c.as_slice.ensures.octets c.are_octets.ensures in
     let reads = changed_reads_alike c.args.change b f.0 bytes avoid in
     subst (λ (after : List ℕ). ReadsAlike c.args.change b after) (sym is) reads
