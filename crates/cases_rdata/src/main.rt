@@ -4,10 +4,10 @@
 //!
 //! The program prints a line for each check of a case that fails, and the counts. Its page says
 //! what the keys of a case are. Outside of a case, a line has the word `message` and a message as
-//! hexadecimal digits, or the word `text`, a record type and RDATA in presentation format. Of a
+//! hexadecimal digits, or the word `text`, a record type and RDATA in presentation format. For a
 //! message the program prints the message written again from its fields, with compressed names, and
-//! for each answer the canonical form of its RDATA (RFC 4034 section 6.2) and its text. Of a text it
-//! prints the octets of the RDATA.
+//! for each answer the canonical form of its RDATA (RFC 4034 section 6.2) and its text. For a text
+//! it prints the octets of the RDATA.
 #![tactic(auto)]
 
 mod case;

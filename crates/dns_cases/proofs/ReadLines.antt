@@ -1,5 +1,5 @@
 -- The lines of a text, and those that an iterator has left.
-use Rattle.std.proofs.Common.{◌≡◌, ℕ, Bool, true, false, Option, Some, None, List, [], ◌∷◌, ◌++◌, filter, flat_map, map, Bor, refl, sym, ap, subst, ◌∙◌, append_assoc, rules}
+use Rattle.std.proofs.Common.{◌≡◌, ℕ, true, false, Some, None, List, [], ◌∷◌, ◌++◌, filter, map, Bor, sym, ap, subst, ◌∙◌, append_assoc, rules}
 use Rattle.std.specs.Str.Iter.{lines_steps}
 use Rattle.std.specs.declared.str.Lines.{Lines}
 use Rattle.std.specs.Global.{Vec}

@@ -1,5 +1,5 @@
 -- Lines of cases, and blocks of them.
-use Rattle.std.specs.Prelude.{ℕ, Bool, true, false, not, List, Option, Some, None, ◌==◌, find, flat_map, map}
+use Rattle.std.specs.Prelude.{ℕ, Bool, false, not, List, Option, Some, None, ◌==◌, find, flat_map, map}
 use Rattle.std.specs.Borrow.{Bor}
 use Rattle.std.specs.Char.{is_ascii_whitespace}
 use Rattle.std.specs.Global.{Vec}
@@ -8,11 +8,12 @@ use Rattle.std.specs.Global.{Vec}
 abbrev pub mark_of : List ℕ → Option ℕ
 mark_of line = find (λ octet. not (is_ascii_whitespace octet)) line
 
--- whether a line with this mark belongs to a block: it isn't blank, and is no comment, which begins with `#`
+-- whether a line that begins with this mark belongs to a block: it isn't blank, and is no comment, which begins with `#`
 abbrev pub is_content : Option ℕ → Bool
 is_content None = false
 is_content (Some octet) = not (octet == 35)
 
+-- whether a line belongs to a block
 abbrev pub is_kept : List ℕ → Bool
 is_kept line = is_content (mark_of line)
 

@@ -1,5 +1,5 @@
 //! Blocks of lines.
-ghost use Rattle.std.specs.Prelude.{◌≡◌, IfOk, filter, flat_map, map};
+ghost use Rattle.std.specs.Prelude.{◌≡◌, IfOk, filter};
 ghost use Rattle.std.specs.Str.Lines.{lines};
 ghost use Rattle.dns_cases.specs.Block.{all_lines, is_kept, mark_of};
 

@@ -39,7 +39,8 @@ impl<'a, W: Write + Drop> Report<'a, W> {
 
     /// Begins the case of this name.
     pub fn begin(&mut self, name: &'a str)
-        ensures { self.new.counts ≡ record self.old.counts { cases = next self.old.counts.cases } }
+        ensures { self.new.counts ≡
+            record self.old.counts { cases = next self.old.counts.cases } }
     {
         self.name = name;
         self.counts.cases = self.counts.cases.saturating_add(1);
@@ -48,8 +49,10 @@ impl<'a, W: Write + Drop> Report<'a, W> {
     /// Compares what is shown with what is wanted. Prints the first line that differs.
     pub fn check(&mut self, key: &str, wanted: &[u8], shown: &[u8]) -> io::Result<()>
         ensures counted { self.new.counts.checks ≡ next self.old.counts.checks }
-        ensures passed { wanted.now ≡ shown.now → self.new.counts.failures ≡ self.old.counts.failures }
-        ensures failed { wanted.now ≢ shown.now → self.new.counts.failures ≡ next self.old.counts.failures }
+        ensures passed { wanted.now ≡ shown.now →
+            self.new.counts.failures ≡ self.old.counts.failures }
+        ensures failed { wanted.now ≢ shown.now →
+            self.new.counts.failures ≡ next self.old.counts.failures }
     {
         self.counts.checks = self.counts.checks.saturating_add(1);
         if wanted == shown {
@@ -62,7 +65,8 @@ impl<'a, W: Write + Drop> Report<'a, W> {
 
     /// Prints that a line of the case is malformed, which is a failure.
     pub fn bad_line(&mut self, line: &str) -> io::Result<()>
-        ensures { self.new.counts ≡ record self.old.counts { failures = next self.old.counts.failures } }
+        ensures { self.new.counts ≡
+            record self.old.counts { failures = next self.old.counts.failures } }
     {
         self.counts.failures = self.counts.failures.saturating_add(1);
         writeln!(self.writer, "FAILED {} | bad line: {line}", self.name)

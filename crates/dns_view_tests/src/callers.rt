@@ -25,7 +25,8 @@ fn prints_rows(rt: HostRuntime) {
     let rows = rows(rt.alloc(), b"g").expect(&rt, "memory");
     let mut text = Vec::new(rt.alloc());
     print_text(rt.alloc(), &mut text, b"g", &rows).expect(&rt, "memory");
-    let expected = b"     0  67                       too short for a header section of 12 octets\n";
+    let expected =
+        b"     0  67                       too short for a header section of 12 octets\n";
     assert_eq!(rt; text.as_slice(), expected.as_slice());
     let mut page = Vec::new(rt.alloc());
     print_page(rt.alloc(), &mut page, b"g", &rows).expect(&rt, "memory");

@@ -2,7 +2,7 @@ use Rattle.std.proofs.Common.{◌≡◌, ◌∙◌, ◌++◌, Some, true, false,
 use Rattle.std.proofs.lemmas.Iterator.Splits.{YieldsList-from_lines}
 use Rattle.std.specs.Str.Lines.{lines}
 use Rattle.dns_cases.specs.Block.{all_lines, is_content, is_kept}
-use Rattle.dns_cases.proofs.ReadLines.{texts, HasRead, starts, skips, keeps, ends, all_lines-push, texts-push}
+use Rattle.dns_cases.proofs.ReadLines.{texts, starts, skips, keeps, ends, all_lines-push, texts-push}
 use Rattle.dns_cases.proofs.block.blocks.Goals as goal
 
 pub loop-line-init : goal.loop-line-init
