@@ -1,8 +1,7 @@
 #!/usr/bin/env bash
 # Builds the static library of crates/dns_c (library), compares dnsm.h with its exports (header.sh), and compiles and runs the
 # examples in C and C++. These are compiled by gcc and by clang, as far as these are installed, with the address and undefined
-# behaviour sanitizers if the compiler has them. Then it installs the library in a new folder (install.sh), and runs an example
-# in C, Python and Rust with that alone. The packages of Debian are gcc, g++, clang, binutils, pkg-config and rustc.
+# behaviour sanitizers if the compiler has them. The packages of Debian are gcc, g++ and clang.
 # Prints 'test c::NAME ... ok' or 'test c::NAME ... FAILED' for each step, and fails if one does.
 set -u
 here=$(cd "$(dirname "$0")" && pwd)
@@ -81,24 +80,6 @@ examples_of_cpp() {
   compile "$1" c++17 each.cpp && "$build/each"
 }
 
-# Builds an example by what pkg-config says alone, and one with the static library, and runs both.
-installed() {
-  "$here/install.sh" "$build/prefix" || return
-  cc "$here/ask.c" $(PKG_CONFIG_PATH=$build/prefix/lib/pkgconfig pkg-config --cflags --libs dnsm) -o "$build/shared" &&
-    cc "-I$build/prefix/include" "$here/ask.c" "$build/prefix/lib/libdnsm.a" -o "$build/static" &&
-    "$build/ask" >"$build/asked" && "$build/shared" | diff "$build/asked" - && "$build/static" | diff "$build/asked" -
-}
-
-examples_of_python() {
-  python3 "$here/dnsm.py" "$build/prefix/lib/libdnsm.so" <"$build/messages" | diff "$build/expected" -
-}
-
-examples_of_rust() {
-  local native="-L native=$build/prefix/lib -l static=dnsm"
-  rustc --edition 2024 --test "$here/dnsm.rs" $native -o "$build/dnsm_rs" && "$build/dnsm_rs" &&
-    rustc --edition 2024 -O "$here/show.rs" $native -o "$build/show_rs" && "$build/show_rs" <"$build/messages"
-}
-
 outcome library "$here/library"
 outcome header "$here/header.sh"
 command -v gcc clang >/dev/null || echo 'no C compiler: the examples in C are not run'
@@ -108,12 +89,4 @@ done
 for compiler in g++ clang++; do
   command -v $compiler >/dev/null && outcome $compiler examples_of_cpp $compiler
 done
-command -v cc pkg-config ld objcopy >"$build/tools"
-if [ "$(wc -l <"$build/tools")" = 4 ] && [ -e "$build/messages" ]; then
-  outcome install installed
-  command -v python3 >/dev/null && outcome python3 examples_of_python
-  command -v rustc >/dev/null && outcome rustc examples_of_rust
-else
-  echo 'no cc, pkg-config or binutils: the library is not installed, and the examples in Python and Rust are not run'
-fi
 exit $failed
