@@ -5,8 +5,9 @@ export GOPATH=$room/go/path GOCACHE=$room/go/cache GOPROXY=file://$dist/go/proxy
 module=$(sed -n 's/^module //p' "$dist/go/dnsm/go.mod")
 
 used() {
-  mkdir user && cp -r "$dist"/go/dnsm/examples/* user/ && cd user && go mod init user && go get "$module@v$version" &&
-    go build -o bin/ ./... && all_three bin && ! ldd bin/show | grep libdnsm
+  mkdir -p user/program && cp -r "$dist"/go/dnsm/examples/* user/ && cd user && go mod init user &&
+    quoted go | sed "s:example.org/dnsm:$module:" >program/main.go && go get "$module@v$version" &&
+    go build -o bin/ ./... && all_three bin && names bin/program && ! ldd bin/show | grep libdnsm
 }
 
 # `go mod vendor` keeps the archive, so the module works without the network.

@@ -11,8 +11,13 @@ installed() {
 # What pip says of the wheel: each file is in RECORD, and the version is that of dnsm.h.
 described() {
   venv/bin/python -m pip check && venv/bin/python -m pip show -f dnsm | tee said.txt && grep -q libdnsm.so.1 said.txt &&
-    grep -q py.typed said.txt &&
-    venv/bin/python -c "import dnsm; from importlib.metadata import version; assert version('dnsm') == dnsm.__version__ == '$version'"
+    grep -q py.typed said.txt && grep -qx "Version: $version" said.txt &&
+    venv/bin/python -c "import dnsm; assert dnsm.__version__ == '$version'"
+}
+
+# The program of the page.
+quoted_program() {
+  quoted python >program.py && names venv/bin/python program.py
 }
 
 # The package by its sources, and a user's program by what the package says of its types.
@@ -35,6 +40,7 @@ checks() {
   check python::recorded recorded python3
   check python::header header
   check python::described described
+  check python::quoted quoted_program
   check python::typed typed mypy
 }
 

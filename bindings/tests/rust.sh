@@ -15,7 +15,7 @@ packed() {
 
 project() {
   mkdir -p project/src/bin project/.cargo &&
-    cp "vendor/dnsm-$version"/examples/*.rs project/src/bin/ &&
+    cp "vendor/dnsm-$version"/examples/*.rs project/src/bin/ && quoted rust >project/src/bin/program.rs &&
     printf '[source.crates-io]\nreplace-with = "vendored"\n[source.vendored]\ndirectory = "%s"\n' "$room/rust/vendor" \
       >project/.cargo/config.toml &&
     printf '[package]\nname = "project"\nversion = "0.1.0"\nedition = "2021"\n' >project/Cargo.toml &&
@@ -24,6 +24,7 @@ project() {
 
 used() {
   project && (cd project && cargo build -q --offline --release) && all_three project/target/release &&
+    names project/target/release/program &&
     ! ldd project/target/release/show | grep libdnsm
 }
 

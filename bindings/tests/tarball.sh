@@ -33,6 +33,11 @@ static() {
   linked static && all_three static && linked whole -static && all_three whole && linked pie -static-pie && all_three pie
 }
 
+# The program of the page.
+quoted_program() {
+  quoted c >program.c && $cc $strict -o program "-I$prefix/include" program.c "$prefix/lib/libdnsm.a" && names ./program
+}
+
 cplusplus() {
   echo '#include <dnsm.h>
 int main() { dnsm_header h; dnsm_cursor c; return dnsm_open(nullptr, 0, &h, &c) != DNSM_SHORT_INPUT; }' >open.cc
@@ -71,7 +76,7 @@ hardened() {
 }
 
 # Only the calls of dnsm.h, each with a version, and of the C library nothing newer than 2.17.
-names() {
+symbols() {
   grep -oE '^(dnsm_status|uint32_t) dnsm_\w+\(' "$prefix/include/dnsm.h" | grep -o 'dnsm_\w*($' | tr -d '(' | sort >declared.txt
   nm -D --defined-only "$library" | sed -n 's/.* T \(.*\)@@DNSM_[0-9.]*$/\1/p' | sort | diff declared.txt - &&
     nm -g --defined-only "$prefix/lib/libdnsm.a" | sed -n 's/.* T //p' | sort | diff declared.txt - || return
@@ -81,9 +86,10 @@ names() {
 
 check tarball::shared shared "$cc" pkg-config
 check tarball::static static "$cc"
+check tarball::quoted quoted_program "$cc"
 check tarball::cplusplus cplusplus "${CXX:-c++}"
 check tarball::hardened hardened readelf
-check tarball::names names nm
+check tarball::symbols symbols nm
 check tarball::musl musl musl-gcc
 check tarball::old_processor old_processor "$cc" qemu-x86_64
 check tarball::memory memory "$cc" valgrind

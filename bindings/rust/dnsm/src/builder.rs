@@ -77,8 +77,8 @@ impl<'a> Builder<'a> {
     ///
     /// # Errors
     ///
-    /// `NoRoom` if the buffer or the limit leaves too few octets, without those that are reserved. `BadSection` for a section before
-    /// that of the last item. `BadText` for octets or a text that is no name, `LongData`, `BadData` and `TooMany`.
+    /// `NoRoom` if the buffer or the limit leaves too few octets, without those that are reserved. `BadSection` for a section
+    /// before that of the last item. `BadText` for octets or a text that is no name, `LongData`, `BadData` and `TooMany`.
     pub fn put(&mut self, item: &NewItem<'_>) -> Result<(), Error> {
         let mut buffer = [0; DNSM_NAME_OCTETS];
         let name = item.name.octets(&mut buffer)?;
