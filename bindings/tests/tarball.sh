@@ -50,7 +50,7 @@ musl() {
   linked musl -static && all_three musl
 }
 
-# A processor without SSE4.2 is refused by name, before anything runs.
+# On a processor without SSE4.2 the program doesn't start, and the C library says why.
 old_processor() {
   local status=0
   linked old || return

@@ -33,7 +33,7 @@ class Status(enum.IntEnum):
 
 
 class Error(ValueError):
-    """What the library refuses. `status` says why, as a number of dnsm.h, and the text as a sentence."""
+    """Why a call has no result. `status` is the number of dnsm.h, and the text says it as a sentence."""
 
     def __init__(self, status: int, text: str) -> None:
         super().__init__(text)

@@ -42,7 +42,7 @@ impl<'a> Builder<'a> {
     /// `NoRoom` if the buffer has fewer than 12 octets.
     pub fn new(out: &'a mut [u8], id: u16, flags: u16) -> Result<Self, Error> {
         let mut draft = dnsm_draft { len: 0, limit: 0, reserved: 0, id, flags, counts: [0; 4], section: 0, hints: [0; 64] };
-        // SAFETY: the pointer and the length are those of the buffer, and the reference is to a value that lives.
+        // SAFETY: the pointer and the length are those of the buffer, and the reference is to a live value.
         Error::check(unsafe { dnsm_begin(&mut draft, out.as_mut_ptr(), out.len(), id, flags) })?;
         Ok(Self { out, draft })
     }
@@ -92,8 +92,8 @@ impl<'a> Builder<'a> {
             class_: item.class.0,
             section: item.section as u8,
         };
-        // SAFETY: the pointers and the lengths are those of the buffer, the name and the RDATA, and the references are to values
-        // that live.
+        // SAFETY: the pointers and the lengths are those of the buffer, the name and the RDATA, and the references are to live
+        // values.
         Error::check(unsafe { dnsm_put(&mut self.draft, self.out.as_mut_ptr(), self.out.len(), &passed) })
     }
 
@@ -115,7 +115,7 @@ impl<'a> Builder<'a> {
     /// `NoRoom`, only after a rewind to a mark of another builder.
     pub fn finish(self) -> Result<&'a mut [u8], Error> {
         let mut len = 0;
-        // SAFETY: the pointer and the length are those of the buffer, and the references are to values that live.
+        // SAFETY: the pointer and the length are those of the buffer, and the references are to live values.
         Error::check(unsafe { dnsm_finish(&self.draft, self.out.as_mut_ptr(), self.out.len(), &mut len) })?;
         Ok(&mut self.out[..len])
     }

@@ -83,7 +83,7 @@ errors! {
 
 impl fmt::Display for Error {
     fn fmt(&self, f: &mut fmt::Formatter<'_>) -> fmt::Result {
-        // SAFETY: the pointers and the length are those of a buffer and a number that live.
+        // SAFETY: the pointers and the length are those of a buffer and a number.
         out::text(f, |out, out_len, len| unsafe { dnsm_status_text(self.status(), out.cast(), out_len, len) })
     }
 }

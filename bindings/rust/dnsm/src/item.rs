@@ -108,7 +108,7 @@ impl NewOpt {
 
     /// The record, which is the same in each message.
     pub fn item(&self) -> NewItem<'_> {
-        // SAFETY: the reference is to a value that lives.
+        // SAFETY: the reference is to a live value.
         let ttl = unsafe { dnsm_opt_ttl(&self.fields) };
         let class = Class(self.fields.udp_size);
         let name = NewName::Octets(&[0]);

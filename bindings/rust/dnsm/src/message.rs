@@ -35,7 +35,7 @@ impl<'a> Message<'a> {
     /// `ShortInput` if there are fewer than 12 octets.
     pub fn new(octets: &'a [u8]) -> Result<Self, Error> {
         let (mut header, mut start) = (dnsm_header::default(), dnsm_cursor::default());
-        // SAFETY: the pointer and the length are those of the octets, and the references are to values that live.
+        // SAFETY: the pointer and the length are those of the octets, and the references are to live values.
         Error::check(unsafe { dnsm_open(octets.as_ptr(), octets.len(), &mut header, &mut start) })?;
         let dnsm_header { id, flags, counts, opcode, rcode } = header;
         Ok(Self { octets, header: Header { id, flags, counts, opcode, rcode }, start })
@@ -94,7 +94,7 @@ impl<'a> Iterator for Items<'a> {
             return None;
         }
         let mut item = dnsm_item::default();
-        // SAFETY: the pointer and the length are those of the octets, and the references are to values that live.
+        // SAFETY: the pointer and the length are those of the octets, and the references are to live values.
         match unsafe { dnsm_next(self.octets.as_ptr(), self.octets.len(), &mut self.cursor, &mut item) } {
             DNSM_OK => Some(Ok(Item { octets: self.octets, item })),
             status => {
@@ -167,7 +167,7 @@ impl<'a> Item<'a> {
     /// `NoName` if there is no such name, or the error of reading it.
     pub fn data_name(&self, index: usize) -> Result<Name<'a>, Error> {
         let mut offset = 0;
-        // SAFETY: the pointer and the length are those of the octets, and the references are to values that live.
+        // SAFETY: the pointer and the length are those of the octets, and the references are to live values.
         Error::check(unsafe { dnsm_data_name(self.octets.as_ptr(), self.octets.len(), &self.item, index, &mut offset) })?;
         let name = Name { octets: self.octets, offset };
         name.end().map(|_| name)
@@ -218,7 +218,7 @@ impl Name<'_> {
     /// The offset after the name.
     fn end(&self) -> Result<usize, Error> {
         let mut end = 0;
-        // SAFETY: the pointer and the length are those of the octets, and the reference is to a value that lives.
+        // SAFETY: the pointer and the length are those of the octets, and the reference is to a live value.
         Error::check(unsafe { dnsm_name_end(self.octets.as_ptr(), self.octets.len(), self.offset, &mut end) }).map(|()| end)
     }
 }

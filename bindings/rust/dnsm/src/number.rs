@@ -53,7 +53,7 @@ macro_rules! numbers {
 
         impl fmt::Display for $type {
             fn fmt(&self, f: &mut fmt::Formatter<'_>) -> fmt::Result {
-                // SAFETY: the pointers and the length are those of a buffer and a number that live.
+                // SAFETY: the pointers and the length are those of a buffer and a number.
                 out::text(f, |out, out_len, len| unsafe { $call(self.0, out.cast(), out_len, len) })
             }
         }

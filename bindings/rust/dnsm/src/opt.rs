@@ -12,7 +12,7 @@ pub struct Opt<'a> {
 impl<'a> Opt<'a> {
     pub(crate) fn of(item: Item<'a>) -> Result<Self, Error> {
         let mut fields = dnsm_opt::default();
-        // SAFETY: the references are to values that live.
+        // SAFETY: the references are to live values.
         Error::check(unsafe { dnsm_opt_fields(&item.item, &mut fields) })?;
         Ok(Self { item, fields })
     }
@@ -80,7 +80,7 @@ impl<'a> Iterator for Options<'a> {
             return None;
         }
         let (octets, mut option) = (self.item.octets, dnsm_opt_option::default());
-        // SAFETY: the pointer and the length are those of the octets, and the references are to values that live.
+        // SAFETY: the pointer and the length are those of the octets, and the references are to live values.
         match unsafe { dnsm_next_option(octets.as_ptr(), octets.len(), &self.item.item, &mut self.offset, &mut option) } {
             DNSM_OK => Some(Ok(EdnsOption { code: option.code, data: &octets[option.data..][..usize::from(option.data_len)] })),
             status => {
