@@ -28,7 +28,8 @@ typed() {
 
 # What the packages for Python and Rust say of the header.
 header() {
-  venv/bin/python "$tests/header.py" "$dist/rust/dnsm-sys/include/dnsm.h" "$dist/rust/dnsm-sys/src/lib.rs"
+  python3 -m zipfile -e "$dist"/dnsm-*.whl wheel &&
+    PYTHONPATH=wheel python3 "$tests/header.py" "$dist/rust/dnsm-sys/include/dnsm.h" "$dist/rust/dnsm-sys/src/lib.rs"
 }
 
 recorded() {
@@ -37,13 +38,13 @@ recorded() {
 
 # What doesn't depend on the version of Python.
 checks() {
-  check python::recorded recorded python3
-  check python::header header
   check python::described described
   check python::quoted quoted_program
   check python::typed typed mypy
 }
 
+check python::recorded recorded python3
+check python::header header python3
 first=yes
 for python in ${PYTHONS:-python3}; do
   if ! "$python" -c 'import ensurepip, venv' 2>/dev/null; then
