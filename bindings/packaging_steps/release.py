@@ -77,7 +77,8 @@ class Release:
         """Writes the version into a copied file."""
         text = read(path)
         if UNSET_VERSION not in text:
-            raise Problem(f"{os.path.basename(path)} has to have the version {UNSET_VERSION}, which is replaced by that of dnsm.h")
+            file = "/".join(path.split("/")[-2:])
+            raise Problem(f"{file} has to have the version {UNSET_VERSION}, in place of which that of dnsm.h is written")
         write(path, text.replace(UNSET_VERSION, f'"{self.version}"'))
 
     def tar(self, folder, path, top):
