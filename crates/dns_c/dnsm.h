@@ -53,9 +53,9 @@ typedef enum dnsm_status {
     DNSM_LONG_NAME = 5,     /* a name has more than 255 octets */
     DNSM_FORM = 6,          /* returned only if the caller gave the cursor this status */
     DNSM_NO_ROOM = 7,       /* the output buffer is too short */
-    DNSM_BAD_TEXT = 8,      /* a text is no valid name */
+    DNSM_BAD_TEXT = 8,      /* a text, or the name of a dnsm_put_item, is no valid name */
     DNSM_NO_QUESTION = 9,   /* the query doesn't have exactly one question */
-    DNSM_BAD_SECTION = 10,  /* a section number exceeds 3, or the RDATA of a question is asked for */
+    DNSM_BAD_SECTION = 10,  /* a section number exceeds 3 or is before the last one, or the RDATA of a question is asked for */
     DNSM_NO_MEMORY = 11,    /* an allocation failed */
     DNSM_LONG_DATA = 12,    /* RDATA or an option of more than 65,535 octets */
     DNSM_TOO_MANY = 13,     /* more than 65,535 items for a section */
@@ -275,6 +275,58 @@ typedef struct dnsm_new_item {
  * DNSM_NO_MEMORY if an allocation failed, and DNSM_NO_ROOM. */
 dnsm_status dnsm_build(uint16_t id, uint16_t flags, const dnsm_new_item *items, size_t items_len,
                        uint8_t *out, size_t out_len, size_t *len);
+
+/* A message under construction in a buffer of the caller: an alternative to dnsm_build that allocates nothing. The caller owns the
+ * draft and may copy it. A copy taken before an item was put is a mark, and copying it back removes the items put since; then
+ * copies taken after those items mean nothing. The buffer belongs to all copies: pass the same octets and length to each call.
+ *
+ * Set `limit`, `reserved`, `id` and `flags` between calls as you like. The other fields belong to the calls. With other values
+ * there, each call is safe, but its results mean nothing; `hints` may have any values. */
+typedef struct dnsm_draft {
+    size_t len;         /* octets of the message so far, at least 12 */
+    size_t limit;       /* the most octets of the message; dnsm_begin sets SIZE_MAX */
+    size_t reserved;    /* octets to keep free at the end, as for an OPT record; dnsm_begin sets 0. Set it to 0 to use them */
+    uint16_t id;
+    uint16_t flags;     /* as in dnsm_header */
+    uint16_t counts[4]; /* the number of items in each section */
+    uint8_t section;    /* that of the last item */
+    uint16_t hints[64]; /* offsets of earlier names, by which names are compressed */
+} dnsm_draft;
+
+/* A question or a record to put. The name is its uncompressed octets, as dnsm_name_octets and dnsm_name_from_text write them. The
+ * data is RDATA in wire format, with names uncompressed. The TTL is in seconds. TTL and data of a question are ignored. */
+typedef struct dnsm_put_item {
+    const uint8_t *name;
+    size_t name_len;
+    const uint8_t *data;
+    size_t data_len;
+    uint32_t ttl;
+    uint16_t type;
+    uint16_t class_;
+    uint8_t section;
+} dnsm_put_item;
+
+/* Begins a message without items, and sets all fields of the draft, which needn't be initialised. Writes nothing to the buffer.
+ *
+ * Errors: DNSM_NO_ROOM if the buffer has fewer than 12 octets. Then the draft isn't written. */
+dnsm_status dnsm_begin(dnsm_draft *draft, uint8_t *out, size_t out_len, uint16_t id, uint16_t flags);
+
+/* Appends a question or a record. The items come in the order of the sections. Names of questions and owners are compressed, and
+ * those in the RDATA of NS, MD, MF, CNAME, SOA, MB, MG, MR, PTR, MINFO and MX. RDATA of these eleven types has to be exactly the
+ * fields of the type, without compression pointers; but a record of class NONE (254) or ANY (255) may have none. All other RDATA
+ * is copied as it is, and isn't checked.
+ *
+ * Errors, the first that applies: DNSM_BAD_SECTION if the section exceeds 3 or is before that of the last item; DNSM_BAD_TEXT if
+ * the octets aren't exactly one uncompressed name; DNSM_LONG_DATA; DNSM_BAD_DATA; DNSM_TOO_MANY if the section has 65,535 items;
+ * and DNSM_NO_ROOM, only if the item with its names uncompressed and the reserved octets would pass the end of the buffer or the
+ * limit. On an error the message stays as it was, but octets of the buffer after it may have changed. */
+dnsm_status dnsm_put(dnsm_draft *draft, uint8_t *out, size_t out_len, const dnsm_put_item *item);
+
+/* Writes the header section of a draft, and sets `*len` to the length of the message, the draft's `len`. More items may be put
+ * afterwards; then call it again.
+ *
+ * Errors: DNSM_NO_ROOM if the draft's `len` is less than 12 or exceeds `out_len`. */
+dnsm_status dnsm_finish(const dnsm_draft *draft, uint8_t *out, size_t out_len, size_t *len);
 
 #ifdef __cplusplus
 }

@@ -12,11 +12,11 @@ trap 'rm -rf "$folder"' EXIT
 rust_as_c() {
   sed -E "s/\balloc: Global,//; s/'a //g
     s/([a-z_]+): &\[u8\]/const uint8_t *\1, size_t \1_len/g; s/([a-z_]+): &mut \[u8\]/uint8_t *\1, size_t \1_len/g
-    s/([a-z_]+): &\[u8; 4\]/const uint8_t \1[4]/g; s/([a-z_]+): \[u16; 4\]/uint16_t \1[4]/g
+    s/([a-z_]+): &\[u8; 4\]/const uint8_t \1[4]/g; s/([a-z_]+): \[u16; ([0-9]+)\]/uint16_t \1[\2]/g
     s/([a-z_]+): &\[NewItem<'_>\]/const dnsm_new_item *\1, size_t \1_len/g; s/([a-z_]+): &mut usize/size_t *\1/g
     s/([a-z_]+): &mut OptOption\b/dnsm_opt_option *\1/g
-    s/([a-z_]+): &mut (Header|Cursor|Item|Opt)\b/dnsm_\L\2\E *\1/g
-    s/([a-z_]+): &(Item|Opt)\b/const dnsm_\L\2\E *\1/g
+    s/([a-z_]+): &mut (Header|Cursor|Item|Opt|Draft)\b/dnsm_\L\2\E *\1/g
+    s/([a-z_]+): &PutItem<'_>/const dnsm_put_item *\1/g; s/([a-z_]+): &(Item|Opt|Draft)\b/const dnsm_\L\2\E *\1/g
     s/\bstatus: u32\b/dnsm_status status/g; s/([a-z_]+): (u8|u16|u32)\b/\2 \1/g; s/\bu(8|16|32) /uint\1_t /g
     s/([a-z_]+): usize\b/size_t \1/g; s/([a-z_]+): bool\b/bool \1/g
     s/\b[rq]type\b/type/g; s/\bq?class\b/class_/g; s/\brdata/data/g"
@@ -52,6 +52,8 @@ compare_struct walk.rt Item dnsm_item
 compare_struct build.rt NewItem dnsm_new_item
 compare_struct opts.rt Opt dnsm_opt
 compare_struct opts.rt OptOption dnsm_opt_option
+compare_struct ../../dns_put/src/draft.rt Draft dnsm_draft
+compare_struct ../../dns_put/src/draft.rt PutItem dnsm_put_item
 
 # the numbers in number_of and code_of, and those of dnsm_status
 {

@@ -61,6 +61,15 @@ MX 10 mail.example.com.
 TYPE33 0 5 5222 chat.example.com.
 EXPECTED
 
+{
+  printf 'header id=4660 opcode=0 rcode=0 z=0 flags=QR AA TC RD\ncounts 1 0 0 0\nquestion www.example.com.\tAAAA\tIN\n\n'
+  printf 'header id=4661 opcode=0 rcode=0 z=0 flags=QR AA RD\ncounts 1 20 0 1\nquestion www.example.com.\tAAAA\tIN\n'
+  for number in {1..20}; do
+    printf 'answer www.example.com. 300 IN AAAA 2001:db8::%x\n' "$number"
+  done
+  printf 'additional . 0 CLASS1232 OPT \\# 0\n\n'
+} >"$build/expected_served"
+
 # The messages that the examples write, in hexadecimal.
 messages() {
   "$build/ask" && "$build/build"
@@ -68,11 +77,12 @@ messages() {
 
 examples() {
   local source
-  for source in ask.c build.c edge.c mx.c show.c; do
+  for source in ask.c build.c edge.c mx.c serve.c show.c; do
     compile "$1" c11 "$source" || return
   done
   "$build/edge" && "$build/mx" | diff "$build/expected_data" - && messages >"$build/messages" &&
     "$build/show" <"$build/messages" | diff "$build/expected" - &&
+    "$build/serve" >"$build/served" && "$build/show" <"$build/served" | diff "$build/expected_served" - &&
     "$build/show" prefixes <"$build/messages" && "$build/show" changes <"$build/messages"
 }
 

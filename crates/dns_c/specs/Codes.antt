@@ -6,6 +6,8 @@ use Rattle.dns_name.specs.Names.{Fault as FaultThere}
 use Rattle.dns_name.specs.Names.Fault.{ShortInput, Form}
 use Rattle.dns_build.specs.declared.push_error.PushError.{PushError}
 use Rattle.dns_build.specs.declared.push_error.PushError.TheVariants as pushing
+use Rattle.dns_put.specs.declared.draft.PutError.{PutError}
+use Rattle.dns_put.specs.declared.draft.PutError.TheVariants as putting
 use Rattle.dns_c.specs.declared.code.Fault.{Fault}
 use Rattle.dns_c.specs.declared.code.Fault.TheVariants as faults
 
@@ -55,3 +57,12 @@ push_fault pushing.ShortBuf = faults.NoRoom
 push_fault pushing.OutOfMemory = faults.NoMemory
 push_fault pushing.LimitExceeded = faults.NoMemory
 push_fault pushing.CountOverflow = faults.TooMany
+
+-- the fault that reports why an item isn't put
+abbrev pub put_fault : PutError → Fault
+put_fault putting.BadSection = faults.BadSection
+put_fault putting.BadName = faults.BadText
+put_fault putting.LongData = faults.LongData
+put_fault putting.BadData = faults.BadData
+put_fault putting.TooMany = faults.TooMany
+put_fault putting.NoRoom = faults.NoRoom

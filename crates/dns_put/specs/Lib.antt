@@ -1,0 +1,5 @@
+pub mod Rdata
+pub mod Writing
+pub mod Items
+pub mod Drafts
+pub mod Refusals
