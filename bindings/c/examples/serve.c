@@ -1,0 +1,103 @@
+/* Answers queries as a name server does over UDP: reads them from standard input, in hexadecimal, one a line, and prints the
+ * responses. A question for AAAA gets 20 addresses. If these don't fit, the response has none of them, and TC is set. */
+#include <dnsm.h>
+
+#include <stdio.h>
+
+enum { AAAA = 28, IN = 1, ADDRESSES = 20, TTL = 300 };
+/* The octets of an OPT record without options, of a message for a client without EDNS, and of the longest message sent. */
+enum { OPT_OCTETS = 11, PLAIN_LIMIT = 512, MOST = 1232 };
+
+typedef struct query {
+    dnsm_header header;
+    dnsm_item question;
+    uint8_t name[DNSM_NAME_OCTETS];
+    size_t name_len;
+    bool has_opt;
+    dnsm_opt opt;
+} query;
+
+/* Reads a query with one question. Returns false for all else. */
+static bool read_query(const uint8_t *message, size_t len, query *to)
+{
+    dnsm_cursor cursor;
+    dnsm_item item;
+    dnsm_status status;
+    to->has_opt = false;
+    if (dnsm_open(message, len, &to->header, &cursor) != DNSM_OK || to->header.flags & DNSM_QR || to->header.counts[0] != 1 ||
+        dnsm_next(message, len, &cursor, &to->question) != DNSM_OK ||
+        dnsm_name_octets(message, len, to->question.place, to->name, sizeof to->name, &to->name_len) != DNSM_OK)
+        return false;
+    while ((status = dnsm_next(message, len, &cursor, &item)) == DNSM_OK)
+        if (!to->has_opt && dnsm_opt_fields(&item, &to->opt) == DNSM_OK)
+            to->has_opt = true;
+    return status == DNSM_END;
+}
+
+static size_t limit_for(const query *to)
+{
+    if (!to->has_opt || to->opt.udp_size < PLAIN_LIMIT)
+        return PLAIN_LIMIT;
+    return to->opt.udp_size < MOST ? to->opt.udp_size : MOST;
+}
+
+static dnsm_status put_addresses(dnsm_draft *draft, uint8_t *out, const query *to)
+{
+    uint8_t address[16] = {0x20, 1, 0xd, 0xb8};
+    const dnsm_put_item item = {to->name, to->name_len, address, sizeof address, TTL, AAAA, IN, DNSM_ANSWER};
+    dnsm_status status = DNSM_OK;
+    while (status == DNSM_OK && address[15] < ADDRESSES) {
+        address[15]++;
+        status = dnsm_put(draft, out, MOST, &item);
+    }
+    return status;
+}
+
+/* Puts the addresses, or none of them with TC. */
+static void put_answers(dnsm_draft *draft, uint8_t *out, const query *to)
+{
+    const dnsm_draft mark = *draft;
+    if (to->question.type == AAAA && to->question.class_ == IN && put_addresses(draft, out, to) != DNSM_OK) {
+        *draft = mark;
+        draft->flags |= DNSM_TC;
+    }
+}
+
+static dnsm_status respond(const query *to, uint8_t *out, size_t *len)
+{
+    const dnsm_opt opt = {MOST, 0, 0, 0};
+    const dnsm_put_item question = {to->name, to->name_len, NULL, 0, 0, to->question.type, to->question.class_, DNSM_QUESTION};
+    const dnsm_put_item last = {(const uint8_t *)"", 1, NULL, 0, dnsm_opt_ttl(&opt), DNSM_TYPE_OPT, MOST, DNSM_ADDITIONAL};
+    dnsm_draft draft;
+    dnsm_status status = dnsm_begin(&draft, out, MOST, to->header.id, (uint16_t)(DNSM_QR | DNSM_AA | (to->header.flags & DNSM_RD)));
+    draft.limit = limit_for(to);
+    if (status == DNSM_OK)
+        status = dnsm_put(&draft, out, MOST, &question);
+    draft.reserved = to->has_opt ? OPT_OCTETS : 0;
+    if (status == DNSM_OK)
+        put_answers(&draft, out, to);
+    draft.reserved = 0;
+    if (status == DNSM_OK && to->has_opt)
+        status = dnsm_put(&draft, out, MOST, &last);
+    return status == DNSM_OK ? dnsm_finish(&draft, out, MOST, len) : status;
+}
+
+int main(void)
+{
+    static uint8_t message[65535], out[MOST];
+    static char line[2 * sizeof message + 2];
+    while (fgets(line, sizeof line, stdin)) {
+        query query;
+        size_t len = 0;
+        unsigned octet;
+        while (len < sizeof message && sscanf(line + 2 * len, "%2x", &octet) == 1)
+            message[len++] = (uint8_t)octet;
+        if (read_query(message, len, &query) && respond(&query, out, &len) == DNSM_OK)
+            for (size_t i = 0; i < len; i++)
+                printf("%02x", out[i]);
+        else
+            printf("ignored");
+        printf("\n");
+    }
+    return 0;
+}

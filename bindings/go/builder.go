@@ -1,0 +1,79 @@
+package dnsm
+
+// #include <dnsm.h>
+//
+// // The item is made here, because no pointer to memory of Go may be stored in memory that is passed to C.
+// static dnsm_status put(dnsm_draft *draft, uint8_t *out, size_t out_len, const uint8_t *name, size_t name_len,
+//                        const uint8_t *data, size_t data_len, uint32_t ttl, uint16_t type, uint16_t class_, uint8_t section)
+// {
+//     const dnsm_put_item item = {name, name_len, data, data_len, ttl, type, class_, section};
+//     return dnsm_put(draft, out, out_len, &item);
+// }
+import "C"
+
+// Builder writes a message into a buffer of the caller, item by item. Names are compressed. Make one with NewBuilder.
+type Builder struct {
+	out   []byte
+	draft C.dnsm_draft
+}
+
+// Mark is how much of a message was written, as Builder.Mark returns it.
+type Mark struct {
+	draft C.dnsm_draft
+}
+
+// NewBuilder begins a message in a buffer. `flags` are the third and fourth octets of the header, as QR|AA. The error is NoRoom if
+// the buffer has fewer than 12 octets.
+func NewBuilder(out []byte, id, flags uint16) (*Builder, error) {
+	b := &Builder{out: out}
+	status := C.dnsm_begin(&b.draft, pointer(out), C.size_t(len(out)), C.uint16_t(id), C.uint16_t(flags))
+	if status != C.DNSM_OK {
+		return nil, Status(status)
+	}
+	return b, nil
+}
+
+// SetLimit sets the most octets that the message may have. Before, its buffer is the only limit.
+func (b *Builder) SetLimit(octets uint) { b.draft.limit = C.size_t(octets) }
+
+// SetReserved keeps octets free for later items, as for an OPT record. 0 lets the next ones have them.
+func (b *Builder) SetReserved(octets uint) { b.draft.reserved = C.size_t(octets) }
+
+// Flags is the third and fourth octets of the header.
+func (b *Builder) Flags() uint16 { return uint16(b.draft.flags) }
+
+// SetFlags sets the third and fourth octets of the header, as QR|TC.
+func (b *Builder) SetFlags(flags uint16) { b.draft.flags = C.uint16_t(flags) }
+
+// Len is the octets of the message so far. One without items has 12.
+func (b *Builder) Len() int { return int(b.draft.len) }
+
+// Put appends an item. Items come in the order of their sections. The error is NoRoom if the buffer or the limit leaves too few
+// octets, without those that are reserved; BadSection for a section before that of the last item; BadText for a name that is none;
+// LongData, BadData or TooMany. With an error the message is as before.
+func (b *Builder) Put(item NewItem) error {
+	name, err := item.nameOctets()
+	if err != nil {
+		return err
+	}
+	status := C.put(&b.draft, pointer(b.out), C.size_t(len(b.out)), pointer(name), C.size_t(len(name)),
+		pointer(item.Data), C.size_t(len(item.Data)), C.uint32_t(item.TTL), C.uint16_t(item.Type), C.uint16_t(item.Class),
+		C.uint8_t(item.Section))
+	return failure(status)
+}
+
+// Mark is what has been written so far, for Rewind.
+func (b *Builder) Mark() Mark { return Mark{b.draft} }
+
+// Rewind removes the items since a mark of this builder, and restores flags, limit and reserved octets. Marks that were made after
+// it mean nothing from then on: with one of them, the octets needn't be a message.
+func (b *Builder) Rewind(mark Mark) { b.draft = mark.draft }
+
+// Finish writes the header, and returns the message, which is in the buffer. More items may follow; then call it again.
+func (b *Builder) Finish() ([]byte, error) {
+	var length C.size_t
+	if status := C.dnsm_finish(&b.draft, pointer(b.out), C.size_t(len(b.out)), &length); status != C.DNSM_OK {
+		return nil, Status(status)
+	}
+	return b.out[:length:length], nil
+}

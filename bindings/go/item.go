@@ -1,0 +1,77 @@
+package dnsm
+
+// #include <dnsm.h>
+import "C"
+
+import "fmt"
+
+// Item is a question or a record of a message.
+type Item struct {
+	octets []byte
+	item   C.dnsm_item
+}
+
+// Section is the section that it is in.
+func (i Item) Section() Section { return Section(i.item.section) }
+
+// Type is its type.
+func (i Item) Type() Type { return Type(i.item._type) }
+
+// Class is its class.
+func (i Item) Class() Class { return Class(i.item.class_) }
+
+// TTL is in seconds; 0 for a question.
+func (i Item) TTL() uint32 { return uint32(i.item.ttl) }
+
+// Name is its name as text, with a dot after each label. It can always be read.
+func (i Item) Name() string {
+	name, err := nameText(i.octets, i.item.place)
+	if err != nil {
+		panic(err)
+	}
+	return name
+}
+
+// NameOctets is its name, without compression pointers.
+func (i Item) NameOctets() []byte {
+	octets, err := written(func(out []byte, length *C.size_t) C.dnsm_status {
+		return C.dnsm_name_octets(pointer(i.octets), C.size_t(len(i.octets)), i.item.place, pointer(out), C.size_t(len(out)), length)
+	})
+	if err != nil {
+		panic(err)
+	}
+	return octets
+}
+
+// Data is its RDATA as it is in the message; names in it may be compressed. A question has none.
+func (i Item) Data() []byte {
+	return i.octets[i.item.data:][:i.item.data_len:i.item.data_len]
+}
+
+// DataText is its RDATA as in a zone file, or `\#` and the octets if it isn't that of its type. It is empty for a question.
+func (i Item) DataText() string {
+	if i.Section() == Question {
+		return ""
+	}
+	return text(func(out []byte, length *C.size_t) C.dnsm_status {
+		return C.dnsm_data_text(pointer(i.octets), C.size_t(len(i.octets)), &i.item, chars(out), C.size_t(len(out)), length)
+	})
+}
+
+// DataName is a name in the RDATA of NS, CNAME, SOA, PTR, MX, SRV or DNAME; SOA has two. The error is NoName if there is none.
+func (i Item) DataName(index uint) (string, error) {
+	var offset C.size_t
+	status := C.dnsm_data_name(pointer(i.octets), C.size_t(len(i.octets)), &i.item, C.size_t(index), &offset)
+	if status != C.DNSM_OK {
+		return "", Status(status)
+	}
+	return nameText(i.octets, offset)
+}
+
+// String is a line of a zone file.
+func (i Item) String() string {
+	if i.Section() == Question {
+		return fmt.Sprintf("%s %s %s", i.Name(), i.Class(), i.Type())
+	}
+	return fmt.Sprintf("%s %d %s %s %s", i.Name(), i.TTL(), i.Class(), i.Type(), i.DataText())
+}

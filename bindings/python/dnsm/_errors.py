@@ -1,0 +1,99 @@
+"""The errors, which are the statuses of dnsm.h."""
+
+import enum
+from typing import Any, Dict, Tuple, Type
+
+
+class Status(enum.IntEnum):
+    """What a call returns."""
+
+    OK = 0
+    END = 1
+    SHORT_INPUT = 2
+    BAD_LABEL = 3
+    BAD_POINTER = 4
+    LONG_NAME = 5
+    FORM = 6
+    NO_ROOM = 7
+    BAD_TEXT = 8
+    NO_QUESTION = 9
+    BAD_SECTION = 10
+    NO_MEMORY = 11
+    LONG_DATA = 12
+    TOO_MANY = 13
+    IS_RESPONSE = 14
+    OTHER_OPCODE = 15
+    OTHER_CLASS = 16
+    OTHER_TYPE = 17
+    NOT_OPT = 18
+    BAD_OPTION = 19
+    NO_NAME = 20
+    BAD_DATA = 21
+    UNFORMATTED = 22
+
+
+class Error(ValueError):
+    """Why a call has no result. `status` is the number of dnsm.h, and the text says it as a sentence."""
+
+    def __init__(self, status: int, text: str) -> None:
+        super().__init__(text)
+        try:
+            self.status: int = Status(status)
+        except ValueError:
+            # One of a later version of the library.
+            self.status = status
+
+    def __reduce__(self) -> Tuple[Any, ...]:
+        """Makes pickle and copy pass both arguments."""
+        return type(self), (int(self.status), str(self))
+
+
+class MalformedMessage(Error):
+    """Octets that can't be read as a message, or as the part of it that was asked for."""
+
+
+class NameTextError(Error):
+    """A text, or octets for a builder, that are no valid name."""
+
+
+class DataError(Error):
+    """Octets that aren't the RDATA of their record type."""
+
+
+class NoRoom(Error):
+    """A builder's limit leaves too few octets for an item."""
+
+
+class TooLong(Error):
+    """RDATA or an option of more than 65,535 octets, or more than 65,535 items in a section."""
+
+
+class NotAnswerable(Error):
+    """Octets that `respond_a` doesn't answer."""
+
+
+_KINDS: Dict[int, Type[Error]] = {
+    Status.SHORT_INPUT: MalformedMessage,
+    Status.BAD_LABEL: MalformedMessage,
+    Status.BAD_POINTER: MalformedMessage,
+    Status.LONG_NAME: MalformedMessage,
+    Status.BAD_OPTION: MalformedMessage,
+    Status.NO_ROOM: NoRoom,
+    Status.BAD_TEXT: NameTextError,
+    Status.BAD_DATA: DataError,
+    Status.NO_NAME: DataError,
+    Status.LONG_DATA: TooLong,
+    Status.TOO_MANY: TooLong,
+    Status.NO_QUESTION: NotAnswerable,
+    Status.IS_RESPONSE: NotAnswerable,
+    Status.OTHER_OPCODE: NotAnswerable,
+    Status.OTHER_CLASS: NotAnswerable,
+    Status.OTHER_TYPE: NotAnswerable,
+}
+
+
+def error_of(status: int, text: str) -> Exception:
+    """The exception for a status. `text` is the sentence of dnsm_status_text."""
+    if status == Status.NO_MEMORY:
+        return MemoryError(text)
+    return _KINDS.get(status, Error)(status, text)

@@ -1,0 +1,135 @@
+"""Messages that are read."""
+
+from ctypes import byref
+from itertools import chain, islice
+from typing import Iterator, Optional, Tuple, Union
+
+from . import _calls
+from ._calls import Octets
+from ._edns import Edns
+from ._errors import Error
+from ._items import Question, Record
+from ._numbers import Flag, Section, Type
+
+
+class Message:
+    """A message over a copy of its octets.
+
+    The header has been read. Each iteration reads the questions and records in order, up to the first one that can't be read:
+    then the iterator raises `MalformedMessage`.
+    """
+
+    __slots__ = ("_cursor", "_header", "_octets")
+
+    def __init__(self, octets: Octets) -> None:
+        self._octets = _calls.octets_of(octets)
+        self._header, self._cursor = _calls.Header(), _calls.Cursor()
+        status = _calls.library.dnsm_open(self._octets, len(self._octets), byref(self._header), byref(self._cursor))
+        _calls.check(status)
+
+    @classmethod
+    def from_wire(cls, octets: Octets) -> "Message":
+        """Reads the header. Raises `MalformedMessage` if there are fewer than 12 octets."""
+        return cls(octets)
+
+    def to_wire(self) -> bytes:
+        return self._octets
+
+    @property
+    def id(self) -> int:
+        return int(self._header.id)
+
+    @property
+    def flags(self) -> Flag:
+        """QR, AA, TC, RD, RA, AD and CD, without opcode and rcode."""
+        return Flag(self.header_flags & 0x87B0)
+
+    @property
+    def header_flags(self) -> int:
+        """The third and fourth octets of the header: flags, opcode and rcode."""
+        return int(self._header.flags)
+
+    @property
+    def opcode(self) -> int:
+        return int(self._header.opcode)
+
+    @property
+    def rcode(self) -> int:
+        """The rcode of the header. `extended_rcode` has that of EDNS."""
+        return int(self._header.rcode)
+
+    @property
+    def counts(self) -> Tuple[int, int, int, int]:
+        """The number of items in each section, as the header says."""
+        question, answer, authority, additional = self._header.counts
+        return question, answer, authority, additional
+
+    def __iter__(self) -> Iterator[Union[Question, Record]]:
+        """All questions and records."""
+        octets, cursor = self._octets, _calls.Cursor.from_buffer_copy(self._cursor)
+        item, following = _calls.Item(), _calls.library.dnsm_next
+        while _calls.check(following(octets, len(octets), byref(cursor), byref(item))):
+            yield (Record if item.section else Question)(octets, item)
+            item = _calls.Item()
+
+    @property
+    def questions(self) -> Iterator[Question]:
+        return islice(self, self.counts[0])
+
+    @property
+    def records(self) -> Iterator[Record]:
+        """The records of all sections."""
+        return (item for item in self if isinstance(item, Record))
+
+    @property
+    def answer(self) -> Iterator[Record]:
+        return self._section(Section.ANSWER)
+
+    @property
+    def authority(self) -> Iterator[Record]:
+        return self._section(Section.AUTHORITY)
+
+    @property
+    def additional(self) -> Iterator[Record]:
+        return self._section(Section.ADDITIONAL)
+
+    def _section(self, section: Section) -> Iterator[Record]:
+        """Ends after the section, so what can't be read after it raises nothing."""
+        for item in islice(self, sum(self.counts[: section + 1])):
+            if isinstance(item, Record) and item.section == section:
+                yield item
+
+    def edns(self) -> Optional[Edns]:
+        """The first OPT record of the additional section, or None."""
+        opt = next((record for record in self.additional if record.type == Type.OPT), None)
+        return opt.edns() if opt else None
+
+    def extended_rcode(self) -> int:
+        """The rcode with its upper eight bits, if there is an OPT record (RFC 6891 section 6.1.3)."""
+        edns = self.edns()
+        return self.rcode | (edns.rcode_high << 4 if edns else 0)
+
+    def to_text(self) -> str:
+        """The message as text, up to the first item that can't be read, of which the text says why."""
+        return "\n".join(chain([f"id {self.id} flags {self.header_flags:04x}"], self._lines()))
+
+    def _lines(self) -> Iterator[str]:
+        items = iter(self)
+        while True:
+            try:
+                item = next(items)
+            except StopIteration:
+                return
+            except Error as error:
+                yield f"error {error}"
+                return
+            yield f"{item.section.name.lower()} {item}"
+
+    def __str__(self) -> str:
+        return self.to_text()
+
+    def __repr__(self) -> str:
+        return f"<Message id {self.id}, {len(self._octets)} octets>"
+
+    def __bytes__(self) -> bytes:
+        return self._octets

@@ -1,0 +1,105 @@
+"""Messages that are written by one call."""
+
+from dataclasses import dataclass
+from typing import Iterable, List, Optional, Tuple, Union
+
+from . import _calls
+from ._calls import Octets
+from ._edns import Edns
+from ._names import Name, name_text
+from ._numbers import Class, Flag, Section, Type
+
+NewQuestion = Union[Name, Tuple[Name, int], Tuple[Name, int, int]]
+
+
+@dataclass(frozen=True)
+class NewRecord:
+    """A record to write. `data` is RDATA, with names in it uncompressed (`name_from_text`)."""
+
+    name: Name
+    type: int
+    data: Octets
+    ttl: int = 0
+    class_: int = Class.IN
+
+
+def build(
+    id: int,
+    flags: int = 0,
+    *,
+    questions: Iterable[NewQuestion] = (),
+    answer: Iterable[NewRecord] = (),
+    authority: Iterable[NewRecord] = (),
+    additional: Iterable[NewRecord] = (),
+    edns: Optional[Edns] = None,
+    opcode: int = 0,
+    rcode: int = 0,
+) -> bytes:
+    """The octets of a message, with its names compressed.
+
+    A question is a name, a name and its type, or both and its class; without them it is for A and IN. With `edns` an OPT record
+    follows the other additional ones, and `rcode` may have twelve bits.
+
+    Raises `NameTextError`, `DataError` or `TooLong` for an item that can't be written.
+    """
+    items: List[_calls.NewItem] = []
+    if edns is not None:
+        upper = _calls.number(rcode, 12, "rcode") >> 4 or edns.rcode_high
+        edns = Edns(edns.udp_size, edns.dnssec_ok, edns.options, edns.version, upper, edns.flags)
+        additional = [*additional, NewRecord(".", Type.OPT, edns.data(), edns.ttl(), edns.udp_size)]
+        rcode &= 15
+    for question in questions:
+        name, type_, class_ = _whole(question)
+        items.append(_item(Section.QUESTION, NewRecord(name, type_, b"", 0, class_)))
+    for section, records in ((Section.ANSWER, answer), (Section.AUTHORITY, authority), (Section.ADDITIONAL, additional)):
+        items += [_item(section, record) for record in records]
+    whole = _calls.number(flags, 16, "flags") | _calls.number(opcode, 4, "opcode") << 11 | _calls.number(rcode, 4, "rcode")
+    array = (_calls.NewItem * len(items))(*items)
+    # No message is longer than this.
+    capacity = sum((item.name_len + item.data_len + 12 for item in items), 12)
+    return _calls.written(_calls.library.dnsm_build, _calls.number(id, 16, "id"), whole, array, len(items), capacity=capacity)
+
+
+def query(
+    name: Name,
+    type: int = Type.A,
+    class_: int = Class.IN,
+    *,
+    id: int,
+    recursion: bool = True,
+    edns: Optional[Edns] = None,
+) -> bytes:
+    """A query with one question. If it goes over UDP, choose the ID at random, as by `secrets.randbelow(65536)`."""
+    return build(id, Flag.RD if recursion else 0, questions=[(name, type, class_)], edns=edns)
+
+
+def respond_a(octets: Octets, address: Octets, ttl: int, *, authoritative: bool = False) -> bytes:
+    """The response to a query of class IN for type A or ANY, with one address. Raises `NotAnswerable` for all else."""
+    octets, address = _calls.octets_of(octets), _calls.octets_of(address)
+    if len(address) != 4:
+        raise ValueError("an IPv4 address has 4 octets")
+    ttl = _calls.number(ttl, 32, "ttl")
+    return _calls.written(_calls.library.dnsm_respond_a, octets, len(octets), authoritative, ttl, address)
+
+
+def _whole(question: NewQuestion) -> Tuple[Name, int, int]:
+    """The question with its type and its class."""
+    if not isinstance(question, tuple):
+        return question, Type.A, Class.IN
+    name, type_, *class_ = question
+    return name, int(type_), int(class_[0]) if class_ else Class.IN
+
+
+def _item(section: Section, record: NewRecord) -> _calls.NewItem:
+    """The record for the call. It keeps the octets that its pointers lead to."""
+    name, data = name_text(record.name), _calls.octets_of(record.data)
+    return _calls.NewItem(
+        name,
+        len(name),
+        data,
+        len(data),
+        _calls.number(record.ttl, 32, "ttl"),
+        _calls.number(record.type, 16, "a type"),
+        _calls.number(record.class_, 16, "a class"),
+        section,
+    )

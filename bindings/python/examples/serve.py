@@ -1,0 +1,49 @@
+"""Answers queries as a name server does over UDP: reads them from standard input, in hexadecimal, one a line, and prints the
+responses. A question for AAAA gets 20 addresses. If these don't fit, the response has none of them, and TC is set."""
+
+import sys
+from ipaddress import IPv6Address
+from typing import Optional
+
+from dnsm import Builder, Class, Edns, Error, Flag, Message, NoRoom, Section, Type
+
+ADDRESSES = [(IPv6Address("2001:db8::") + n).packed for n in range(1, 21)]
+# The octets of a message for a client without EDNS, and of the longest message.
+PLAIN_LIMIT, MOST = 512, 1232
+EDNS = Edns(udp_size=MOST)
+
+
+def put_answers(builder: Builder, name: bytes) -> None:
+    """Puts the addresses, or none of them with TC."""
+    mark = builder.mark()
+    try:
+        for address in ADDRESSES:
+            builder.put(Section.ANSWER, name, Type.AAAA, Class.IN, 300, address)
+    except NoRoom:
+        builder.rewind(mark)
+        builder.flags |= Flag.TC
+
+
+def respond(query: Message) -> Optional[bytes]:
+    """The response to a query with one question."""
+    if Flag.QR in query.flags or query.counts[Section.QUESTION] != 1:
+        return None
+    (question, *_), edns = query, query.edns()
+    limit = min(max(edns.udp_size, PLAIN_LIMIT), MOST) if edns else PLAIN_LIMIT
+    builder = Builder(query.id, Flag.QR | Flag.AA | query.flags & Flag.RD, limit=limit)
+    builder.put(Section.QUESTION, question.name_octets, question.type, question.class_)
+    builder.reserved = EDNS.length() if edns else 0
+    if (question.type, question.class_) == (Type.AAAA, Class.IN):
+        put_answers(builder, question.name_octets)
+    builder.reserved = 0
+    if edns:
+        builder.put_edns(EDNS)
+    return builder.finish()
+
+
+for line in sys.stdin:
+    try:
+        response = respond(Message.from_wire(bytes.fromhex(line)))
+    except Error:
+        response = None
+    print(response.hex() if response else "ignored")

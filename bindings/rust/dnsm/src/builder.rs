@@ -1,0 +1,122 @@
+//! Messages that are written item by item.
+use crate::{Error, NewItem};
+use dnsm_sys::*;
+
+/// A message that is written into a buffer of the caller, item by item, without an allocation. Names are compressed.
+///
+/// ```
+/// use dnsm::{Builder, Class, Error, NewItem, Rtype, Section, QR, TC};
+///
+/// let mut out = [0; 1232];
+/// let mut builder = Builder::new(&mut out, 4660, QR)?;
+/// builder.set_limit(512);
+/// builder.put(&NewItem::question("example.com", Rtype::A, Class::IN))?;
+/// let mark = builder.mark();
+/// for address in [[192, 0, 2, 1], [192, 0, 2, 2]] {
+///     let put = builder.put(&NewItem::record(Section::Answer, "example.com", Rtype::A, 300, &address));
+///     if put == Err(Error::NoRoom) {
+///         builder.rewind(&mark);
+///         builder.set_flags(QR | TC);
+///         break;
+///     }
+///     put?;
+/// }
+/// assert_eq!(builder.finish()?.len(), 12 + 17 + 2 * 16);
+/// # Ok::<(), dnsm::Error>(())
+/// ```
+#[derive(Debug)]
+pub struct Builder<'a> {
+    out: &'a mut [u8],
+    draft: dnsm_draft,
+}
+
+/// How much of a message was written, as [`Builder::mark`] returns it.
+#[derive(Debug, Clone, Copy)]
+pub struct Mark(dnsm_draft);
+
+impl<'a> Builder<'a> {
+    /// Begins a message in a buffer. `flags` are the third and fourth octets of the header, as `QR | AA`.
+    ///
+    /// # Errors
+    ///
+    /// `NoRoom` if the buffer has fewer than 12 octets.
+    pub fn new(out: &'a mut [u8], id: u16, flags: u16) -> Result<Self, Error> {
+        let mut draft = dnsm_draft { len: 0, limit: 0, reserved: 0, id, flags, counts: [0; 4], section: 0, hints: [0; 64] };
+        // SAFETY: the pointer and the length are those of the buffer, and the reference is to a live value.
+        Error::check(unsafe { dnsm_begin(&mut draft, out.as_mut_ptr(), out.len(), id, flags) })?;
+        Ok(Self { out, draft })
+    }
+
+    /// Sets the most octets that the message may have. Before, its buffer is the only limit.
+    pub fn set_limit(&mut self, octets: usize) {
+        self.draft.limit = octets;
+    }
+
+    /// Keeps octets free for later items, as for an OPT record. 0 lets the next ones have them.
+    pub fn set_reserved(&mut self, octets: usize) {
+        self.draft.reserved = octets;
+    }
+
+    /// The third and fourth octets of the header.
+    pub fn flags(&self) -> u16 {
+        self.draft.flags
+    }
+
+    /// Sets the third and fourth octets of the header, as `QR | TC`.
+    pub fn set_flags(&mut self, flags: u16) {
+        self.draft.flags = flags;
+    }
+
+    /// The octets of the message so far. An empty one has 12.
+    #[allow(clippy::len_without_is_empty)]
+    pub fn len(&self) -> usize {
+        self.draft.len
+    }
+
+    /// Appends an item. Items come in the order of their sections. On an error the message is as before.
+    ///
+    /// # Errors
+    ///
+    /// `NoRoom` if the buffer or the limit leaves too few octets, without those that are reserved. `BadSection` for a section
+    /// before that of the last item. `BadText` for octets or a text that is no name, `LongData`, `BadData` and `TooMany`.
+    pub fn put(&mut self, item: &NewItem<'_>) -> Result<(), Error> {
+        let mut buffer = [0; DNSM_NAME_OCTETS];
+        let name = item.name.octets(&mut buffer)?;
+        let passed = dnsm_put_item {
+            name: name.as_ptr(),
+            name_len: name.len(),
+            data: item.data.as_ptr(),
+            data_len: item.data.len(),
+            ttl: item.ttl,
+            type_: item.rtype.0,
+            class_: item.class.0,
+            section: item.section as u8,
+        };
+        // SAFETY: the pointers and the lengths are those of the buffer, the name and the RDATA, and the references are to live
+        // values.
+        Error::check(unsafe { dnsm_put(&mut self.draft, self.out.as_mut_ptr(), self.out.len(), &passed) })
+    }
+
+    /// What has been written so far, for [`rewind`](Self::rewind).
+    pub fn mark(&self) -> Mark {
+        Mark(self.draft)
+    }
+
+    /// Removes the items since the mark, and restores flags, limit and reserved octets. The mark has to be one of this builder.
+    /// Marks that were made after it mean nothing from then on: with one of them, the octets needn't be a message.
+    pub fn rewind(&mut self, mark: &Mark) {
+        self.draft = mark.0;
+    }
+
+    /// Writes the header, and returns the message.
+    ///
+    /// # Errors
+    ///
+    /// `NoRoom`, only after a rewind to a mark of another builder.
+    pub fn finish(self) -> Result<&'a mut [u8], Error> {
+        let mut len = 0;
+        // SAFETY: the pointer and the length are those of the buffer, and the references are to live values.
+        Error::check(unsafe { dnsm_finish(&self.draft, self.out.as_mut_ptr(), self.out.len(), &mut len) })?;
+        Ok(&mut self.out[..len])
+    }
+}

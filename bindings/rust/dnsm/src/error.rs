@@ -1,0 +1,91 @@
+//! Why a call has no result.
+use crate::out;
+use dnsm_sys::*;
+use std::fmt;
+
+macro_rules! errors {
+    ($($(#[$about:meta])* $name:ident = $status:ident,)*) => {
+        /// Why a call has no result.
+        #[derive(Debug, Clone, Copy, PartialEq, Eq, Hash)]
+        #[non_exhaustive]
+        pub enum Error {
+            $($(#[$about])* $name,)*
+            /// A status that this version of the crate doesn't know.
+            Other(u32),
+        }
+
+        impl Error {
+            pub(crate) fn from_status(status: dnsm_status) -> Self {
+                match status {
+                    $($status => Self::$name,)*
+                    other => Self::Other(other),
+                }
+            }
+
+            pub(crate) fn check(status: dnsm_status) -> Result<(), Self> {
+                match status {
+                    DNSM_OK => Ok(()),
+                    status => Err(Self::from_status(status)),
+                }
+            }
+
+            /// The number in `dnsm.h`.
+            pub fn status(self) -> u32 {
+                match self {
+                    $(Self::$name => $status,)*
+                    Self::Other(status) => status,
+                }
+            }
+        }
+    };
+}
+
+errors! {
+    /// An octet that is needed is past the end of the message.
+    ShortInput = DNSM_SHORT_INPUT,
+    /// A length octet has the high bits 01 or 10.
+    BadLabel = DNSM_BAD_LABEL,
+    /// A compression pointer doesn't lead to an offset before its own.
+    BadPointer = DNSM_BAD_POINTER,
+    /// A name has more than 255 octets.
+    LongName = DNSM_LONG_NAME,
+    /// The buffer or the limit of a builder leaves too few octets.
+    NoRoom = DNSM_NO_ROOM,
+    /// A text or octets are no valid name.
+    BadText = DNSM_BAD_TEXT,
+    /// The query doesn't have exactly one question.
+    NoQuestion = DNSM_NO_QUESTION,
+    /// An item comes before the section of the last one.
+    BadSection = DNSM_BAD_SECTION,
+    /// An allocation failed.
+    NoMemory = DNSM_NO_MEMORY,
+    /// RDATA or an option of more than 65,535 octets.
+    LongData = DNSM_LONG_DATA,
+    /// More than 65,535 items for a section.
+    TooMany = DNSM_TOO_MANY,
+    /// The octets are a response, which gets no response.
+    IsResponse = DNSM_IS_RESPONSE,
+    /// The opcode isn't QUERY.
+    OtherOpcode = DNSM_OTHER_OPCODE,
+    /// The class of the question isn't IN.
+    OtherClass = DNSM_OTHER_CLASS,
+    /// The type of the question is neither A nor ANY.
+    OtherType = DNSM_OTHER_TYPE,
+    /// The item is no OPT record.
+    NotOpt = DNSM_NOT_OPT,
+    /// An option isn't whole within the RDATA.
+    BadOption = DNSM_BAD_OPTION,
+    /// The RDATA has no such name.
+    NoName = DNSM_NO_NAME,
+    /// The octets are no RDATA of the record type.
+    BadData = DNSM_BAD_DATA,
+}
+
+impl fmt::Display for Error {
+    fn fmt(&self, f: &mut fmt::Formatter<'_>) -> fmt::Result {
+        // SAFETY: the pointers and the length are those of a buffer and a number.
+        out::text(f, |out, out_len, len| unsafe { dnsm_status_text(self.status(), out.cast(), out_len, len) })
+    }
+}
+
+impl std::error::Error for Error {}

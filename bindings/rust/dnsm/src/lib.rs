@@ -1,0 +1,32 @@
+//! Reads and writes DNS messages, by proved code.
+//!
+//! ```
+//! use dnsm::{query, Class, Message, Rtype};
+//!
+//! let octets = query(4660, true, "www.example.com", Rtype::A, Class::IN)?;
+//! let message = Message::new(&octets)?;
+//! let items = message.items().collect::<Result<Vec<_>, _>>()?;
+//! assert_eq!(items[0].to_string(), "www.example.com. IN A");
+//! # Ok::<(), dnsm::Error>(())
+//! ```
+//!
+//! The text of a name is its labels, separated by dots, with a dot at the end that may be left out when it is read. In a label,
+//! `\.`, `\\` and `\032` are a dot, a backslash and a space. Names in other scripts have to be in ASCII already (IDNA).
+#![warn(missing_docs)]
+
+mod builder;
+mod error;
+mod item;
+mod message;
+mod number;
+mod opt;
+mod out;
+mod write;
+
+pub use builder::{Builder, Mark};
+pub use error::Error;
+pub use item::{NewItem, NewName, NewOpt};
+pub use message::{DataText, Header, Item, Items, Message, Name};
+pub use number::{Class, Rtype, Section, AA, AD, CD, QR, RA, RD, TC};
+pub use opt::{EdnsOption, Opt, Options};
+pub use write::{build, name_from_text, query, respond_a};

@@ -1,0 +1,69 @@
+//! Messages that are written by one call.
+use crate::{out, Class, Error, NewItem, Rtype};
+use dnsm_sys::*;
+
+/// The octets of a message with these items, each in its section, in order. Names are compressed. `flags` are the third and fourth
+/// octets of the header, as `QR | AA`.
+///
+/// # Errors
+///
+/// `BadText`, `LongData`, `BadData` or `TooMany` for an item that can't be written, and `NoMemory`. An item whose name is octets
+/// has the errors of reading a name.
+pub fn build(id: u16, flags: u16, items: &[NewItem<'_>]) -> Result<Vec<u8>, Error> {
+    let names = items.iter().map(|item| item.name.text()).collect::<Result<Vec<_>, _>>()?;
+    let passed: Vec<dnsm_new_item> = items.iter().zip(&names).map(|(item, name)| pass(item, name)).collect();
+    // No message is longer than this, so the call is made once.
+    let capacity = passed.iter().fold(12, |sum, it| sum + it.name_len + it.data_len + 12);
+    // SAFETY: the pointers and the lengths are those of `passed`, which points to octets of `items` and `names`, and of a buffer.
+    out::octets(capacity, |out, out_len, len| unsafe { dnsm_build(id, flags, passed.as_ptr(), passed.len(), out, out_len, len) })
+}
+
+/// The item for the call.
+fn pass(item: &NewItem<'_>, name: &str) -> dnsm_new_item {
+    dnsm_new_item {
+        name: name.as_ptr().cast(),
+        name_len: name.len(),
+        data: item.data.as_ptr(),
+        data_len: item.data.len(),
+        ttl: item.ttl,
+        type_: item.rtype.0,
+        class_: item.class.0,
+        section: item.section as u8,
+    }
+}
+
+/// A query with one question. Choose the ID at random if it goes over UDP. `recursion` sets RD.
+///
+/// # Errors
+///
+/// `BadText` if the text is no name.
+pub fn query(id: u16, recursion: bool, name: &str, rtype: Rtype, class: Class) -> Result<Vec<u8>, Error> {
+    // SAFETY: the pointers and the lengths are those of the text and of a buffer.
+    out::octets(DNSM_MADE, |out, out_len, len| unsafe {
+        dnsm_query(id, recursion, name.as_ptr().cast(), name.len(), rtype.0, class.0, out, out_len, len)
+    })
+}
+
+/// The response to a query of class IN for type A or ANY, with one address.
+///
+/// # Errors
+///
+/// Why the octets are no such query.
+pub fn respond_a(query: &[u8], authoritative: bool, ttl: u32, address: [u8; 4]) -> Result<Vec<u8>, Error> {
+    // SAFETY: the pointers and the lengths are those of the query, of four octets and of a buffer.
+    out::octets(DNSM_MADE, |out, out_len, len| unsafe {
+        dnsm_respond_a(query.as_ptr(), query.len(), authoritative, ttl, address.as_ptr(), out, out_len, len)
+    })
+}
+
+/// The octets of the name that a text represents, as in RDATA.
+///
+/// # Errors
+///
+/// `BadText` if the text is no name.
+pub fn name_from_text(name: &str) -> Result<Vec<u8>, Error> {
+    // SAFETY: the pointers and the lengths are those of the text and of a buffer.
+    out::octets(DNSM_NAME_OCTETS, |out, out_len, len| unsafe {
+        dnsm_name_from_text(name.as_ptr().cast(), name.len(), out, out_len, len)
+    })
+}

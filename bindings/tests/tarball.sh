@@ -1,0 +1,95 @@
+# The archive for any distribution: unpacked in a folder with a space in its name, linked in both ways.
+# shellcheck shell=bash disable=SC2154,SC2086
+
+library=$prefix/lib/libdnsm.so.$version
+strict='-std=c99 -Wall -Wextra -Wpedantic -Werror -O2'
+programs='show write serve'
+
+# linked FOLDER OPTION..: the three programs with the static library.
+linked() {
+  local to=$1 program
+  shift
+  mkdir -p "$to"
+  for program in $programs; do
+    $cc $strict "$@" -o "$to/$program" "-I$prefix/include" "$prefix/examples/$program.c" "$prefix/lib/libdnsm.a" || return
+  done
+}
+
+# The paths from pkg-config have quotes or backslashes, which only `eval` understands.
+shared() {
+  local words program
+  mkdir shared
+  words=$(PKG_CONFIG_PATH="$prefix/lib/pkgconfig" pkg-config --cflags --libs dnsm) || return
+  for program in $programs; do
+    eval "$cc $strict -o shared/$program '$prefix/examples/$program.c' $words" || return
+  done
+  ! ldd shared/show | grep "$prefix" || return
+  export LD_LIBRARY_PATH=$prefix/lib
+  all_three shared
+}
+
+# Also wholly static, and position-independent.
+static() {
+  linked static && all_three static && linked whole -static && all_three whole && linked pie -static-pie && all_three pie
+}
+
+# The program of the page.
+quoted_program() {
+  quoted c >program.c && $cc $strict -o program "-I$prefix/include" program.c "$prefix/lib/libdnsm.a" && names ./program
+}
+
+cplusplus() {
+  echo '#include <dnsm.h>
+int main() { dnsm_header h; dnsm_cursor c; return dnsm_open(nullptr, 0, &h, &c) != DNSM_SHORT_INPUT; }' >open.cc
+  "${CXX:-c++}" -Wall -Wextra -Werror -o open "-I$prefix/include" open.cc "$prefix/lib/libdnsm.a" && ./open
+}
+
+# The static library needs little of the C library, so any will do.
+musl() {
+  cc=musl-gcc
+  linked musl -static && all_three musl
+}
+
+# On a processor without SSE4.2 the program doesn't start, and the C library says why.
+old_processor() {
+  local status=0
+  linked old || return
+  qemu-x86_64 -cpu core2duo old/show 2>said.txt || status=$?
+  [ $status != 0 ] && expect 'CPU ISA level is lower than required' || return
+  shows qemu-x86_64 -cpu Nehalem old/show
+}
+
+memory() {
+  linked memory || return
+  writes valgrind -q --leak-check=full memory/write 2>said.txt && shows valgrind -q --leak-check=full memory/show 2>>said.txt &&
+    serves valgrind -q --leak-check=full memory/serve 2>>said.txt && ! grep . said.txt
+}
+
+expect() {
+  grep -qE "$1" said.txt || { echo "no $1" && cat said.txt && return 1; }
+}
+
+hardened() {
+  readelf -dlnW "$library" >said.txt || return
+  expect 'SONAME.*\[libdnsm\.so\.1\]' && expect 'GNU_RELRO' && expect 'FLAGS.*BIND_NOW' && expect 'GNU_STACK .* RW ' &&
+    expect 'x86 ISA needed:.*x86-64-v2' && ! grep -E 'TEXTREL|RUNPATH|RPATH|RWE' said.txt
+}
+
+# Only the calls of dnsm.h, each with a version, and of the C library nothing newer than 2.17.
+symbols() {
+  grep -oE '^(dnsm_status|uint32_t) dnsm_\w+\(' "$prefix/include/dnsm.h" | grep -o 'dnsm_\w*($' | tr -d '(' | sort >declared.txt
+  nm -D --defined-only "$library" | sed -n 's/.* T \(.*\)@@DNSM_[0-9.]*$/\1/p' | sort | diff declared.txt - &&
+    nm -g --defined-only "$prefix/lib/libdnsm.a" | sed -n 's/.* T //p' | sort | diff declared.txt - || return
+  nm -D --undefined-only "$library" | sed 's/.*GLIBC_//' | sort -V | tail -1 >newest.txt
+  printf '2.17\n' | sort -V - newest.txt | tail -1 | grep -qx 2.17
+}
+
+check tarball::shared shared "$cc" pkg-config
+check tarball::static static "$cc"
+check tarball::quoted quoted_program "$cc"
+check tarball::cplusplus cplusplus "${CXX:-c++}"
+check tarball::hardened hardened readelf
+check tarball::symbols symbols nm
+check tarball::musl musl musl-gcc
+check tarball::old_processor old_processor "$cc" qemu-x86_64
+check tarball::memory memory "$cc" valgrind
