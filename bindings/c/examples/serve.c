@@ -17,14 +17,15 @@ typedef struct query {
     dnsm_opt opt;
 } query;
 
-/* Reads a query with one question. Returns false for all else. */
+/* Reads a query (opcode 0) with one question. Returns false for all else. */
 static bool read_query(const uint8_t *message, size_t len, query *to)
 {
     dnsm_cursor cursor;
     dnsm_item item;
     dnsm_status status;
     to->has_opt = false;
-    if (dnsm_open(message, len, &to->header, &cursor) != DNSM_OK || to->header.flags & DNSM_QR || to->header.counts[0] != 1 ||
+    if (dnsm_open(message, len, &to->header, &cursor) != DNSM_OK || to->header.flags & DNSM_QR || to->header.opcode != 0 ||
+        to->header.counts[0] != 1 ||
         dnsm_next(message, len, &cursor, &to->question) != DNSM_OK ||
         dnsm_name_octets(message, len, to->question.place, to->name, sizeof to->name, &to->name_len) != DNSM_OK)
         return false;
@@ -53,14 +54,18 @@ static dnsm_status put_addresses(dnsm_draft *draft, uint8_t *out, const query *t
     return status;
 }
 
-/* Puts the addresses, or none of them with TC. */
-static void put_answers(dnsm_draft *draft, uint8_t *out, const query *to)
+/* Puts the addresses, or none of them with TC if they don't fit. */
+static dnsm_status put_answers(dnsm_draft *draft, uint8_t *out, const query *to)
 {
     const dnsm_draft mark = *draft;
-    if (to->question.type == AAAA && to->question.class_ == IN && put_addresses(draft, out, to) != DNSM_OK) {
-        *draft = mark;
-        draft->flags |= DNSM_TC;
-    }
+    if (to->question.type != AAAA || to->question.class_ != IN)
+        return DNSM_OK;
+    dnsm_status status = put_addresses(draft, out, to);
+    if (status != DNSM_NO_ROOM)
+        return status;
+    *draft = mark;
+    draft->flags |= DNSM_TC;
+    return DNSM_OK;
 }
 
 static dnsm_status respond(const query *to, uint8_t *out, size_t *len)
@@ -75,7 +80,7 @@ static dnsm_status respond(const query *to, uint8_t *out, size_t *len)
         status = dnsm_put(&draft, out, MOST, &question);
     draft.reserved = to->has_opt ? OPT_OCTETS : 0;
     if (status == DNSM_OK)
-        put_answers(&draft, out, to);
+        status = put_answers(&draft, out, to);
     draft.reserved = 0;
     if (status == DNSM_OK && to->has_opt)
         status = dnsm_put(&draft, out, MOST, &last);

@@ -25,8 +25,8 @@ def put_answers(builder: Builder, name: bytes) -> None:
 
 
 def respond(query: Message) -> Optional[bytes]:
-    """The response to a query with one question."""
-    if Flag.QR in query.flags or query.counts[Section.QUESTION] != 1:
+    """The response to a query (opcode 0) with one question."""
+    if Flag.QR in query.flags or query.opcode != 0 or query.counts[Section.QUESTION] != 1:
         return None
     (question, *_), edns = query, query.edns()
     limit = min(max(edns.udp_size, PLAIN_LIMIT), MOST) if edns else PLAIN_LIMIT

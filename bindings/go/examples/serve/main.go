@@ -20,11 +20,11 @@ const (
 	most       = 1232 // the most octets of a message
 )
 
-var errIgnored = errors.New("not a query with one question")
+var errIgnored = errors.New("not a query (opcode 0) with one question")
 
 // readQuery reads the question, and the OPT record if there is one. It reads the message to its end.
 func readQuery(message *dnsm.Message) (question dnsm.Item, opt *dnsm.OPT, err error) {
-	if message.Flags&dnsm.QR != 0 || message.Counts[dnsm.Question] != 1 {
+	if message.Flags&dnsm.QR != 0 || message.Opcode != 0 || message.Counts[dnsm.Question] != 1 {
 		return question, nil, errIgnored
 	}
 	items := message.Items()

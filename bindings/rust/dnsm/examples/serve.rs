@@ -10,10 +10,10 @@ const PLAIN_LIMIT: u16 = 512;
 /// The most octets of a message.
 const MOST: u16 = 1232;
 
-/// The question of a query with one, and the octets that its client can receive if it has EDNS.
+/// The question of a query (opcode 0) with one, and the octets that its client can receive if it has EDNS.
 fn read_query<'a>(message: &Message<'a>) -> Option<(Item<'a>, Option<u16>)> {
     let header = message.header();
-    if header.flags & QR != 0 || header.counts[0] != 1 {
+    if header.flags & QR != 0 || header.opcode != 0 || header.counts[0] != 1 {
         return None;
     }
     let items = message.items().collect::<Result<Vec<_>, _>>().ok()?;
