@@ -14,7 +14,7 @@
  * Pointers. One that comes with a length may be null if the length is 0. Each other pointer has to be valid, and aligned. What a
  * call writes may not overlap anything else that is passed to it. It needn't be initialised, except where a call says so.
  *
- * Results in a buffer. A call with `out`, `out_len` and `len` writes its result into the `out_len` octets at `out`, and sets
+ * Results in a buffer. Each call with `out`, `out_len` and `len` but dnsm_finish writes its result into the `out_len` octets at `out`, and sets
  * `*len` to its length. A text is followed by a zero octet, which `*len` doesn't count. If the buffer is too short, the call
  * returns DNSM_NO_ROOM, sets `*len` to the length that the result would have, and leaves anything in the buffer: octets need a
  * buffer of `*len` octets, and a text one of `*len` + 1. So a call with a null `out` and length 0 gives the length. On each
@@ -52,10 +52,10 @@ typedef enum dnsm_status {
     DNSM_BAD_POINTER = 4,   /* a compression pointer doesn't lead to an offset before its own */
     DNSM_LONG_NAME = 5,     /* a name has more than 255 octets */
     DNSM_FORM = 6,          /* returned only if the caller gave the cursor this status */
-    DNSM_NO_ROOM = 7,       /* the output buffer is too short */
+    DNSM_NO_ROOM = 7,       /* the output buffer, or the limit of a draft, is too short */
     DNSM_BAD_TEXT = 8,      /* a text, or the name of a dnsm_put_item, is no valid name */
     DNSM_NO_QUESTION = 9,   /* the query doesn't have exactly one question */
-    DNSM_BAD_SECTION = 10,  /* a section number exceeds 3 or is before the last one, or the RDATA of a question is asked for */
+    DNSM_BAD_SECTION = 10,  /* a section number exceeds 3 or is before that of the last item, or RDATA of a question is asked for */
     DNSM_NO_MEMORY = 11,    /* an allocation failed */
     DNSM_LONG_DATA = 12,    /* RDATA or an option of more than 65,535 octets */
     DNSM_TOO_MANY = 13,     /* more than 65,535 items for a section */
@@ -278,14 +278,17 @@ dnsm_status dnsm_build(uint16_t id, uint16_t flags, const dnsm_new_item *items, 
 
 /* A message under construction in a buffer of the caller: an alternative to dnsm_build that allocates nothing. The caller owns the
  * draft and may copy it. A copy taken before an item was put is a mark, and copying it back removes the items put since; then
- * copies taken after those items mean nothing. The buffer belongs to all copies: pass the same octets and length to each call.
+ * copies taken after those items mean nothing. The buffer belongs to all copies: each call needs the octets that the call before
+ * left. They may move between calls.
  *
  * Set `limit`, `reserved`, `id` and `flags` between calls as you like. The other fields belong to the calls. With other values
  * there, each call is safe, but its results mean nothing; `hints` may have any values. */
 typedef struct dnsm_draft {
     size_t len;         /* octets of the message so far, at least 12 */
-    size_t limit;       /* the most octets of the message; dnsm_begin sets SIZE_MAX */
-    size_t reserved;    /* octets to keep free at the end, as for an OPT record; dnsm_begin sets 0. Set it to 0 to use them */
+    size_t limit;       /* the most octets of the message; dnsm_begin sets SIZE_MAX. Without it a message may exceed 65,535 octets,
+                         * which no transport carries */
+    size_t reserved;    /* octets to keep free before the limit and the end of the buffer, as for an OPT record; dnsm_begin sets 0.
+                         * Set it to 0 to use them */
     uint16_t id;
     uint16_t flags;     /* as in dnsm_header */
     uint16_t counts[4]; /* the number of items in each section */
@@ -294,7 +297,8 @@ typedef struct dnsm_draft {
 } dnsm_draft;
 
 /* A question or a record to put. The name is its uncompressed octets, as dnsm_name_octets and dnsm_name_from_text write them. The
- * data is RDATA in wire format, with names uncompressed. The TTL is in seconds. TTL and data of a question are ignored. */
+ * data is RDATA in wire format, with names uncompressed. The TTL is in seconds. TTL and data of a question are ignored. Neither
+ * `name` nor `data` may lie within `out`. */
 typedef struct dnsm_put_item {
     const uint8_t *name;
     size_t name_len;
@@ -311,10 +315,13 @@ typedef struct dnsm_put_item {
  * Errors: DNSM_NO_ROOM if the buffer has fewer than 12 octets. Then the draft isn't written. */
 dnsm_status dnsm_begin(dnsm_draft *draft, uint8_t *out, size_t out_len, uint16_t id, uint16_t flags);
 
-/* Appends a question or a record. The items come in the order of the sections. Names of questions and owners are compressed, and
- * those in the RDATA of NS, MD, MF, CNAME, SOA, MB, MG, MR, PTR, MINFO and MX. RDATA of these eleven types has to be exactly the
- * fields of the type, without compression pointers; but a record of class NONE (254) or ANY (255) may have none. All other RDATA
- * is copied as it is, and isn't checked.
+/* Appends a question or a record. The draft is one that dnsm_begin has set, and the octets of the message so far are in `out`.
+ * The items come in the order of the sections.
+ *
+ * Names of questions and owners are compressed where a hint leads to an equal name, and so are those in the RDATA of NS, MD, MF,
+ * CNAME, SOA, MB, MG, MR, PTR, MINFO and MX. RDATA of these eleven types has to be exactly the fields of the type, without
+ * compression pointers; but a record of class NONE (254) or ANY (255) may have none. All other RDATA is copied as it is, and isn't
+ * checked: don't pass RDATA with pointers, as it may be within another message.
  *
  * Errors, the first that applies: DNSM_BAD_SECTION if the section exceeds 3 or is before that of the last item; DNSM_BAD_TEXT if
  * the octets aren't exactly one uncompressed name; DNSM_LONG_DATA; DNSM_BAD_DATA; DNSM_TOO_MANY if the section has 65,535 items;

@@ -21,7 +21,7 @@ mod text;
 mod walk;
 mod words;
 
-ghost use Rattle.std.specs.Prelude.{◌≡◌, ◌≢◌, ◌<◌, ◌≤◌, ◌+◌, ◌-◌, ◌^◌, ◌++◌, ◌∷◌, [], length, take, min, get_or, None, true};
+ghost use Rattle.std.specs.Prelude.{◌≡◌, ◌≢◌, ◌⊎◌, ◌<◌, ◌≤◌, ◌+◌, ◌-◌, ◌^◌, ◌++◌, ◌∷◌, [], length, take, min, get_or, None, true};
 ghost use Rattle.dns_name.specs.NameTexts.{SpellsName, name_text};
 ghost use Rattle.dns_name.specs.Names.{Labels, NameAt, NameEndsAt, uncompressed};
 ghost use Rattle.dns_wire.specs.Encoders.{Tree};
@@ -432,6 +432,7 @@ pub extern "C" fn dnsm_begin(draft: &mut Draft, out: &mut [u8], id: u16, flags: 
     ensures begun { result ≡ 0 → (s : State) → IsDraftOf out.old draft.new (up_to InBuilder s) }
     ensures header { result ≡ 0 → (draft.new.id ≡ id) × (draft.new.flags ≡ flags) }
     ensures settings { result ≡ 0 → (draft.new.limit ≡ usize.MAX) × (draft.new.reserved ≡ 0) }
+    ensures section { result ≡ 0 → draft.new.section ≡ 0 }
     ensures no_room { result ≢ 0 → (result ≡ number_of Fault.NoRoom)
         × (length out.old < header_size) × (draft.new ≡ draft.old) }
     ensures same { out.new ≡ out.old }
@@ -450,6 +451,7 @@ pub extern "C" fn dnsm_put(draft: &mut Draft, out: &mut [u8], item: &PutItem<'_>
     ensures means { result ≡ 0 → Means item.now }
     ensures room { result ≡ 0 → (draft.new.len + draft.old.reserved ≤ length out.old)
         × (draft.new.len + draft.old.reserved ≤ draft.old.limit) }
+    ensures section { result ≡ 0 → draft.new.section ≡ item.now.section }
     ensures acceptable { result ≡ 0 → IsAcceptable draft.old item.now }
     ensures refused { result ≢ 0 → (error : PutError) × (result ≡ number_of (put_fault error))
         × IsRefused draft.old (length out.old) item.now error }
@@ -477,7 +479,9 @@ pub extern "C" fn dnsm_finish(draft: &Draft, out: &mut [u8], len: &mut usize) ->
     ensures len { len.new ≡ draft.now.len }
     ensures within { result ≡ 0 → len.new ≤ length out.new }
     ensures none { result ≢ 0 → (s : State) → IsDraftOf out.old draft.now s → ⊥ }
-    ensures no_room { result ≢ 0 → result ≡ number_of Fault.NoRoom }
+    ensures long { result ≡ 0 → header_size ≤ len.new }
+    ensures no_room { result ≢ 0 → (result ≡ number_of Fault.NoRoom)
+        × ((draft.now.len < header_size) ⊎ (length out.old < draft.now.len)) }
     ensures length { length out.new ≡ length out.old }
     ensures stay { (d : Draft) (s : State) → IsDraftOf out.old d s → IsDraftOf out.new d s }
 {

@@ -1,8 +1,6 @@
 -- Drafts after an item was put.
 use Rattle.std.proofs.Common.{◌≡◌, ◌≢◌, ℕ, ◌+◌, ◌<◌, ◌≤◌, List, [], ◌∷◌, ◌++◌, length, length-append, take, get_or, arith, ap, sym, ◌∙◌, subst, refl, get_or-set_same, get_or-set_other, set}
-use Rattle.std.specs.Prelude.{slice_get}
 use Rattle.dns_wire.specs.TargetLaws.{Agree}
-use Rattle.dns_wire.proofs.theory.Stability.{get_take}
 use Rattle.dns_question.specs.Questions.{QuestionItem}
 use Rattle.dns_item.specs.Items.{RecordItem}
 use Rattle.dns_build.specs.State.{State, with_question, with_record, InAnswer, InAuthority, InAdditional}
@@ -10,7 +8,7 @@ use Rattle.dns_put.specs.declared.draft.PutItem.{PutItem}
 use Rattle.dns_put.specs.declared.draft.Draft.{Draft}
 use Rattle.dns_put.specs.Items.{IsQuestionOf, IsRecordOf, QuestionFrom, RecordFrom, HoldsQuestion, HoldsRecord}
 use Rattle.dns_put.specs.Drafts.{AllFrom, IsDraftOf, Adds, DraftsStay}
-use Rattle.dns_put.proofs.Buffers.{agree_both, agree_of_take}
+use Rattle.dns_put.proofs.Buffers.{agree_both, agree_of_take, kept_later}
 
 all_more : {X : Type 0} (P : ℕ → ℕ → X → Type 0) (xs : List X) (p q r : ℕ) (x : X) → AllFrom P xs p q → P q r x → AllFrom P (xs ++ x ∷ []) p r
 all_more P [] p q r x e h = (r, subst (λ k. P k r x) (sym e) h, refl)
@@ -179,9 +177,9 @@ adds b c d e item p question other =
       additional = λ z s x i of. put_additional_to b c d e s x (subst P z p) (other (λ y. omega arith) x of) i;
     }
 
--- drafts stay drafts while their octets stay
-pub drafts_stay : (b c : List ℕ) (len : ℕ) → length c ≡ length b → take len c ≡ take len b → DraftsStay b c len
-drafts_stay b c len long kept d s low i =
+-- A draft of a state still is one over octets that agree on its items.
+pub stays_agreed : (b c : List ℕ) (d : Draft) (s : State) → length c ≡ length b → Agree b c 12 d.len → IsDraftOf b d s → IsDraftOf c d s
+stays_agreed b c d s long agree i =
     let w = i.within in
     record {
       after_header = i.after_header;
@@ -193,5 +191,9 @@ drafts_stay b c len long kept d s low i =
       no_answers = i.no_answers;
       no_authorities = i.no_authorities;
       no_additionals = i.no_additionals;
-      items = λ c' a. i.items c' (record { long = a.long; same = λ k l h. sym (get_take b len k (omega arith)) ∙ ap (λ (xs : List ℕ). slice_get xs k) (sym kept) ∙ get_take c len k (omega arith) ∙ a.same k l h });
+      items = λ c' a. i.items c' (agree_both (omega arith) agree a);
     }
+
+-- so also if the octets up to a later offset stay
+pub drafts_stay : (b c : List ℕ) (len : ℕ) → length c ≡ length b → take len c ≡ take len b → DraftsStay b c len
+drafts_stay b c len long kept d s low i = let w = i.within in stays_agreed b c d s long (agree_of_take b c 12 d.len (omega arith) (kept_later b c d.len len low kept)) i

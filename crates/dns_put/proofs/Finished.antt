@@ -25,7 +25,8 @@ use Rattle.dns_build.specs.MessageOf.{GivesRecords, ReadsBack, PointsToLabels, a
 use Rattle.dns_put.specs.declared.draft.Draft.{Draft}
 use Rattle.dns_put.specs.Items.{QuestionFrom, RecordFrom}
 use Rattle.dns_put.specs.Drafts.{AllFrom, HoldsItems, IsDraftOf, header_of, header_octets_of, HasSmallCounts}
-use Rattle.dns_put.proofs.Buffers.{at_over, length_over}
+use Rattle.dns_put.proofs.Drafts.{stays_agreed}
+use Rattle.dns_put.proofs.Buffers.{agree_after, at_over, length_over}
 
 skipped_questions : (b : List ℕ) (xs : List QuestionItem) (p q : ℕ) → AllFrom (QuestionFrom b) xs p q → Skipped (SkipsQuestion b) (length xs) p q
 skipped_questions b [] p q h = subst (λ q. Skipped (SkipsQuestion b) 0 p q) h none
@@ -85,19 +86,7 @@ pub stays_over : (b c h : List ℕ) (d : Draft) (s : State) → length h ≡ 12 
 stays_over b c h d s twelve e i =
     let l = i.after_header in
     let w = i.within in
-    let long : length c ≡ length b = ap length e ∙ length_over b h 0 (omega arith) in
-    record {
-      after_header = i.after_header;
-      within = omega arith;
-      questions_counted = i.questions_counted;
-      answers_counted = i.answers_counted;
-      authorities_counted = i.authorities_counted;
-      additionals_counted = i.additionals_counted;
-      no_answers = i.no_answers;
-      no_authorities = i.no_authorities;
-      no_additionals = i.no_additionals;
-      items = λ c' a. i.items c' (record { long = a.long; same = λ k low high. sym (get_over b h k twelve low) ∙ ap (λ (xs : List ℕ). slice_get xs k) (sym e) ∙ a.same k low high });
-    }
+    stays_agreed b c d s (ap length e ∙ length_over b h 0 (omega arith)) (agree_after b c h 0 12 d.len e (omega arith) (omega arith) w) i
 
 -- the parts of items that are in order
 filled : (W : ℕ → ℕ → Type 0) (xs ys : List Part) (p q end : ℕ) → PartsFill W q p xs → PartsFill W end q ys → PartsFill W end p (xs ++ ys)

@@ -5,6 +5,7 @@ use Rattle.dns_wire.specs.TargetLaws.{Agree}
 use Rattle.dns_question.specs.Questions.{QuestionItem}
 use Rattle.dns_item.specs.Items.{RecordItem}
 use Rattle.dns_code.specs.Header.{HeaderFields, fields_in}
+use Rattle.dns_code.specs.HeaderSection.{header_size}
 use Rattle.dns_build.specs.State.{State, with_question, with_record, InAnswer, InAuthority, InAdditional}
 use Rattle.dns_put.specs.declared.draft.PutItem.{PutItem}
 use Rattle.dns_put.specs.declared.draft.Draft.{Draft}
@@ -27,7 +28,7 @@ pub record HoldsItems (b : List ℕ) (end : ℕ) (s : State) : Type 0 where
 
 -- The draft and the octets of its buffer are a message with the items of the state, whatever the hints and the header section are. The sections after the draft's own have no items.
 pub record IsDraftOf (b : List ℕ) (d : Draft) (s : State) : Type 0 where
-  pub after_header : 12 ≤ d.len
+  pub after_header : header_size ≤ d.len
   pub within : d.len ≤ length b
   pub questions_counted : get_or d.counts 0 0 ≡ length s.questions
   pub answers_counted : get_or d.counts 1 0 ≡ length s.answers

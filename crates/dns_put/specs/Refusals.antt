@@ -1,6 +1,7 @@
 -- Why an item isn't put.
 use Rattle.std.specs.Prelude.{◌≡◌, ◌≢◌, ℕ, ◌+◌, ◌<◌, ◌≤◌, ◌⊎◌, min, length, get_or}
 use Rattle.dns_name.specs.Uncompressed.{IsUncompressed}
+use Rattle.dns_code.specs.HeaderSection.{header_size}
 use Rattle.dns_put.specs.declared.draft.PutItem.{PutItem}
 use Rattle.dns_put.specs.declared.draft.Draft.{Draft}
 use Rattle.dns_put.specs.declared.draft.PutError.{PutError}
@@ -15,7 +16,7 @@ IsDue d n item BadName = IsUncompressed item.name.now → ⊥
 IsDue d n item LongData = (item.section ≢ 0) × (65535 < length item.rdata.now)
 IsDue d n item BadData = (item.section ≢ 0) × (HasFields (layout_of item) item.rdata.now → ⊥)
 IsDue d n item TooMany = get_or d.counts item.section 0 ≡ 65535
-IsDue d n item NoRoom = 12 ≤ d.len → min d.limit n < d.len + item_size item + d.reserved
+IsDue d n item NoRoom = header_size ≤ d.len → min d.limit n < d.len + item_size item + d.reserved
 
 -- the order in which the reasons are looked at
 abbrev pub order_of : PutError → ℕ

@@ -1,5 +1,7 @@
 //! A message under construction, the items that it takes, and why it refuses one.
 
+use thiserror::Error;
+
 /// A message under construction, which the caller owns. Its buffer isn't part of it.
 #[repr(C)]
 #[derive(Clone, Copy)]
@@ -39,18 +41,24 @@ pub struct PutItem<'a> {
 }
 
 /// Why an item isn't put, in the order of the checks.
-#[derive(Clone, Copy, PartialEq, Eq)]
+#[derive(Clone, Copy, Debug, Error)]
 pub enum PutError {
     /// The section exceeds 3, or is before that of the last item.
+    #[error("the section exceeds 3 or is before that of the last item")]
     BadSection,
     /// The octets of the name aren't exactly one uncompressed name.
+    #[error("the octets are no uncompressed name")]
     BadName,
     /// The RDATA of a record has more than 65,535 octets.
+    #[error("the RDATA has more than 65,535 octets")]
     LongData,
     /// The RDATA isn't what its record type consists of (RFC 1035 section 3.3).
+    #[error("the octets are no RDATA of the record type")]
     BadData,
     /// The section has 65,535 items.
+    #[error("the section has 65,535 items")]
     TooMany,
     /// The buffer or the limit has no room for the item.
+    #[error("the buffer or the limit has no room for the item")]
     NoRoom,
 }

@@ -194,6 +194,7 @@ pub(crate) fn append(draft: &mut Draft, out: &mut [u8], item: &PutItem<'_>) -> R
     ensures means { OnOk result (Means item.now) }
     ensures room { OnOk result ((draft.new.len + draft.old.reserved ≤ length out.old)
         × (draft.new.len + draft.old.reserved ≤ draft.old.limit)) }
+    ensures section { OnOk result (draft.new.section ≡ item.now.section) }
     ensures acceptable { OnOk result (IsAcceptable draft.old item.now) }
     ensures refused { IfErr result (λ error.
         IsRefused draft.old (length out.old) item.now error) }

@@ -1,7 +1,7 @@
 //! Builds a message item by item in a buffer of the caller, without allocation.
 //!
-//! The caller owns the buffer and the `Draft`, the message under construction, and may change the
-//! fields of both between two calls. So no function here requires anything of them: each one is
+//! The caller owns the buffer and the `Draft`, the message under construction, and may change both
+//! between two calls. So no function here requires anything of them: each one is
 //! total and keeps within the buffer, whatever they hold. What a call ensures of a message is said
 //! of drafts that calls have made (`IsDraftOf`).
 //!
@@ -19,7 +19,7 @@ mod names;
 mod octets;
 mod rdata;
 
-ghost use Rattle.std.specs.Prelude.{◌≡◌, ◌+◌, ◌<◌, ◌≤◌, length, take, IfOk, IfErr, OnOk, OnErr};
+ghost use Rattle.std.specs.Prelude.{◌≡◌, ◌⊎◌, ◌+◌, ◌<◌, ◌≤◌, length, take, IfOk, IfErr, OnOk, OnErr};
 ghost use Rattle.dns_build.specs.State.{State, with_header, up_to, InBuilder};
 ghost use Rattle.dns_build.specs.MessageOf.{ReadsBack, PointsToLabels};
 ghost use Rattle.dns_code.specs.HeaderSection.{header_size};
@@ -37,6 +37,7 @@ pub fn begin(draft: &mut Draft, out: &[u8], id: u16, flags: u16) -> Result<(), P
     ensures begun { OnOk result ((s : State) → IsDraftOf out.now draft.new (up_to InBuilder s)) }
     ensures header { OnOk result ((draft.new.id ≡ id) × (draft.new.flags ≡ flags)) }
     ensures settings { OnOk result ((draft.new.limit ≡ usize.MAX) × (draft.new.reserved ≡ 0)) }
+    ensures section { OnOk result (draft.new.section ≡ 0) }
     ensures no_room { IfErr result (λ error. (error ≡ PutError.NoRoom)
         × (length out.now < header_size)) }
     ensures same { OnErr result (draft.new ≡ draft.old) }
@@ -61,10 +62,10 @@ pub fn put(draft: &mut Draft, out: &mut [u8], item: &PutItem<'_>) -> Result<(), 
     ensures means { OnOk result (Means item.now) }
     ensures room { OnOk result ((draft.new.len + draft.old.reserved ≤ length out.old)
         × (draft.new.len + draft.old.reserved ≤ draft.old.limit)) }
+    ensures section { OnOk result (draft.new.section ≡ item.now.section) }
     ensures acceptable { OnOk result (IsAcceptable draft.old item.now) }
     ensures refused { IfErr result (λ error.
         IsRefused draft.old (length out.old) item.now error) }
-
     ensures settings { (draft.new.id ≡ draft.old.id) × (draft.new.flags ≡ draft.old.flags)
         × (draft.new.limit ≡ draft.old.limit) × (draft.new.reserved ≡ draft.old.reserved) }
     ensures same { OnErr result ((draft.new.len ≡ draft.old.len)
@@ -99,7 +100,9 @@ pub fn finish(draft: &Draft, out: &mut [u8]) -> Result<usize, PutError>
     ensures len { IfOk result (λ len. len ≡ draft.now.len) }
     ensures within { IfOk result (λ len. len ≤ length out.new) }
     ensures none { OnErr result ((s : State) → IsDraftOf out.old draft.now s → ⊥) }
-    ensures no_room { IfErr result (λ error. error ≡ PutError.NoRoom) }
+    ensures long { IfOk result (λ len. header_size ≤ len) }
+    ensures no_room { IfErr result (λ error. (error ≡ PutError.NoRoom)
+        × ((draft.now.len < header_size) ⊎ (length out.old < draft.now.len))) }
     ensures length { length out.new ≡ length out.old }
     ensures stay { (d : Draft) (s : State) → IsDraftOf out.old d s → IsDraftOf out.new d s }
 {

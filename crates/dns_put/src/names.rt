@@ -15,6 +15,9 @@ const HINTS: usize = 64;
 /// How many hints are tried for each suffix of a name.
 const TRIES: usize = 4;
 
+/// A prime near 2^32 divided by the golden ratio: products with it differ in their upper bits.
+const SPREAD: u32 = 0x9E37_79B1;
+
 /// How many labels and pointers of an earlier name are compared.
 const MOST_STEPS: usize = 64;
 
@@ -33,7 +36,7 @@ pub(crate) fn is_name(octets: &[u8]) -> bool
 }
 
 /// Whether the name at `offset` is the uncompressed `name`, and uses no octet of the header
-/// section.
+/// section. False also after 64 labels and pointers.
 fn leads_to(octets: &[u8], offset: usize, name: &[u8]) -> bool
     ensures { result ≡ true → (n : Labels) → IsName n → name.now ≡ uncompressed n
         → NameAtWithin octets.now 12 (length octets.now) offset n }
@@ -105,11 +108,11 @@ fn hash(name: &[u8]) -> u32
         return 0;
     }
     let ends = u32::from_be_bytes([name[1], name[n - 1], name[n], (name.len() % 256) as u8]);
-    ends.wrapping_mul(0x9E37_79B1) >> 24
+    ends.wrapping_mul(SPREAD) >> 24
 }
 
 /// The offset of an earlier name that equals `name`, by the hints. If there is none, `own`, the
-/// offset at which `name` is going to be, becomes a hint.
+/// offset at which `name` is going to be, becomes a hint, if need be in place of another.
 #[inline(always)]
 fn find(hints: &mut [u16; 64], before: &[u8], name: &[u8], own: usize) -> Option<u16>
     requires { 0 < length name.now }
@@ -129,6 +132,9 @@ fn find(hints: &mut [u16; 64], before: &[u8], name: &[u8], own: usize) -> Option
         if offset < before.len() && offset < POINTER_END && is_at(before, offset, name) {
             return Some(hint);
         }
+    }
+    if own < POINTER_END {
+        hints[(first + own / 2 % TRIES) % HINTS] = own as u16;
     }
     None
 }
