@@ -2,10 +2,11 @@
 //! expected values from outside this library, lists of calls that end with the same octets, and
 //! calls that allocate.
 //!
-//! Nothing is exported. `callers`, `tour` and `typed` have proved callers, `ptr`, `fields` and
-//! `own` the examples of two modules. `program`, `bad_lines`, `long_scripts`, `input_output` and
-//! `long_data` test `dnsmsg`, `script` lists of calls, and `memory` calls that allocate. `asserts`
-//! and `runs` have what many tests use. The rows of a table have names, which failures print.
+//! Nothing is exported. `callers`, `tour` and `typed` have proved callers, `ptr`, `fields`, `made`
+//! and `own` the examples of three modules. `program`, `bad_lines`, `long_scripts`, `input_output`
+//! and `long_data` test `dnsmsg`, `script` lists of calls, and `memory` calls that allocate.
+//! `asserts` and `runs` have what many tests use. The rows of a table have names, which failures
+//! print.
 #![tactic(auto)]
 
 #[cfg(test)]
@@ -22,6 +23,8 @@ mod input_output;
 mod long_data;
 #[cfg(test)]
 mod long_scripts;
+#[cfg(test)]
+mod made;
 #[cfg(test)]
 mod memory;
 #[cfg(test)]
