@@ -265,9 +265,7 @@ pub mod fields {
 ///
 /// ```rust
 /// let mail = mx(alloc, 10, host).ok()?;
-/// response
-///     .push((owner, 3600u32, mail.as_field_data()))
-///     .ok()?;
+/// response.push((owner, 3600u32, mail.as_field_data())).ok()?;
 /// ```
 pub mod make {
     pub use dns_values::{aaaa, caa, ds, https, mx, srv, text, txt};

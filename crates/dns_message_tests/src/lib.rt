@@ -2,10 +2,10 @@
 //! program `dnsmsg` that fail, lists of calls that end with the same octets, and calls that
 //! allocate. What `dnsmsg` prints is in the cases of `cases_runs`.
 //!
-//! Nothing is exported. `callers`, `tour` and `typed` have proved callers, `ptr`, `fields` and
-//! `own` the examples of two modules. `input_output` tests `dnsmsg`, `script` lists of calls, and
-//! `memory` calls that allocate. `asserts` and `runs` have what many tests use. The rows of a table
-//! have names, which failures print.
+//! Nothing is exported. `callers`, `tour` and `typed` have proved callers, `ptr`, `fields`, `made`
+//! and `own` the examples of three modules. `input_output` tests `dnsmsg`, `script` lists of calls,
+//! and `memory` calls that allocate. `asserts` and `runs` have what many tests use. The rows of a
+//! table have names, which failures print.
 #![tactic(auto)]
 
 #[cfg(test)]
@@ -16,6 +16,8 @@ mod callers;
 mod fields;
 #[cfg(test)]
 mod input_output;
+#[cfg(test)]
+mod made;
 #[cfg(test)]
 mod memory;
 #[cfg(test)]

@@ -1,5 +1,5 @@
 -- Texts in strings.
-use Rattle.std.proofs.Common.{◌≡◌, ◌∙◌, ℕ, ◌<◌, List, [], ◌∷◌, ◌++◌, append_assoc, ap, arith, drop, length, length-take, sym, subst, take, take-append-drop}
+use Rattle.std.proofs.Common.{◌≡◌, ◌∙◌, ℕ, ◌<◌, List, [], ◌∷◌, ◌++◌, append_assoc, ap, arith, drop, length, length-drop, length-take, sym, subst, take, take-append-drop}
 use Rattle.std.specs.Borrow.{Bor}
 use Rattle.dns_values.specs.Named.{IsSplit}
 
@@ -13,6 +13,7 @@ split_first text string after [] front back long is = absurd is
 split_first text string after (next ∷ more) front back long is = (
   ap (λ (xs : List ℕ). length xs) front ∙ (let n = length-take 255 text in omega (arith, n)),
   after,
+  (λ none. let n = length-drop 255 text in omega (arith, n, long, ap (λ (xs : List ℕ). length xs) (sym back ∙ none))),
   sym (take-append-drop 255 text) ∙ (λ i. sym front i ++ sym back i),
   is,
 )

@@ -1,5 +1,5 @@
 -- What the functions for one record type return.
-use Rattle.std.specs.Prelude.{◌≡◌, ◌⊎◌, Err, ℕ, ◌≤◌, List, [], ◌∷◌, ◌++◌, length, Result}
+use Rattle.std.specs.Prelude.{◌≡◌, ◌≢◌, ◌⊎◌, Err, ℕ, ◌≤◌, List, [], ◌∷◌, ◌++◌, length, Result}
 use Rattle.std.specs.Borrow.{Bor}
 use Rattle.dns_fields.specs.declared.owned.OwnedFieldData.{OwnedFieldData}
 use Rattle.dns_name.specs.Names.{Labels}
@@ -15,12 +15,12 @@ use Rattle.dns_values.specs.declared.value_error.ValueError.TheVariants.{OutOfMe
 abbrev pub MakesNamed : ℕ → Labels → (NewValue → List NewValue) → Result OwnedFieldData ValueError → Type 0
 MakesNamed rtype name values result = (parsed : ParsedName) × (labels parsed ≡ name) × MakesData rtype (values (Name parsed)) result
 
--- the strings are the text: each has 255 octets, except the last one, which has at most 255
+-- the strings are the text: each has 255 octets, except the last one, which has at most 255, and none only if it is the only one
 abbrev pub IsSplit : List ℕ → List (Bor (List ℕ)) → Type 0
 IsSplit text [] = ⊥
 IsSplit text (string ∷ []) = (length string.now ≤ 255) × (string.now ≡ text)
 IsSplit text (string ∷ next ∷ strings) =
-    (length string.now ≡ 255) × (after : List ℕ) × (text ≡ string.now ++ after) × IsSplit after (next ∷ strings)
+    (length string.now ≡ 255) × (after : List ℕ) × (after ≢ []) × (text ≡ string.now ++ after) × IsSplit after (next ∷ strings)
 
 -- record data of TXT with the text in such strings, or why there is none
 abbrev pub MakesText : List ℕ → Result OwnedFieldData ValueError → Type 0

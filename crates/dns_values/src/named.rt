@@ -90,8 +90,8 @@ fn push_split<'a>(strings: &mut Vec<&'a [u8]>, text: &'a [u8]) -> Result<(), Val
     }
 }
 
-/// Makes the RDATA of TXT from a text of any length, in character strings of 255 octets. The last
-/// one may have fewer.
+/// Makes the RDATA of TXT from a text of at most 65,279 octets, in character strings of 255 octets
+/// (RFC 1035 section 3.3.14). The last one may have fewer.
 pub fn text(alloc: Global, text: &[u8]) -> Result<OwnedFieldData, ValueError>
     ensures { MakesText text.now result }
 {

@@ -28,7 +28,7 @@ pub enum NewValue<'a> {
     Types(&'a [Rtype]),
     /// Service parameters, each a key and a value, by increasing keys.
     Parameters(&'a [(u16, &'a [u8])]),
-    /// Address prefixes.
+    /// Address prefixes, whose addresses have at most 127 octets.
     Prefixes(&'a [AddressPrefix<'a>]),
     /// The octets of a field of any other kind, or of a list, as `dns_fields::Value::Octets` shows
     /// them.

@@ -11,8 +11,8 @@ pub enum ValueError {
     #[error("wrong kind of value {0}")]
     WrongKind(usize),
     /// The field takes values of this variant, but not the one at this index: a number is too
-    /// large, a string is too long, there is no string, the keys of parameters don't increase, or
-    /// octets are malformed.
+    /// large, a string or an address is too long, there is no string, the keys of parameters don't
+    /// increase, or octets are malformed.
     #[error("value {0} out of range")]
     OutOfRange(usize),
     /// The fields take more than 65,535 octets.
