@@ -14,11 +14,11 @@
  * Pointers. One that comes with a length may be null if the length is 0. Each other pointer has to be valid, and aligned. What a
  * call writes may not overlap anything else that is passed to it. It needn't be initialised, except where a call says so.
  *
- * Results in a buffer. Each call with `out`, `out_len` and `len` but dnsm_finish writes its result into the `out_len` octets at `out`, and sets
- * `*len` to its length. A text is followed by a zero octet, which `*len` doesn't count. If the buffer is too short, the call
- * returns DNSM_NO_ROOM, sets `*len` to the length that the result would have, and leaves anything in the buffer: octets need a
- * buffer of `*len` octets, and a text one of `*len` + 1. So a call with a null `out` and length 0 gives the length. On each
- * other error `*len` is 0.
+ * Results in a buffer. Each call with `out`, `out_len` and `len` but dnsm_finish writes its result into the `out_len` octets at
+ * `out`, and sets `*len` to its length. A text is followed by a zero octet, which `*len` doesn't count. If the buffer is too
+ * short, the call returns DNSM_NO_ROOM, sets `*len` to the length that the result would have, and leaves anything in the
+ * buffer: octets need a buffer of `*len` octets, and a text one of `*len` + 1. So a call with a null `out` and length 0 gives
+ * the length. On each other error `*len` is 0.
  *
  * Names as text. The text of a name is its labels, separated by dots (RFC 1035 section 5.1). A final dot may be left out, and
  * changes nothing: each name is absolute. The root is a single dot. In a label, each graphic ASCII character but the dot and the

@@ -18,7 +18,7 @@ status_sentences =
     ∷ (number_of faults.NoRoom, codes "the output buffer is too short")
     ∷ (number_of faults.BadText, codes "the text is no valid name")
     ∷ (number_of faults.NoQuestion, codes "the query doesn't have exactly one question")
-    ∷ (number_of faults.BadSection, codes "a section number exceeds 3 or is before that of the last item, or RDATA of a question is asked for")
+    ∷ (number_of faults.BadSection, codes "a section number exceeds 3 or is out of order, or a question has no RDATA")
     ∷ (number_of faults.NoMemory, codes "an allocation failed")
     ∷ (number_of faults.LongData, codes "RDATA or an option has more than 65,535 octets")
     ∷ (number_of faults.TooMany, codes "a section has more than 65,535 items")

@@ -92,9 +92,7 @@ fn sentence(status: u32) -> Option<&'static str>
         7 => Some("the output buffer is too short"),
         8 => Some("the text is no valid name"),
         9 => Some("the query doesn't have exactly one question"),
-        10 => Some(
-            "a section number exceeds 3 or is before that of the last item, or RDATA of a question is asked for",
-        ),
+        10 => Some("a section number exceeds 3 or is out of order, or a question has no RDATA"),
         11 => Some("an allocation failed"),
         12 => Some("RDATA or an option has more than 65,535 octets"),
         13 => Some("a section has more than 65,535 items"),
