@@ -57,8 +57,8 @@ def build(
         items += [_item(section, record) for record in records]
     whole = _calls.number(flags, 16, "flags") | _calls.number(opcode, 4, "opcode") << 11 | _calls.number(rcode, 4, "rcode")
     array = (_calls.NewItem * len(items))(*items)
-    # No message is longer than this.
-    capacity = sum((item.name_len + item.data_len + 12 for item in items), 12)
+    # Enough for the message, or for what TCP carries. A longer message is written by a second call.
+    capacity = min(sum((item.name_len + item.data_len + 12 for item in items), 12), 65535)
     return _calls.written(_calls.library.dnsm_build, _calls.number(id, 16, "id"), whole, array, len(items), capacity=capacity)
 
 
