@@ -18,9 +18,12 @@ func Build(id, flags uint16, items []NewItem) ([]byte, error) {
 	for i := range items {
 		capacity += len(items[i].Name) + len(items[i].Data) + 12
 	}
+	if capacity > 65535 {
+		capacity = 65535
+	}
 	passed, free := pass(items)
 	defer free()
-	// No message is longer than this.
+	// Enough for the message, or for what TCP carries. A longer message is written by a second call.
 	return writtenInto(make([]byte, capacity), func(out []byte, length *C.size_t) C.dnsm_status {
 		return C.dnsm_build(C.uint16_t(id), C.uint16_t(flags), passed, C.size_t(len(items)), pointer(out), C.size_t(len(out)), length)
 	})

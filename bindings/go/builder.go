@@ -50,7 +50,7 @@ func (b *Builder) Len() int { return int(b.draft.len) }
 
 // Put appends an item. Items come in the order of their sections. The error is NoRoom if the buffer or the limit leaves too few
 // octets, without those that are reserved; BadSection for a section before that of the last item; BadText for a name that is none;
-// LongData, BadData or TooMany. With an error the message is as before.
+// LongData, BadData or TooMany. With an error the message is as before. The octets of the item may not be in the builder's buffer.
 func (b *Builder) Put(item NewItem) error {
 	name, err := item.nameOctets()
 	if err != nil {

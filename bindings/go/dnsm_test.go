@@ -39,6 +39,11 @@ func TestReads(t *testing.T) {
 	if opt, err := message.OPT(); opt != nil || err != nil {
 		t.Error(opt, err)
 	}
+	for _, section := range []Section{4, 255} {
+		if items, err := message.Section(section); items != nil || !errors.Is(err, BadSection) {
+			t.Error(section, items, err)
+		}
+	}
 }
 
 func TestEveryPrefixEndsInAnError(t *testing.T) {

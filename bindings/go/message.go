@@ -46,8 +46,11 @@ func (m *Message) Items() *Items {
 }
 
 // Section is the items of a section. With an error, they are those before the first that can't be read. What can't be read after
-// the section makes no error.
+// the section makes no error. The error is BadSection for a number that exceeds 3.
 func (m *Message) Section(section Section) ([]Item, error) {
+	if section > Additional {
+		return nil, BadSection
+	}
 	left := 0
 	for _, count := range m.Counts[:section+1] {
 		left += int(count)

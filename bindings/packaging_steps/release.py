@@ -137,14 +137,29 @@ def copy_terms(folder):
     copy(NOTICES, f"{folder}/NOTICES")
 
 
+def crates_of_library():
+    """dns_c and all crates below it, by crates.txt."""
+    used = {}
+    for line in read(f"{TOP}/crates.txt").splitlines():
+        crate, _, below = line.partition("#")[0].partition(":")
+        if crate.strip():
+            used[crate.split()[0]] = below.split()
+    found, left = set(), ["dns_c"]
+    while left:
+        crate = left.pop()
+        if crate in used and crate not in found:
+            found.add(crate)
+            left += used[crate]
+    return found
+
+
 def fresh_archive():
-    """The archive that examples/c/library builds, if no source of the crate is newer."""
-    crate = f"{TOP}/crates/dns_c"
-    archive = f"{crate}/out/libdns_c.a"
+    """The archive that examples/c/library builds, if no source of its crates is newer."""
+    archive = f"{TOP}/crates/dns_c/out/libdns_c.a"
     if not os.path.exists(archive):
         raise Problem("examples/c/library hasn't built the library")
-    sources = [f"{crate}/{part}/{name}" for part in ("src", "specs", "proofs") for name in walk(f"{crate}/{part}")]
-    if max(map(os.path.getmtime, sources)) > os.path.getmtime(archive):
+    folders = [f"{TOP}/crates/{crate}/{part}" for crate in crates_of_library() for part in ("src", "specs", "proofs")]
+    if max(os.path.getmtime(f"{folder}/{name}") for folder in folders for name in walk(folder)) > os.path.getmtime(archive):
         raise Problem("the built library is older than its sources: run examples/c/library")
     return archive
 

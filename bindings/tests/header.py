@@ -1,9 +1,10 @@
 #!/usr/bin/env python3
 """Compares what the crate dnsm-sys and the package for Python say of dnsm.h with dnsm.h itself: numbers, structs and calls.
 
-    header.py DNSM_H LIB_RS     with the package for Python installed
+    header.py DNSM_H LIB_RS NUMBER_RS NUMBERS_GO     with the package for Python installed
 
-Prints the differences, and fails if there are any. The module for Go needs no such test: cgo reads the header.
+Prints the differences, and fails if there are any. The module for Go needs no such test: cgo reads the header. The numbers of types
+and classes aren't in dnsm.h: those of Rust and Go are compared with those of Python, whose own test is test_dnsm.py.
 """
 
 import ctypes
@@ -83,23 +84,35 @@ def read_rust(text):
     return numbers, structs, calls
 
 
+def read_types(rust, go):
+    """The types and the classes that Rust has, and those of Go, by name."""
+    blocks = re.findall(r"by dnsm_(?:type|class)_text:(.*?)\n}", rust, re.S)
+    assert len(blocks) == 2, "number.rs isn't read"
+    in_rust = [re.findall(r"(\w+) = (\d+)", block) for block in blocks]
+    in_go = [re.findall(rf"\b{kind}(\w+) +{kind} += (\w+(?:\.\w+)?)\n", go) for kind in ("Type", "Class")]
+    return [[{name: int(number.replace("C.DNSM_TYPE_OPT", "41")) for name, number in it} for it in each] for each in (in_rust, in_go)]
+
+
 def python_type(kind):
     if kind in PYTHON or kind in PYTHON_POINTERS:
         return {**PYTHON, **PYTHON_POINTERS}[kind]
     return ctypes.POINTER(STRUCTS[kind.split()[-1]])
 
 
-def main(header, crate):
-    with open(header, encoding="utf-8") as it:
-        numbers, structs, calls = read_c(it.read())
-    with open(crate, encoding="utf-8") as it:
-        rust = read_rust(it.read())
+def read(path):
+    with open(path, encoding="utf-8") as it:
+        return it.read()
+
+
+def main(header, crate, rust_types, go_types):
+    numbers, structs, calls = read_c(read(header))
+    rust = read_rust(read(crate))
     numbers.pop("DNSM_WIDEST")
     found = []
 
-    def compare(what, wanted, got):
+    def compare(what, wanted, got, where="dnsm.h"):
         if wanted != got:
-            found.append(f"{what}: {got}, and in dnsm.h {wanted}")
+            found.append(f"{what}: {got}, and in {where} {wanted}")
 
     assert len(calls) > 20 and len(structs) > 7 and len(numbers) > 30, "dnsm.h isn't read"
     for what, wanted, got in zip(("numbers", "structs", "calls"), (numbers, structs, calls), rust):
@@ -113,6 +126,11 @@ def main(header, crate):
         compare(f"Python: {name}", [python_type(kind) for _, kind in words], _calls._CALLS.get(name))
     enums = {f"DNSM_{it.name}": it.value for enum in (dnsm.Status, dnsm.Section, dnsm.Flag) for it in enum}
     compare("Python: the numbers", {name: it for name, it in numbers.items() if name not in NO_ENUM}, enums)
+    types = [{it.name: it.value for it in enum} for enum in (dnsm.Type, dnsm.Class)]
+    for language, got in zip(("Rust", "Go"), read_types(read(rust_types), read(go_types))):
+        for wanted, is_there in zip(types, got):
+            for name in sorted({*wanted, *is_there}):
+                compare(f"{language}: {name}", wanted.get(name), is_there.get(name), "Python")
     print("\n".join(found))
     return bool(found)
 

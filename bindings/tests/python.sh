@@ -29,7 +29,8 @@ typed() {
 # What the packages for Python and Rust say of the header.
 header() {
   python3 -m zipfile -e "$dist"/dnsm-*.whl wheel &&
-    PYTHONPATH=wheel python3 "$tests/header.py" "$dist/rust/dnsm-sys/include/dnsm.h" "$dist/rust/dnsm-sys/src/lib.rs"
+    PYTHONPATH=wheel python3 "$tests/header.py" "$dist"/rust/dnsm-sys/{include/dnsm.h,src/lib.rs} "$dist/rust/dnsm/src/number.rs" \
+      "$dist/go/dnsm/numbers.go"
 }
 
 recorded() {

@@ -1,6 +1,7 @@
 """The calls of dnsm.h, by ctypes. Nothing else in the package knows how a call is made."""
 
 import ctypes
+import operator
 import os
 from ctypes import POINTER, byref, c_bool, c_char, c_char_p, c_size_t, c_uint8, c_uint16, c_uint32
 from typing import Any, Union
@@ -158,8 +159,8 @@ def octets_of(data: Octets) -> bytes:
 
 
 def number(value: int, bits: int, what: str) -> int:
-    """The value, if it has at most this number of bits: ctypes would drop the others."""
-    value = int(value)
+    """The value, if it is an integer of at most this number of bits: ctypes would drop the others."""
+    value = operator.index(value)
     if not 0 <= value < 1 << bits:
         raise ValueError(f"{what} has to be from 0 to {(1 << bits) - 1}, and is {value}")
     return value

@@ -42,6 +42,8 @@ def build(
 
     Raises `NameTextError`, `DataError` or `TooLong` for an item that can't be written.
     """
+    if isinstance(questions, str):
+        raise TypeError("questions have to be a list, and are a text")
     items: List[_calls.NewItem] = []
     if edns is not None:
         upper = _calls.number(rcode, 12, "rcode") >> 4 or edns.rcode_high
@@ -55,8 +57,8 @@ def build(
         items += [_item(section, record) for record in records]
     whole = _calls.number(flags, 16, "flags") | _calls.number(opcode, 4, "opcode") << 11 | _calls.number(rcode, 4, "rcode")
     array = (_calls.NewItem * len(items))(*items)
-    # No message is longer than this.
-    capacity = sum((item.name_len + item.data_len + 12 for item in items), 12)
+    # Enough for the message, or for what TCP carries. A longer message is written by a second call.
+    capacity = min(sum((item.name_len + item.data_len + 12 for item in items), 12), 65535)
     return _calls.written(_calls.library.dnsm_build, _calls.number(id, 16, "id"), whole, array, len(items), capacity=capacity)
 
 
@@ -86,8 +88,10 @@ def _whole(question: NewQuestion) -> Tuple[Name, int, int]:
     """The question with its type and its class."""
     if not isinstance(question, tuple):
         return question, Type.A, Class.IN
+    if len(question) > 3:
+        raise TypeError("a question is a name, its type and its class")
     name, type_, *class_ = question
-    return name, int(type_), int(class_[0]) if class_ else Class.IN
+    return name, type_, class_[0] if class_ else Class.IN
 
 
 def _item(section: Section, record: NewRecord) -> _calls.NewItem:

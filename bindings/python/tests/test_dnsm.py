@@ -97,6 +97,10 @@ class Writing(unittest.TestCase):
             (ValueError, lambda: build(70000)),
             (ValueError, lambda: build(-1)),
             (ValueError, lambda: build(1, rcode=16)),
+            (TypeError, lambda: build(1.5)),
+            (TypeError, lambda: build("1")),
+            (TypeError, lambda: build(1, questions="a.b")),
+            (TypeError, lambda: build(1, questions=[("a", Type.A, Class.IN, 0)])),
             (TypeError, answer(NewRecord("a", Type.A, "1234"))),
         ):
             self.assertRaises(error, call)
@@ -180,7 +184,21 @@ class Building(unittest.TestCase):
         self.assertRaises(ValueError, Builder, 1, limit=-1)
 
 
+def type_map(number):
+    """The bit map that has one type (RFC 4034 section 4.1.2)."""
+    window, bit = divmod(number, 256)
+    octets = bytes(bit // 8) + bytes([0x80 >> bit % 8])
+    return bytes([window, len(octets)]) + octets
+
+
 class Other(unittest.TestCase):
+    def test_types_have_the_numbers_of_the_library(self):
+        for type_ in Type:
+            message = Message.from_wire(build(1, answer=[NewRecord(".", Type.NSEC, b"\0" + type_map(type_))]))
+            self.assertEqual(next(message.answer).data_text(), f". {type_.name}")
+        for class_ in (Class.IN, Class.CH, Class.HS, Class.NONE, Class.ANY):
+            self.assertIn(dnsm.class_text(class_), (class_.name, f"CLASS{class_}"))
+
     def test_names(self):
         octets = dnsm.name_from_text("a\\.b.c")
         self.assertEqual(octets, b"\3a.b\1c\0")

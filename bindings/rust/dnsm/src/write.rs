@@ -12,8 +12,8 @@ use dnsm_sys::*;
 pub fn build(id: u16, flags: u16, items: &[NewItem<'_>]) -> Result<Vec<u8>, Error> {
     let names = items.iter().map(|item| item.name.text()).collect::<Result<Vec<_>, _>>()?;
     let passed: Vec<dnsm_new_item> = items.iter().zip(&names).map(|(item, name)| pass(item, name)).collect();
-    // No message is longer than this, so the call is made once.
-    let capacity = passed.iter().fold(12, |sum, it| sum + it.name_len + it.data_len + 12);
+    // Enough for the message, or for what TCP carries. A longer message is written by a second call.
+    let capacity = passed.iter().fold(12, |sum, it| sum + it.name_len + it.data_len + 12).min(65535);
     // SAFETY: the pointers and the lengths are those of `passed`, which points to octets of `items` and `names`, and of a buffer.
     out::octets(capacity, |out, out_len, len| unsafe { dnsm_build(id, flags, passed.as_ptr(), passed.len(), out, out_len, len) })
 }
