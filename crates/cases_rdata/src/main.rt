@@ -46,7 +46,7 @@ fn check_blocks<W: Write + Drop>(alloc: Global, writer: W, blocks: &[Vec<&str>])
     report.finish()
 }
 
-/// Checks a case. One that has no check fails.
+/// Checks a case. One that has no type or no check fails.
 fn check_case<'a, W: Write + Drop>(
     alloc: Global,
     report: &mut Report<'a, W>,
@@ -58,6 +58,9 @@ fn check_case<'a, W: Write + Drop>(
     let mut case = Case::new(alloc);
     for line in lines {
         take_line(alloc, report, &mut case, line.trim_ascii_start())?;
+    }
+    if case.rtype == 0 {
+        report.bad_line("no type")?;
     }
     if report.counts.checks == checks {
         report.bad_line("no check")?;

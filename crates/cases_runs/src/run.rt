@@ -45,12 +45,12 @@ impl<'a> Run<'a> {
         match key {
             "run" => self.words = text,
             "status" => self.status = text,
-            "skip" => self.skipped = text.parse::<usize>().unwrap_or(usize::MAX),
             "<" => push_line(&mut self.input, text)?,
             ">" => push_line(&mut self.printed, text)?,
             "2>" => push_line(&mut self.errors, text)?,
             "<." => self.input.extend_from_slice(text.as_bytes())?,
             ">." => self.printed.extend_from_slice(text.as_bytes())?,
+            "skip" => return Ok(self.take_skipped(text)),
             "<x" => return push_octets(alloc, &mut self.input, text),
             ">x" => return push_octets(alloc, &mut self.printed, text),
             "starts" | "ends" | "has" | "count" | "line" | "most" => self.is_whole = false,
@@ -58,6 +58,15 @@ impl<'a> Run<'a> {
             _ => return self.take_repeated(alloc, key, text),
         }
         Ok(true)
+    }
+
+    /// Takes the number of lines to skip. Returns whether the text is one.
+    fn take_skipped(&mut self, text: &str) -> bool {
+        let Ok(lines) = text.parse::<usize>() else {
+            return false;
+        };
+        self.skipped = lines;
+        true
     }
 
     /// Takes a line whose key is `<*` and how often the text is a line of the input.
@@ -142,7 +151,7 @@ fn after_lines(octets: &[u8], lines: usize) -> &[u8] {
     octets
         .splitn(lines.saturating_add(1), |octet| *octet == b'\n')
         .nth(lines)
-        .unwrap_or(b"")
+        .unwrap_or(b"(fewer lines)")
 }
 
 /// The first line of more than 80 columns. Empty if there is none.
