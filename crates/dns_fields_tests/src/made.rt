@@ -136,6 +136,32 @@ fn says_what_is_wrong(rt: HostRuntime) {
     assert_eq!(rt; made.err(), Some(ValueError::TooLong));
 }
 
+/// An error prints this.
+fn assert_prints(rt: &impl Abort, alloc: Global, error: ValueError, expected: &str) {
+    let printed = format!(in alloc; "{error}").expect(rt, "memory");
+    assert_eq!(rt; printed.as_str(), expected);
+}
+
+#[test]
+fn prints_errors(rt: HostRuntime) {
+    let alloc = rt.alloc();
+    assert_prints(&rt, alloc, ValueError::WrongCount, "wrong number of values");
+    assert_prints(
+        &rt,
+        alloc,
+        ValueError::WrongKind(1),
+        "wrong kind of value 1",
+    );
+    assert_prints(
+        &rt,
+        alloc,
+        ValueError::OutOfRange(2),
+        "value 2 out of range",
+    );
+    assert_prints(&rt, alloc, ValueError::TooLong, "record data too long");
+    assert_prints(&rt, alloc, ValueError::OutOfMemory, "out of memory");
+}
+
 #[test]
 fn finds_types(rt: HostRuntime) {
     // RFC 4034 section 4.3: A, MX, RRSIG, NSEC and TYPE1234, and the first block alone
