@@ -94,6 +94,11 @@ fn makes_lists(rt: HostRuntime) {
     let made = from_values(alloc, Rtype::APL, &[NewValue::Prefixes(&prefixes)]);
     let wanted = b"\x00\x01\x15\x03\xc0\xa8\x20\x00\x01\x1c\x83\xc0\xa8\x26";
     assert_made(&rt, alloc, "apl", made, wanted);
+}
+
+#[test]
+fn makes_octets_and_long_texts(rt: HostRuntime) {
+    let alloc = rt.alloc();
     // a type that isn't in the table
     let opaque = [NewValue::Octets(b"\x01\x02")];
     let made = from_values(alloc, Rtype::from_int(65280), &opaque);
