@@ -10,6 +10,7 @@ mod IdentityLaws
 mod IdentityLemmas
 mod LocationLaws
 mod LocatorLemmas
+mod MarkLemmas
 mod NameLaws
 mod NameLemmas
 mod PrefixFieldLaws

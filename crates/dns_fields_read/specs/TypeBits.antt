@@ -1,5 +1,5 @@
 -- What the private functions of type bit maps return. No public contract cites it.
-use Rattle.std.specs.Prelude.{◌≡◌, ◌⊎◌, ◌↔◌, ℕ, zero, suc, ◌+◌, ◌*◌, ◌/◌, ◌≤◌, ◌==◌, ◌&&◌, not, nat_le, nat_lt, Bool, true, if◌then◌else◌, List, [], ◌∷◌, ◌++◌, length, Result, MatchResult}
+use Rattle.std.specs.Prelude.{◌≡◌, ◌⊎◌, ◌↔◌, ℕ, zero, suc, ◌+◌, ◌*◌, ◌/◌, ◌≤◌, ◌==◌, ◌&&◌, not, nat_le, nat_lt, Bool, true, false, if◌then◌else◌, List, [], ◌∷◌, ◌++◌, length, get_or, Result, MatchResult}
 use Rattle.std.specs.Borrow.{Bor}
 use Rattle.std.specs.List.{list_all}
 use Rattle.hex.specs.Hex.{IsBytes}
@@ -9,6 +9,10 @@ use Rattle.dns_fields_text.specs.TypeMaps.{is_small_map, map_types, octet_types}
 use Rattle.dns_value_text.specs.declared.text_error.TextError.{TextError}
 use Rattle.dns_value_text.specs.declared.text_error.TextError.TheVariants.{BadWord, OutOfMemory}
 use Rattle.dns_fields_read.specs.TypeMapWords.{AreTypes, HasType, has}
+
+-- whether the mark at an index is set
+abbrev pub is_marked : List Bool → ℕ → Bool
+is_marked marks index = get_or marks index false
 
 -- the octet of `count` types from `first` on, the first of which has the highest bit
 abbrev pub octet_bits : (ℕ → Bool) → ℕ → ℕ → ℕ

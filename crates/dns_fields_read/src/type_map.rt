@@ -1,7 +1,7 @@
 //! Type bit maps (RFC 4034 section 4.2).
-ghost use Rattle.std.specs.Prelude.{◌≡◌, ◌==◌, ◌≤◌, ◌+◌, ◌*◌, ◌/◌, ◌++◌, length};
+ghost use Rattle.std.specs.Prelude.{◌≡◌, ◌==◌, ◌≤◌, ◌<◌, ◌+◌, ◌*◌, ◌/◌, ◌++◌, ℕ, length};
 ghost use Rattle.std.specs.List.{list_any};
-ghost use Rattle.dns_fields_read.specs.TypeBits.{AppendsBlock, AppendsBlocks, AppendsTypes, octet_bits, octets_bits};
+ghost use Rattle.dns_fields_read.specs.TypeBits.{AppendsBlock, AppendsBlocks, AppendsTypes, is_marked, octet_bits, octets_bits};
 ghost use Rattle.dns_fields_read.specs.TypeMapWords.{AppendsTypeMap, IsTypeMap, has};
 ghost use Rattle.dns_value_text.specs.Reading.{ReadsOctets};
 
@@ -11,35 +11,56 @@ use arrayvec::ArrayVec;
 use dns_value_text::TextError;
 use std::alloc::Global;
 
-/// The octet of `count` types from `first` on, the first of which has the highest bit.
-fn octet_bits(types: &[u16], first: u32, count: u8) -> u8
+/// Which of the 256 types from `first` on are among these types.
+fn marks_from(types: &[u16], first: u32) -> [bool; 256]
+    ensures { (index : ℕ) → index < 256
+        → is_marked result index ≡ has types.now (first + index) }
+{
+    let mut marks = [false; 256];
+    for rtype in types {
+        if let Some(index) = u32::from(*rtype).checked_sub(first) {
+            if index < 256 {
+                marks[index as usize] = true;
+            }
+        }
+    }
+    marks
+}
+
+/// The octet of `count` marks from index `at` on, the first of which has the highest bit.
+fn octet_bits(marks: &[bool; 256], at: usize, count: u8) -> u8
     requires few { count ≤ 8 }
-    requires types { first + count ≤ 65536 }
-    ensures { result ≡ octet_bits (has types.now) first count }
+    requires within { at + count ≤ 256 }
+    ensures { result ≡ octet_bits (is_marked marks.now) at count }
 {
     if count == 0 {
         return 0;
     }
-    let low = octet_bits(types, first + 1, count - 1) / 2;
-    let rtype = first as u16;
-    if types.contains(&rtype) {
-        128 + low
-    } else {
-        low
+    let low = octet_bits(marks, at + 1, count - 1) / 2;
+    if marks[at] { 128 + low } else { low }
+}
+
+/// Appends `count` octets of the marks from index `at` on.
+fn push_marked(octets: &mut ArrayVec<u8, 32>, marks: &[bool; 256], at: usize, count: u8)
+    requires room { length octets.old.items + count ≤ 32 }
+    requires within { at + 8 * count ≤ 256 }
+    ensures { octets.new.items
+        ≡ octets.old.items ++ octets_bits (is_marked marks.now) at count }
+{
+    if count == 0 {
+        return;
     }
+    octets.push(octet_bits(marks, at, 8));
+    push_marked(octets, marks, at + 8, count - 1);
 }
 
 /// Appends `count` octets of the types from `first` on.
 pub(crate) fn push_octets(octets: &mut ArrayVec<u8, 32>, types: &[u16], first: u32, count: u8)
     requires room { length octets.old.items + count ≤ 32 }
-    requires types { first + 8 * count ≤ 65536 }
     ensures { octets.new.items ≡ octets.old.items ++ octets_bits (has types.now) first count }
 {
-    if count == 0 {
-        return;
-    }
-    octets.push(octet_bits(types, first, 8));
-    push_octets(octets, types, first + 8, count - 1);
+    let marks = marks_from(types, first);
+    push_marked(octets, &marks, 0, count);
 }
 
 /// Whether one of the types is in the window.

@@ -3,12 +3,12 @@
 -- `b` is the octets of the message.
 use Rattle.std.specs.Bool.{⊤}
 use Rattle.std.specs.Iterator.{YieldsFirstBy}
-use Rattle.std.specs.Prelude.{◌≡◌, ℕ, ◌⊎◌, List, [], ◌∷◌, Option, Some, None, option_and_then, IfSome, Result, Ok, Err, IsOk}
+use Rattle.std.specs.Prelude.{◌≡◌, ℕ, ◌⊎◌, List, [], ◌∷◌, Option, Some, None, option_and_then, option_map, IfSome, Result, Ok, Err, IsOk}
 use Rattle.std.specs.List.{AllByRecursion}
 use Rattle.std.specs.Option.{option_map_or}
 use Rattle.dns_name.specs.Names.{Fault, fault_of}
 use Rattle.dns_octets.specs.declared.error.ParseError.{ParseError}
-use Rattle.dns_item.specs.ParsedRecord.{EncodedRecord, encoded_record}
+use Rattle.dns_item.specs.ParsedRecord.{EncodedRecord, encoded_record, parsed_entry}
 use Rattle.dns_item.specs.declared.parsed_record.ParsedRecord.{ParsedRecord}
 use Rattle.dns_section.specs.RecordSection.{octets_of, position, section_of, to_come}
 use Rattle.dns_section.specs.RecordsFrom.{records_in}
@@ -102,11 +102,22 @@ GivesErrorAgain new (Some (Ok x)) = ⊤
 GivesErrorAgain new (Some (Err e)) = (items_left new ≡ []) ⊎ (kept_error new ≡ Some e)
 GivesErrorAgain new None = ⊤
 
+-- the offset after the records that were yielded, or none at the end
+abbrev pub position_in : MessageIter → Option ℕ
+position_in it = option_map position it.cursor
+
+-- An iterator that yielded a record is where the record ends.
+abbrev pub IsAfterRecord : MessageIter → Option (Result (ParsedRecord × Section) ParseError) → Type 0
+IsAfterRecord new (Some (Ok x)) = position_in new ≡ Some (parsed_entry x.0).rdata_end
+IsAfterRecord new (Some (Err e)) = ⊤
+IsAfterRecord new None = ⊤
+
 -- what a call of `next` returns, and the iterator after it
 pub record GivesNext (old : MessageIter) (result : Option (Result (ParsedRecord × Section) ParseError)) (new : MessageIter) : Type 0 where
   pub steps : YieldsFirstBy item_result items_left old result new
   pub again : IfSome (kept_error old) (λ e. result ≡ Some (Err e))
   pub kept : GivesErrorAgain new result
+  pub moves : IsAfterRecord new result
 
 -- If two consecutive calls yield errors, the second error equals the first, including its text.
 abbrev pub SecondErrorIsFirst : Type 0

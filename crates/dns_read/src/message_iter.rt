@@ -18,13 +18,25 @@ pub struct MessageIter<'a> {
 
 impl<'a> MessageIter<'a> {
     ghost use Rattle.std.specs.Iterator.{YieldsFirstBy};
-    ghost use Rattle.dns_read.specs.MessageIter.{item_result, items_left, kept_error, GivesErrorAgain};
+    ghost use Rattle.dns_read.specs.MessageIter.{item_result, items_left, kept_error, position_in, GivesErrorAgain, IsAfterRecord};
+
+    /// The offset after the record that was yielded last, in octets from the start of the message.
+    /// Before the first record it is the start of the answer section. Returns `None` at the end.
+    pub fn pos(&self) -> Option<usize>
+        ensures { result ≡ position_in self.now }
+    {
+        match &self.cursor {
+            Some(cursor) => Some(cursor.pos()),
+            None => None,
+        }
+    }
 
     /// The next record with its section, or the error of the first that can't be read.
     pub fn next(&mut self) -> Option<Result<(ParsedRecord<'a>, Section), ParseError>>
         ensures steps { YieldsFirstBy item_result items_left self.old result self.new }
         ensures again { IfSome (kept_error self.old) (λ e. result ≡ Some (Err e)) }
         ensures kept { GivesErrorAgain self.new result }
+        ensures moves { IsAfterRecord self.new result }
     {
         while let Some(mut cursor) = self.cursor {
             match cursor.next() {

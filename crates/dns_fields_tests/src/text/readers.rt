@@ -3,9 +3,10 @@
 use crate::text::asserts::{assert_holds, assert_octets, assert_prints};
 use crate::text::reading::assert_reads;
 use dns_fields_read::{
-    read_base64_words, read_eui48, read_eui64, read_gateway, read_hash, read_hex_words,
-    read_host_identity, read_ipv4, read_ipv6, read_location, read_locator, read_name,
-    read_prefixes, read_relay, read_salt, read_small_type_map, read_time, read_type, read_type_map,
+    push_type_map, read_base64_words, read_eui48, read_eui64, read_gateway, read_hash,
+    read_hex_words, read_host_identity, read_ipv4, read_ipv6, read_location, read_locator,
+    read_name, read_prefixes, read_relay, read_salt, read_small_type_map, read_time, read_type,
+    read_type_map,
 };
 use dns_number::Rtype;
 use dns_parameters_read::read_parameters;
@@ -47,6 +48,23 @@ fn lists(rt: HostRuntime) {
     let words = ["port=53"];
     let octets = b"\x00\x03\x00\x02\x00\x35";
     assert_reads(&rt, &words, read_parameters(rt.alloc(), &words), octets);
+}
+
+/// One type of each window, 65,536 in all. A block has the window, a length of 1, and its first bit
+/// (RFC 4034 section 4.1.2).
+#[test]
+fn many_types(rt: HostRuntime) {
+    let mut types = Vec::new(rt.alloc());
+    for count in 0..65_536u32 {
+        types
+            .push((count % 256 * 256) as u16)
+            .expect(&rt, "there is memory");
+    }
+    let mut map = Vec::new(rt.alloc());
+    let result = push_type_map(&mut map, &types);
+    assert!(rt; result.is_ok());
+    assert_eq!(rt; map.len(), 256 * 3);
+    assert_eq!(rt; &map[3..6], b"\x01\x01\x80".as_slice());
 }
 
 /// Digits, in one word and split, as in RFC 4034 section 2.3.
