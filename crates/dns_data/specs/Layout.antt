@@ -3,6 +3,7 @@
 -- `b` is the octets that are seen: those of the message up to the end of the RDATA.
 use Rattle.std.specs.Prelude.{◌≡◌, ◌⊎◌, ℕ, ◌+◌, ◌*◌, ◌<◌, ◌≤◌, ◌==◌, ◌||◌, Bool, true, false, IsTrue, List, [], ◌∷◌, length, drop, slice_index, slice_range}
 use Rattle.dns_name.specs.Names.{Fault, Labels, uncompressed, NameAt, FaultAt, NameEndsAt}
+use Rattle.dns_octets.specs.declared.error.TheConstants.FormError.{BAD_POINTER}
 use Rattle.dns_name.specs.Names.Fault.{ShortInput, Form}
 use Rattle.dns_wire.specs.Parts.{Part, parts_size}
 use Rattle.dns_wire.specs.Parts.Part.{Octets, CompressibleName, UncompressedName}
@@ -110,5 +111,5 @@ DataFaultAt b (DomainName layout) p f =
     FaultAt b p f ⊎ ((name : Labels) × (q : ℕ) × NameAt b p name × NameEndsAt b p q × DataFaultAt b layout q f)
 DataFaultAt b (UncompressedDomainName pointers lowercased layout) p f =
     FaultAt b p f
-    ⊎ (((name : Labels) × (q : ℕ) × NameAt b p name × NameEndsAt b p q × (may_be_encoded pointers name p q ≡ false) × (f ≡ Form))
+    ⊎ (((name : Labels) × (q : ℕ) × NameAt b p name × NameEndsAt b p q × (may_be_encoded pointers name p q ≡ false) × (f ≡ Form BAD_POINTER))
     ⊎ ((name : Labels) × (q : ℕ) × NameAt b p name × NameEndsAt b p q × DataFaultAt b layout q f × (may_be_encoded pointers name p q ≡ true)))

@@ -4,7 +4,6 @@ ghost use Rattle.dns_edit.specs.Marks.{MarksLabels};
 ghost use Rattle.dns_edit.specs.Pointers.{AcceptsName, RefusesName};
 
 use crate::error::EditError;
-use crate::head::head_after;
 use dns_name::Head;
 
 /// The range of pointers.
@@ -43,7 +42,7 @@ pub(crate) fn walk_name(octets: &[u8], start: usize, marks: &mut [bool]) -> Resu
     let mut pos = start;
     let mut size = 0;
     'walk: loop {
-        match head_after(octets, pos, size)? {
+        match Head::after(octets, pos, size)? {
             Head::Root => return Ok(pos + 1),
             Head::Label(len) => {
                 mark(marks, pos);

@@ -10,7 +10,6 @@ mod change;
 mod edit;
 mod entries;
 mod error;
-mod head;
 mod labels;
 pub mod laws;
 mod rdata;

@@ -1,5 +1,6 @@
 -- The layout of RDATA with these kinds of fields, and where a field is encoded.
 use Rattle.std.specs.Prelude.{◌≡◌, ℕ, ◌+◌, ◌<◌, ◌≤◌, ◌⊎◌, ◌&&◌, not, Bool, true, false, List, [], ◌∷◌, length, drop, slice_range}
+use Rattle.dns_octets.specs.declared.error.TheConstants.FormError.{BAD_POINTER}
 use Rattle.dns_name.specs.Names.{Fault, Labels, NameAt, NameEndsAt, FaultAt}
 use Rattle.dns_name.specs.Names.Fault.{ShortInput, Form}
 use Rattle.dns_wire.specs.Parts.{Part}
@@ -68,7 +69,7 @@ PartFaultAt b Counted test p f = (f ≡ ShortInput) × (length b < p + string_si
 PartFaultAt b Sized test p f = (f ≡ ShortInput) × (length b < p + octets_size b p)
 PartFaultAt b Name test p f = FaultAt b p f
 PartFaultAt b (UncompressedName pointers lowers) test p f =
-    FaultAt b p f ⊎ ((name : Labels) × (q : ℕ) × NameAt b p name × NameEndsAt b p q × (may_be_encoded pointers name p q ≡ false) × (f ≡ Form))
+    FaultAt b p f ⊎ ((name : Labels) × (q : ℕ) × NameAt b p name × NameEndsAt b p q × (may_be_encoded pointers name p q ≡ false) × (f ≡ Form BAD_POINTER))
 PartFaultAt b Rest test p f = (f ≡ ShortInput) × (test (drop p b) ≡ false)
 
 abbrev pub FieldFaultAt : List ℕ → Kind → Shape → ℕ → Fault → Type 0

@@ -1,6 +1,7 @@
 -- Reading the RDATA of a record to its end.
 use Rattle.std.proofs.Common.{◌≡◌, ◌∙◌, ap, sym, subst, refl, ℕ, ◌<◌, ◌≤◌, List, length}
 use Rattle.std.specs.Prelude.{Option, None, Some, Result, Ok, Err, IsOkAnd, IsSomeAnd}
+use Rattle.dns_octets.specs.declared.error.TheConstants.FormError.{TRAILING_DATA}
 use Rattle.dns_name.specs.Names.{Fault, fault_of}
 use Rattle.dns_name.specs.Names.Fault.{Form}
 use Rattle.dns_name.specs.Parsers.{seen, offset}
@@ -26,7 +27,7 @@ module _ {D : Type 0} (rtype_of : D → ℕ) (parts_of : D → List Part) (rtype
 
   -- octets that are left over are a fault of the whole
   pub whole_left_over : (layout : Layout) (value : D) → ParsesLaidOut rtype_of parts_of layout rtype old new (Ok value)
-      → offset new < length (seen new) → WholeDataFaultAt (seen old) layout (offset old) Form
+      → offset new < length (seen new) → WholeDataFaultAt (seen old) layout (offset old) (Form TRAILING_DATA)
   whole_left_over layout value h l =
       let short : offset new < length (seen old) = subst (λ (b : List ℕ). offset new < length b) h.2.seen l in
       left_over (offset new) (parts_of value) h.1 short
@@ -38,7 +39,7 @@ module _ {D : Type 0} (rtype_of : D → ℕ) (parts_of : D → List Part) (rtype
   whole_fault_taken (Some layout) e h = whole_fault layout e h
 
   pub whole_left_over_taken : (o : Option Layout) (value : D) (e : ParseError) → ParsesTaken rtype_of parts_of o rtype old new (Ok (Some value))
-      → offset new < length (seen new) → fault_of e ≡ Form → IsWholeTaken rtype_of parts_of (seen old) (offset old) rtype o (Err e)
+      → offset new < length (seen new) → fault_of e ≡ Form TRAILING_DATA → IsWholeTaken rtype_of parts_of (seen old) (offset old) rtype o (Err e)
   whole_left_over_taken None value e h l f = h
   whole_left_over_taken (Some layout) value e h l f =
       subst (WholeDataFaultAt (seen old) layout (offset old)) (sym f) (whole_left_over layout value h l)

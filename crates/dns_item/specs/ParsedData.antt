@@ -3,6 +3,7 @@ use Rattle.std.proofs.Common.{◌≡◌, ap, sym, refl, subst, ℕ, ◌≤◌, �
 use Rattle.std.proofs.lemmas.Bool.Decides.{leb_tells}
 use Rattle.std.proofs.lemmas.Grind.{common_steps}
 use Rattle.std.specs.Prelude.{Result, Ok, Err}
+use Rattle.dns_octets.specs.declared.error.TheConstants.FormError.{TRAILING_DATA}
 use Rattle.dns_name.specs.Names.{Fault}
 use Rattle.dns_name.specs.Names.Fault.{Form, ShortInput}
 use Rattle.dns_wire.specs.Parts.{Part}
@@ -38,7 +39,7 @@ module _ (b : List ℕ) (layout : Layout) (p : ℕ) (within : p ≤ length b) wh
               let end = data_within b layout p d.0 d.1 within d.2 in
               let all : d.0 ≡ length b = omega (arith, l.1, end) in
               inl (d.1, subst (λ q. DataAt b layout p q d.1) all d.2)
-          | inr l ↦ inr (Form, left_over d.0 d.1 d.2 l.1)
+          | inr l ↦ inr (Form TRAILING_DATA, left_over d.0 d.1 d.2 l.1)
         ]
         | inr f ↦ inr (f.0, first f.1)
       ]

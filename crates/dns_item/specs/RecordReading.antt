@@ -1,5 +1,6 @@
 -- What reading the RDATA of a record returns. RFC 1035 sections 3.3 and 4.1.3.
 use Rattle.std.specs.Prelude.{◌≡◌, ℕ, ◌<◌, ◌≤◌, List, length, take, Option, None, Some, Result, Ok, Err, IsOkAnd, IsSomeAnd, ⊤}
+use Rattle.dns_octets.specs.declared.error.TheConstants.FormError.{TRAILING_DATA}
 use Rattle.dns_name.specs.Names.{Fault, fault_of}
 use Rattle.dns_name.specs.Names.Fault.{Form}
 use Rattle.dns_name.specs.ParsedName.{labels}
@@ -17,7 +18,7 @@ use Rattle.dns_item.specs.declared.record.Record.{Record}
 -- Why the octets from p to the end aren't RDATA of a layout: the first fault, or octets are left over.
 pub data WholeDataFaultAt (b : List ℕ) (layout : Layout) (p : ℕ) : Fault → Type 0 where
   first : {f : Fault} → DataFaultAt b layout p f → WholeDataFaultAt b layout p f
-  left_over : (q : ℕ) (parts : List Part) → DataAt b layout p q parts → q < length b → WholeDataFaultAt b layout p Form
+  left_over : (q : ℕ) (parts : List Part) → DataAt b layout p q parts → q < length b → WholeDataFaultAt b layout p (Form TRAILING_DATA)
 
 -- the record of what was read of it and of the parts of its RDATA
 abbrev pub item_of : RecordEntry → List Part → RecordItem

@@ -52,7 +52,7 @@ impl<'a> RecordHeader<ParsedName<'a>> {
     ///
     /// The parser has to be at the RDATA, and advances past it even if it is malformed. If the
     /// RDATA isn't all there, it returns `ShortInput` and the parser doesn't move. Otherwise an
-    /// error is the first one in the RDATA, or `Form` if octets are left over.
+    /// error is the first one in the RDATA, or `TRAILING_DATA` if octets are left over.
     pub fn parse_into_record<D: ParseRecordData<'a> + Drop>(
         self,
         parser: &mut Parser<'a>,
@@ -92,7 +92,7 @@ impl<'a> ParsedRecord<'a> {
     /// The record with its RDATA parsed, or `None` if `D` doesn't accept the record type.
     ///
     /// Errors: `ShortInput` if the RDATA isn't all there, else the first error in the RDATA, or
-    /// `Form` if octets are left over.
+    /// `TRAILING_DATA` if octets are left over.
     pub fn to_record<D: ParseRecordData<'a> + Drop>(
         &self,
     ) -> Result<Option<Record<ParsedName<'a>, D>>, ParseError>

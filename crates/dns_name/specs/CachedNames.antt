@@ -1,7 +1,8 @@
 -- A cached name, which was read before, and how names that point to it are read. RFC 1035 section 4.1.4.
 use Rattle.std.specs.Prelude.{◌≡◌, ◌+◌, ◌-◌, ◌<◌, ◌≤◌, ⊤, ℕ, List, length, Option, Some, None, Result, Ok, Err}
 use Rattle.dns_octets.specs.declared.error.ParseError.{ParseError}
-use Rattle.dns_name.specs.Names.{head_at, Faulty, FaultAt, NameEndsAt, fault_of, max_size, pointer_end}
+use Rattle.dns_name.specs.Names.{head_at, Faulty, FaultAt, NameEndsAt, LabelsTo, fault_of, max_size, pointer_end}
+use Rattle.dns_name.specs.Names.LabelsTo.{none, label}
 use Rattle.dns_name.specs.Unique.{NameOfSizeAndCount, NameOfSizeAndCount-prop}
 use Rattle.dns_name.specs.declared.head.Head.{Head}
 use Rattle.dns_name.specs.declared.head.Head.TheVariants.{Root, Label, Pointer}
@@ -28,12 +29,6 @@ abbrev pub IsInReach : Head → Type 0
 IsInReach Root = ⊤
 IsInReach (Label n) = ⊤
 IsInReach (Pointer target) = target < pointer_end
-
--- In a name whose labels so far take s octets, consecutive labels take the octets p..q. The labels then take r octets.
-pub data LabelsTo (b : List ℕ) : ℕ → ℕ → ℕ → ℕ → Type 0 where
-  none : {p s : ℕ} → LabelsTo b p s p s
-  label : {p n s q r : ℕ} → head_at b p ≡ Ok (Label n) → s + n + 1 ≤ max_size → p + 1 + n ≤ length b
-      → LabelsTo b (p + 1 + n) (s + n + 1) q r → LabelsTo b p s q r
 
 -- The number of the consecutive labels.
 abbrev pub row_count : {b : List ℕ} {p s q r : ℕ} → LabelsTo b p s q r → ℕ

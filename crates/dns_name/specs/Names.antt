@@ -3,6 +3,8 @@ use Rattle.std.specs.Prelude.{ℕ, ◌+◌, ◌≤◌, List, [], ◌∷◌, ◌+
 use Rattle.std.specs.List.{flat_map}
 use Rattle.std.specs.Char.{to_ascii_lowercase}
 use Rattle.dns_octets.specs.declared.error.ParseError.{ParseError}
+use Rattle.dns_octets.specs.declared.error.FormError.{FormError}
+use Rattle.dns_octets.specs.declared.error.TheConstants.FormError.{BAD_LABEL, BAD_POINTER, LONG_NAME}
 use Rattle.dns_name.specs.declared.head.Head.{Head}
 use Rattle.dns_name.specs.declared.head.Head.TheVariants.{Root, Label, Pointer}
 use Rattle.dns_octets.specs.declared.error.ParseError.TheVariants as errors
@@ -52,15 +54,15 @@ lowered name = map (λ label. lowered_label label) name
 
 -- What can be wrong with octets that are read.
 
--- `ShortInput`: an octet that is needed is at or past the end. `Form`: octets are there but malformed.
+-- `ShortInput`: an octet that is needed is at or past the end. `Form`: octets are there but malformed, for this cause.
 pub data Fault : Type 0 where
   ShortInput : Fault
-  Form : Fault
+  Form : FormError → Fault
 
--- The fault that an error reports, whatever its text.
+-- The fault that an error reports.
 abbrev pub fault_of : ParseError → Fault
 fault_of errors.ShortInput = ShortInput
-fault_of (errors.Form _) = Form
+fault_of (errors.Form cause) = Form cause
 
 -- What begins at an offset in a name. RFC 1035 section 4.1.4.
 
@@ -79,7 +81,7 @@ head_of None second = Err ShortInput
 head_of (Some first) second =
     if nat_lt first 1 then Ok Root
     else if nat_lt first 64 then Ok (Label first)
-    else if nat_lt first 192 then Err Form
+    else if nat_lt first 192 then Err (Form BAD_LABEL)
     else pointer_of first second
 
 -- What begins at an offset.
@@ -112,11 +114,11 @@ pub data Faulty (b : List ℕ) : ℕ → ℕ → Fault → Type 0 where
   -- What begins there is malformed or missing.
   head : {p s : ℕ} {f : Fault} → head_at b p ≡ Err f → Faulty b p s f
   -- A label makes the name too long.
-  long : {p n s : ℕ} → head_at b p ≡ Ok (Label n) → max_size < s + n + 1 → Faulty b p s Form
+  long : {p n s : ℕ} → head_at b p ≡ Ok (Label n) → max_size < s + n + 1 → Faulty b p s (Form LONG_NAME)
   -- A label runs past the end.
   cut : {p n s : ℕ} → head_at b p ≡ Ok (Label n) → s + n + 1 ≤ max_size → length b < p + 1 + n → Faulty b p s ShortInput
   -- A pointer does not lead back.
-  ahead : {p t s : ℕ} → head_at b p ≡ Ok (Pointer t) → p ≤ t → Faulty b p s Form
+  ahead : {p t s : ℕ} → head_at b p ≡ Ok (Pointer t) → p ≤ t → Faulty b p s (Form BAD_POINTER)
   -- The fault is after a label.
   label : {p n s : ℕ} {f : Fault} → head_at b p ≡ Ok (Label n) → s + n + 1 ≤ max_size → p + 1 + n ≤ length b
       → Faulty b (p + 1 + n) (s + n + 1) f → Faulty b p s f
@@ -147,7 +149,7 @@ pub data SkipFaulty (b : List ℕ) : ℕ → ℕ → Fault → Type 0 where
   -- What begins there is malformed or missing.
   head : {p s : ℕ} {f : Fault} → head_at b p ≡ Err f → SkipFaulty b p s f
   -- A label makes the name too long.
-  long : {p n s : ℕ} → head_at b p ≡ Ok (Label n) → max_size < s + n + 1 → SkipFaulty b p s Form
+  long : {p n s : ℕ} → head_at b p ≡ Ok (Label n) → max_size < s + n + 1 → SkipFaulty b p s (Form LONG_NAME)
   -- A label runs past the end.
   cut : {p n s : ℕ} → head_at b p ≡ Ok (Label n) → s + n + 1 ≤ max_size → length b < p + 1 + n → SkipFaulty b p s ShortInput
   -- The fault is after a label.
@@ -157,6 +159,12 @@ pub data SkipFaulty (b : List ℕ) : ℕ → ℕ → Fault → Type 0 where
 -- Skipping a name at offset p fails with this fault.
 abbrev pub SkipFaultAt : List ℕ → ℕ → Fault → Type 0
 SkipFaultAt b p f = SkipFaulty b p 0 f
+
+-- In a name whose labels so far take s octets, consecutive labels take the octets p..q. The labels then take r octets.
+pub data LabelsTo (b : List ℕ) : ℕ → ℕ → ℕ → ℕ → Type 0 where
+  none : {p s : ℕ} → LabelsTo b p s p s
+  label : {p n s q r : ℕ} → head_at b p ≡ Ok (Label n) → s + n + 1 ≤ max_size → p + 1 + n ≤ length b
+      → LabelsTo b (p + 1 + n) (s + n + 1) q r → LabelsTo b p s q r
 
 -- What a function returns about an offset in a name.
 

@@ -28,12 +28,18 @@ pub(crate) struct LabelRow {
 }
 
 impl Head {
-    ghost use Rattle.dns_name.specs.Names.{head_at, Reads, BeginsOrFails};
+    ghost use Rattle.dns_name.specs.Names.{head_at, max_size, Reads, BeginsOrFails};
     ghost use Rattle.dns_name.specs.CachedNames.{IsInReach, SkipsLabelsOrFails};
 
-    /// Returns what begins at offset `offset`.
+    /// Returns what begins at offset `offset` in a name (RFC 1035 section 4.1.4).
+    ///
+    /// It reads one octet, and for a pointer two. It doesn't check that the label is complete or
+    /// where the pointer leads.
+    ///
+    /// Errors: `BAD_LABEL` if the octet has the high bits 01 or 10; `ShortInput` if an octet is
+    /// missing.
     #[tactic(auto, unfolding(crate::specs::Names::head_at))]
-    pub(crate) fn at(octets: &[u8], offset: usize) -> Result<Head, ParseError>
+    pub fn at(octets: &[u8], offset: usize) -> Result<Head, ParseError>
         ensures head { Reads result (head_at octets.now offset) }
         ensures within { OnOk result (offset < length octets.now) }
         ensures in_reach { IfOk result (λ head. IsInReach head) }
@@ -79,11 +85,16 @@ impl Head {
 
     /// Returns what begins at offset `offset` in a name, after labels of `size` octets.
     ///
-    /// Errors: those of `at`; `Form` if a label would make the name too long; `ShortInput` if a
-    /// label runs past the end.
-    pub(crate) fn after(octets: &[u8], offset: usize, size: usize) -> Result<Head, ParseError>
-        requires { size ≤ MAX_SIZE }
-        ensures { BeginsOrFails octets.now offset size result }
+    /// A walk over the labels of a name calls it at each label. Each label adds its length and its
+    /// length octet to the size, which starts at 0 and stays at most 254. So a caller that stops at
+    /// the root label or a pointer skips a name.
+    ///
+    /// Errors: those of `at`; `LONG_NAME` if a label would make the name too long; `ShortInput` if
+    /// a label runs past the end.
+    pub fn after(octets: &[u8], offset: usize, size: usize) -> Result<Head, ParseError>
+        requires { size ≤ max_size }
+        ensures begins { BeginsOrFails octets.now offset size result }
+        ensures in_reach { IfOk result (λ head. IsInReach head) }
     {
         let head = Head::at(octets, offset)?;
         if let Head::Label(len) = head {

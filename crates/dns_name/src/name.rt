@@ -42,8 +42,9 @@ impl<Octs: Octets> Name<Octs> {
 
     /// Creates a name from `octets`, which must be exactly one uncompressed name.
     ///
-    /// Errors: `ShortInput` if octets are missing. `Form` if there is a malformed label, a pointer,
-    /// a name of more than 255 octets, or an octet after the root label.
+    /// Errors: `ShortInput` if octets are missing; `BAD_LABEL` if a length octet has the high bits
+    /// 01 or 10; `BAD_POINTER` if there is a pointer; `LONG_NAME` if the name has more than 255
+    /// octets, or if octets follow its root label.
     pub fn from_octets(octets: Octs) -> Result<Self, ParseError>
         ensures name { IfOk result (λ name. uncompressed (name_labels name) ≡ Octs.octets octets) }
         ensures accepts { IsUncompressed (Octs.octets octets) → IsOk result }

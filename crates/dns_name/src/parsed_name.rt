@@ -43,8 +43,9 @@ impl<'a> ParsedName<'a> {
     /// A name takes at most 255 octets without pointers, and a pointer leads strictly back. The
     /// parser's end bounds the octets that pointers lead to as well.
     ///
-    /// Errors: `ShortInput` if an octet is missing, `Form` if the name is malformed; the leftmost
-    /// error is returned.
+    /// Errors: `ShortInput` if an octet is missing; `BAD_LABEL` if a length octet has the high bits
+    /// 01 or 10; `BAD_POINTER` if a pointer doesn't lead strictly back; `LONG_NAME` if the name has
+    /// more than 255 octets. The leftmost error is returned.
     #[inline(always)]
     pub fn parse(parser: &mut Parser<'a>) -> Result<ParsedName<'a>, ParseError>
         ensures reads { ParsesName parser.old parser.new result }
@@ -129,7 +130,7 @@ impl<'a> ParsedName<'a> {
 
     /// Skips a name without following its pointer.
     ///
-    /// Errors: `ShortInput` if an octet is missing, `Form` if the name is malformed.
+    /// Errors: `ShortInput` if an octet is missing, `BAD_LABEL` or `LONG_NAME` as in `parse`.
     pub fn skip(parser: &mut Parser<'_>) -> Result<(), ParseError>
         ensures { SkipsName parser.old parser.new result }
     {

@@ -1,2 +1,3 @@
 pub mod Octets
 pub mod Converts
+pub mod Causes

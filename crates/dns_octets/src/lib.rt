@@ -5,6 +5,7 @@
 
 mod error;
 mod join;
+pub mod laws;
 mod octets;
 
 pub use error::{AppendError, FormError, ParseError, ShortBuf};

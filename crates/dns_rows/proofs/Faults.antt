@@ -3,6 +3,7 @@ use Rattle.std.proofs.Common.{◌≡◌, ℕ, zero, suc, ◌+◌, ◌-◌, ◌*�
 use Rattle.std.proofs.lemmas.Bool.Decides.{nat_tests}
 use Rattle.std.proofs.lemmas.Grind.{common_steps}
 use Rattle.std.proofs.lemmas.Option.{slice_get_cases, slice_get_past}
+use Rattle.dns_octets.specs.declared.error.TheConstants.FormError.{BAD_LABEL, BAD_POINTER, LONG_NAME}
 use Rattle.dns_name.specs.Names.{head_at, head_of, max_size, Fault, Faulty, Labels, NameAt}
 use Rattle.dns_name.specs.Names.Fault.{ShortInput, Form}
 use Rattle.dns_name.specs.Names.Faulty.{head, long, cut, ahead, label, pointer}
@@ -18,17 +19,17 @@ use Rattle.dns_rows.specs.Rows.{target_in}
 use Rattle.dns_rows.specs.Walks.{IsLabelAt}
 
 -- where a name can be read, a label, pointer or root begins
-no_head : (b : List ℕ) (p : ℕ) (f : Fault) (name : Labels) → NameAt b p name → head_at b p ≡ Err f → f ≡ Form
+no_head : (b : List ℕ) (p : ℕ) (f : Fault) (name : Labels) → NameAt b p name → head_at b p ≡ Err f → ⊥
 no_head b p f name (NameAt.root h) k = cc (h, k)
 no_head b p f name (NameAt.label h w x z) k = cc (h, k)
 no_head b p f name (NameAt.pointer h w x) k = cc (h, k)
 
 -- a name that can be read has a fault only for its size
-form_of_encoded : (b : List ℕ) (p s : ℕ) (f : Fault) (name : Labels) → NameAt b p name → Faulty b p s f → f ≡ Form
-form_of_encoded b p s f name x (head k) = no_head b p f name x k
+form_of_encoded : (b : List ℕ) (p s : ℕ) (f : Fault) (name : Labels) → NameAt b p name → Faulty b p s f → f ≡ Form LONG_NAME
+form_of_encoded b p s f name x (head k) = absurd (no_head b p f name x k)
 form_of_encoded b p s f name x (long k w) = refl
 form_of_encoded b p s f name x (cut k w short) = let l = at_label b x k in absurd (omega (arith, l.fits, short))
-form_of_encoded b p s f name x (ahead k w) = refl
+form_of_encoded b p s f name x (ahead k w) = let l = at_pointer b x k in absurd (omega (arith, l.0, w))
 form_of_encoded b p s f name x (label {n = n} k short fits w) = let l = at_label b x k in form_of_encoded b (p + 1 + n) (s + n + 1) f l.others l.is_encoded w
 form_of_encoded b p s f name x (pointer {t = t} k back w) = form_of_encoded b t s f name (at_pointer b x k).1 w
 
@@ -50,11 +51,11 @@ fault_of_none b p s f g h (ahead k w) = cc (h, k)
 fault_of_none b p s f g h (label k short fits w) = cc (h, k)
 fault_of_none b p s f g h (pointer k back w) = cc (h, k)
 
-fault_of_long : (b : List ℕ) (p s n : ℕ) (f : Fault) → head_at b p ≡ Ok (Label n) → max_size < s + n + 1 → Faulty b p s f → f ≡ Form
+fault_of_long : (b : List ℕ) (p s n : ℕ) (f : Fault) → head_at b p ≡ Ok (Label n) → max_size < s + n + 1 → Faulty b p s f → f ≡ Form LONG_NAME
 fault_of_long b p s n f h far (head k) = cc (h, k)
 fault_of_long b p s n f h far (long k w) = refl
 fault_of_long b p s n f h far (cut {n = m} k w short) = let same : m ≡ n = cc (h, k) in absurd (omega (arith, far, w, same))
-fault_of_long b p s n f h far (ahead k w) = refl
+fault_of_long b p s n f h far (ahead k w) = cc (h, k)
 fault_of_long b p s n f h far (label {n = m} k short fits w) = let same : m ≡ n = cc (h, k) in absurd (omega (arith, far, short, same))
 fault_of_long b p s n f h far (pointer k back w) = cc (h, k)
 
@@ -67,9 +68,9 @@ fault_of_cut b p s n f h fits past (label {n = m} k short there w) = let same : 
 fault_of_cut b p s n f h fits past (pointer k back w) = cc (h, k)
 
 -- the faults at a pointer
-fault_of_ahead : (b : List ℕ) (p s t : ℕ) (f : Fault) → head_at b p ≡ Ok (Pointer t) → p ≤ t → Faulty b p s f → f ≡ Form
+fault_of_ahead : (b : List ℕ) (p s t : ℕ) (f : Fault) → head_at b p ≡ Ok (Pointer t) → p ≤ t → Faulty b p s f → f ≡ Form BAD_POINTER
 fault_of_ahead b p s t f h far (head k) = cc (h, k)
-fault_of_ahead b p s t f h far (long k w) = refl
+fault_of_ahead b p s t f h far (long k w) = cc (h, k)
 fault_of_ahead b p s t f h far (cut k w short) = cc (h, k)
 fault_of_ahead b p s t f h far (ahead k w) = refl
 fault_of_ahead b p s t f h far (label k short fits w) = cc (h, k)
@@ -87,10 +88,10 @@ past_head b p past = none_head b p (slice_get_past b p past)
 pub no_octet_there : (b : List ℕ) (p : ℕ) → slice_get b p ≡ None → length b ≤ p
 no_octet_there b p none = elim (slice_get_cases b p).1 [ inl x ↦ absurd (cc (none, x.2)) | inr x ↦ x.0 ]
 
-head_of_bad : (n : ℕ) (second : Option ℕ) → 64 ≤ n → n < 192 → head_of (Some n) second ≡ Err Form
+head_of_bad : (n : ℕ) (second : Option ℕ) → 64 ≤ n → n < 192 → head_of (Some n) second ≡ Err (Form BAD_LABEL)
 head_of_bad n second from to = grind (arith, nat_tests, common_steps)
 
-pub bad_head : (b : List ℕ) (p n : ℕ) → slice_get b p ≡ Some n → 64 ≤ n → n < 192 → head_at b p ≡ Err Form
+pub bad_head : (b : List ℕ) (p n : ℕ) → slice_get b p ≡ Some n → 64 ≤ n → n < 192 → head_at b p ≡ Err (Form BAD_LABEL)
 unfolding head_at
 bad_head b p n h from to = ap (λ (x : Option ℕ). head_of x (slice_get b (p + 1))) h ∙ head_of_bad n (slice_get b (p + 1)) from to
 
@@ -130,7 +131,7 @@ pub reports_name : (b : List ℕ) (of : NameOf) (start p : ℕ) (fault : RowFaul
 reports_name b of start p _ f (no_octet h) w = fault_of_none b p (p - start) f ShortInput (past_head b p h) w
 reports_name b of start p _ f (half_pointer k h) w = fault_of_none b p (p - start) f ShortInput h w
 reports_name b of start p _ f (cut_label {n = n} h fits past) w = fault_of_cut b p (p - start) n f h fits past w
-reports_name b of start p _ f (no_label h) w = fault_of_none b p (p - start) f Form h w
+reports_name b of start p _ f (no_label h) w = fault_of_none b p (p - start) f (Form BAD_LABEL) h w
 reports_name b of start p _ f (long_name {n = n} h far) w = fault_of_long b p (p - start) n f h far w
 reports_name b of start p _ f (ahead_pointer {t = t} h far) w = fault_of_ahead b p (p - start) t f h far w
 reports_name b of start p _ f (after_pointer h back no_name) w = tt

@@ -2,6 +2,7 @@
 --
 -- `b` is the octets that are seen, and `of` says which name it is.
 use Rattle.std.specs.Prelude.{◌≡◌, ℕ, ◌+◌, ◌-◌, ◌<◌, ◌≤◌, ⊤, List, length, Ok, Err}
+use Rattle.dns_octets.specs.declared.error.TheConstants.FormError.{BAD_LABEL, BAD_POINTER, LONG_NAME}
 use Rattle.dns_name.specs.Names.{Fault, FaultAt, Labels, NameAt, head_at, max_size}
 use Rattle.dns_name.specs.Names.Fault.{ShortInput, Form}
 use Rattle.dns_name.specs.declared.head.Head.TheVariants as heads
@@ -21,7 +22,7 @@ pub data StopsName (b : List ℕ) (of : NameOf) (start p : ℕ) : rows.Fault →
   -- a label runs past the end
   cut : {n : ℕ} → head_at b p ≡ Ok (heads.Label n) → (p - start) + n + 1 ≤ max_size → length b < p + 1 + n → StopsName b of start p (Short (fields.Label of))
   -- the octet begins neither a label nor a pointer
-  label : head_at b p ≡ Err Form → StopsName b of start p Label
+  label : head_at b p ≡ Err (Form BAD_LABEL) → StopsName b of start p Label
   -- the name is too long with this label
   long : {n : ℕ} → head_at b p ≡ Ok (heads.Label n) → max_size < (p - start) + n + 1 → StopsName b of start p LongName
   -- the pointer doesn't lead back
@@ -31,14 +32,14 @@ pub data StopsName (b : List ℕ) (of : NameOf) (start p : ℕ) : rows.Fault →
   -- the pointer leads to a name
   pointed : {t : ℕ} {name : Labels} → head_at b p ≡ Ok (heads.Pointer t) → t < p → NameAt b t name → StopsName b of start p LongPointer
 
--- The fault of the reading that belongs to a row's fault. For an incomplete field it is `ShortInput`, for a malformed name `Form`. For a pointer to a name that can't be read it is either. Octets after the last field of RDATA are no fault of the reading.
+-- The fault of the reading that belongs to a row's fault. For an incomplete field it is `ShortInput`, for a malformed name the cause. For a pointer to a name that can't be read it is any of them. Octets after the last field of RDATA are no fault of the reading.
 abbrev pub ReportsFault : rows.Fault → Fault → Type 0
 ReportsFault (Short field) f = f ≡ ShortInput
-ReportsFault Label f = f ≡ Form
-ReportsFault LongName f = f ≡ Form
-ReportsFault Pointer f = f ≡ Form
+ReportsFault Label f = f ≡ Form BAD_LABEL
+ReportsFault LongName f = f ≡ Form LONG_NAME
+ReportsFault Pointer f = f ≡ Form BAD_POINTER
 ReportsFault After f = ⊤
-ReportsFault LongPointer f = f ≡ Form
+ReportsFault LongPointer f = f ≡ Form LONG_NAME
 ReportsFault Trailing f = ⊥
 
 -- No name can be read at p. Its labels extend to `offset` and have these rows, and `fault` is why it can't be read further.

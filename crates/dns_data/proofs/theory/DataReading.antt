@@ -3,6 +3,7 @@ use Rattle.std.proofs.Common.{Bool, true, false, ◌≡◌, ℕ, ◌+◌, ◌-�
 use Rattle.std.proofs.lemmas.Bool.{cases_Bool}
 use Rattle.std.proofs.lemmas.Bool.Decides.{leb_tells}
 use Rattle.dns_name.specs.Names.{Fault, Labels, NameAt, FaultAt}
+use Rattle.dns_octets.specs.declared.error.TheConstants.FormError.{BAD_POINTER}
 use Rattle.dns_name.specs.Names.Fault.{ShortInput, Form}
 use Rattle.dns_wire.specs.Parts.{Part, parts_size}
 use Rattle.dns_wire.specs.Parts.Part.{Octets, CompressibleName, UncompressedName}
@@ -120,7 +121,7 @@ module _ (b : List ℕ) where
             | inl d ↦ inl (d.0, UncompressedName lowercased x.0 ∷ d.1, (w.0, x.1, w.1, d.2, refl, good))
             | inr f ↦ inr (f.0, inr (inr (x.0, w.0, x.1, w.1, f.1, good)))
           ]
-          | inr bad ↦ inr (Form, inr (inl (x.0, w.0, x.1, w.1, bad, refl)))
+          | inr bad ↦ inr (Form BAD_POINTER, inr (inl (x.0, w.0, x.1, w.1, bad, refl)))
         ]
     | inr f ↦ inr (f.0, inl f.1)
   ]

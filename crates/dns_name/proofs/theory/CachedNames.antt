@@ -5,10 +5,11 @@ use Rattle.std.proofs.lemmas.Option.{slice_get_past, slice_get-get_or}
 use Rattle.std.proofs.lemmas.Nat.{or_comm, or_shifted}
 use Rattle.std.specs.Prelude.{bit_or}
 use Rattle.std.proofs.lemmas.Bool.Decides.{leb_tells}
-use Rattle.dns_name.specs.Names.{Fault, Labels, name_size, max_size, head_of, head_at, label_at, NameAt, Faulty, FaultAt, NameContinues}
+use Rattle.dns_octets.specs.declared.error.TheConstants.FormError.{BAD_POINTER, LONG_NAME}
+use Rattle.dns_name.specs.Names.{Fault, Labels, name_size, max_size, head_of, head_at, label_at, NameAt, Faulty, FaultAt, NameContinues, LabelsTo}
 use Rattle.dns_name.specs.Names.Fault.{ShortInput, Form}
-use Rattle.dns_name.specs.CachedNames.{IsCached, LabelsTo, row_count, SkipsLabels, Measures, Arrives, LeadsBackTo}
-use Rattle.dns_name.specs.CachedNames.LabelsTo.{none, label}
+use Rattle.dns_name.specs.CachedNames.{IsCached, row_count, SkipsLabels, Measures, Arrives, LeadsBackTo}
+use Rattle.dns_name.specs.Names.LabelsTo.{none, label}
 use Rattle.dns_name.specs.Unique.{NameOfSizeAndCount, name_size-label_at, label_head}
 use Rattle.dns_name.specs.declared.head.Head.TheVariants.{Root, Label, Pointer}
 use Rattle.dns_name.specs.declared.cached_name.CachedName.{CachedName}
@@ -73,8 +74,8 @@ skipping_label b p s q r k n q' r' l h eq er short =
     }))
 
 -- A label makes the name too long.
-pub skipping_long : (b : List ℕ) (p s q r k n : ℕ) → SkippingLabels b p s q r k → head_at b q ≡ Ok (Label n) → max_size < r + n + 1 → Faulty b p s Form
-skipping_long b p s q r k n l h long = l.faults Form (Faulty.long h long)
+pub skipping_long : (b : List ℕ) (p s q r k n : ℕ) → SkippingLabels b p s q r k → head_at b q ≡ Ok (Label n) → max_size < r + n + 1 → Faulty b p s (Form LONG_NAME)
+skipping_long b p s q r k n l h long = l.faults (Form LONG_NAME) (Faulty.long h long)
 
 -- The consecutive labels that the walk has skipped.
 pub skipping_row : (b : List ℕ) (p s q r k : ℕ) → SkippingLabels b p s q r k → q < length b → RowOf b p s q r k
@@ -172,8 +173,8 @@ arrives_pointer b p q n t size count all number x back name short size_is count_
       within = omega arith;
     }
 
-pub fails_ahead : (b : List ℕ) (p s q n t : ℕ) → SkipsLabels b p s q n (Some t) → q ≤ t → Faulty b p s Form
-fails_ahead b p s q n t x ahead = row_faults b x.row Form (Faulty.ahead x.there ahead)
+pub fails_ahead : (b : List ℕ) (p s q n t : ℕ) → SkipsLabels b p s q n (Some t) → q ≤ t → Faulty b p s (Form BAD_POINTER)
+fails_ahead b p s q n t x ahead = row_faults b x.row (Form BAD_POINTER) (Faulty.ahead x.there ahead)
 
 pub fails_after : (b : List ℕ) (p q n t : ℕ) (f : Fault) → SkipsLabels b p 0 q n (Some t) → t < q → Faulty b t (q - p) f → FaultAt b p f
 fails_after b p q n t f x back m =

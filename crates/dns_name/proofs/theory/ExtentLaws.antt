@@ -2,6 +2,7 @@
 use Rattle.std.proofs.Common.{◌≡◌, ℕ, zero, suc, ◌+◌, ◌-◌, ◌<◌, ◌≤◌, ◌⊎◌, inl, inr, List, length, arith, sym, refl, subst}
 use Rattle.std.specs.Prelude.{Result, Ok, Err}
 use Rattle.std.proofs.lemmas.Bool.Decides.{leb_tells}
+use Rattle.dns_octets.specs.declared.error.TheConstants.FormError.{LONG_NAME}
 use Rattle.dns_name.specs.Names.{Fault, Labels, name_size, max_size, head_at, NameAt, Faulty, NameContinues, SkipFaulty}
 use Rattle.dns_name.specs.Names.Fault.{ShortInput, Form}
 use Rattle.dns_name.specs.Names.SkipFaulty.{head, long, cut, label}
@@ -73,7 +74,7 @@ module _ (b : List ℕ) where
           | inl v ↦ after p s n e w.1 v.1 (rec (p + 1 + n) (s + n + 1) (omega arith) w.1)
           | inr v ↦ inr (ShortInput, cut e w.1 (omega (arith, v.1)))
         ]
-        | inr w ↦ inr (Form, long e (omega (arith, w.1)))
+        | inr w ↦ inr (Form LONG_NAME, long e (omega (arith, w.1)))
       ]
   go p s rec (Ok (Pointer t)) e = inl (p + 2, NameContinues.pointer e)
 

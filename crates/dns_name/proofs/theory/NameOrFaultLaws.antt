@@ -2,6 +2,7 @@
 use Rattle.std.proofs.Common.{◌≡◌, ℕ, zero, suc, ◌+◌, ◌-◌, ◌*◌, ◌<◌, ◌≤◌, ◌⊎◌, inl, inr, List, [], ◌∷◌, length, arith, ap, sym, ◌∙◌, refl, subst}
 use Rattle.std.specs.Prelude.{Result, Ok, Err}
 use Rattle.std.proofs.lemmas.Bool.Decides.{leb_tells}
+use Rattle.dns_octets.specs.declared.error.TheConstants.FormError.{BAD_POINTER, LONG_NAME}
 use Rattle.dns_name.specs.Names.{Fault, Labels, name_size, max_size, head_at, NameAt, Faulty, label_at}
 use Rattle.dns_name.specs.Names.Fault.{ShortInput, Form}
 use Rattle.dns_name.specs.Names.Faulty.{head, long, cut, ahead, label, pointer}
@@ -32,24 +33,24 @@ module _ (b : List ℕ) where
 
   -- How a fault arises at a label: the name is too long, the label runs past the end, or the fault is after it.
   abbrev AtLabel : ℕ → ℕ → ℕ → Fault → Type 0
-  AtLabel p s n f = ((max_size < s + n + 1) × (f ≡ Form)) ⊎ (((s + n + 1 ≤ max_size) × (length b < p + 1 + n) × (f ≡ ShortInput)) ⊎ ((s + n + 1 ≤ max_size) × (p + 1 + n ≤ length b) × Faulty b (p + 1 + n) (s + n + 1) f))
+  AtLabel p s n f = ((max_size < s + n + 1) × (f ≡ Form LONG_NAME)) ⊎ (((s + n + 1 ≤ max_size) × (length b < p + 1 + n) × (f ≡ ShortInput)) ⊎ ((s + n + 1 ≤ max_size) × (p + 1 + n ≤ length b) × Faulty b (p + 1 + n) (s + n + 1) f))
 
   fault_label : {p s n : ℕ} {f : Fault} → Faulty b p s f → head_at b p ≡ Ok (Label n) → AtLabel p s n f
   fault_label (head h) e = cc
-  fault_label {p = p} {s = s} (long {n = k} h big) e = let P : ℕ → Type 0 = λ n. AtLabel p s n Form in subst P (cc) (inl (big, refl))
+  fault_label {p = p} {s = s} (long {n = k} h big) e = let P : ℕ → Type 0 = λ n. AtLabel p s n (Form LONG_NAME) in subst P (cc) (inl (big, refl))
   fault_label {p = p} {s = s} (cut {n = k} h small short) e = let P : ℕ → Type 0 = λ n. AtLabel p s n ShortInput in subst P (cc) (inr (inl (small, short, refl)))
   fault_label (ahead h far) e = cc
   fault_label {p = p} {s = s} (label {n = k} {f = f} h small fits x) e = let P : ℕ → Type 0 = λ n. AtLabel p s n f in subst P (cc) (inr (inr (small, fits, x)))
   fault_label (pointer h back f) e = cc
 
   abbrev AtPointer : ℕ → ℕ → ℕ → Fault → Type 0
-  AtPointer p s t f = ((p ≤ t) × (f ≡ Form)) ⊎ ((t < p) × Faulty b t s f)
+  AtPointer p s t f = ((p ≤ t) × (f ≡ Form BAD_POINTER)) ⊎ ((t < p) × Faulty b t s f)
 
   fault_pointer : {p s t : ℕ} {f : Fault} → Faulty b p s f → head_at b p ≡ Ok (Pointer t) → AtPointer p s t f
   fault_pointer (head h) e = cc
   fault_pointer (long h big) e = cc
   fault_pointer (cut h small short) e = cc
-  fault_pointer {p = p} {s = s} (ahead {t = k} h far) e = let P : ℕ → Type 0 = λ t. AtPointer p s t Form in subst P (cc) (inl (far, refl))
+  fault_pointer {p = p} {s = s} (ahead {t = k} h far) e = let P : ℕ → Type 0 = λ t. AtPointer p s t (Form BAD_POINTER) in subst P (cc) (inl (far, refl))
   fault_pointer (label h small fits x) e = cc
   fault_pointer {p = p} {s = s} (pointer {t = k} {f = f} h back x) e = let P : ℕ → Type 0 = λ t. AtPointer p s t f in subst P (cc) (inr (back, x))
 
@@ -99,10 +100,10 @@ module _ (b : List ℕ) where
           | inl v ↦ after p s n e w.1 v.1 (rec (p + 1 + n) (s + n + 1) w.1 (less_after p s n (label_head b p n e).some w.1 v.1))
           | inr v ↦ inr (ShortInput, cut e w.1 (omega (arith, v.1)))
         ]
-        | inr w ↦ inr (Form, long e (omega (arith, w.1)))
+        | inr w ↦ inr (Form LONG_NAME, long e (omega (arith, w.1)))
       ]
   go p s small rec (Ok (Pointer t)) e =
-      elim (leb_tells p t) [ inl w ↦ inr (Form, ahead e w.1) | inr w ↦ at p s t e (omega (arith, w.1)) (rec t s small (omega (arith, w.1))) ]
+      elim (leb_tells p t) [ inl w ↦ inr (Form BAD_POINTER, ahead e w.1) | inr w ↦ at p s t e (omega (arith, w.1)) (rec t s small (omega (arith, w.1))) ]
 
   answer : (k p s : ℕ) → s ≤ max_size → left p s < k → Answer p s
   answer zero p s small h = absurd (omega arith)

@@ -5,7 +5,7 @@ use Rattle.std.proofs.lemmas.List.{take-append-drop, drop-drop}
 use Rattle.std.proofs.lemmas.List.Elements.{All-head, All-tail}
 use Rattle.std.proofs.lemmas.Option.{get_or_from_slice_get, slice_get_within}
 use Rattle.std.proofs.Math.Seq.{drop-cons, drop-append_seam, take-append_seam}
-use Rattle.dns_name.specs.Names.{Fault, Labels, IsLabel, IsName, name_size, max_size, uncompressed, head_at, Begins, NameAt, label_at, SkipFaulty}
+use Rattle.dns_name.specs.Names.{Fault, Labels, IsLabel, IsName, name_size, max_size, uncompressed, head_at, Begins, NameAt, label_at, LabelsTo, SkipFaulty}
 use Rattle.dns_name.specs.Uncompressed.{IsUncompressed, WholeName, WholeName-prop}
 use Rattle.dns_name.specs.declared.head.Head.TheVariants.{Root, Label, Pointer}
 use Rattle.dns_name.specs.Unique.{EncodedName, same_name, name_size-label_at, length_label, encoded_name}
@@ -95,12 +95,14 @@ pub record Rest (b : List ℕ) (at : ℕ) : Type 0 where
 -- The progress of a test whether the octets are one whole name: labels take all octets before `at`.
 pub record UncompressedUpTo (b : List ℕ) (at : ℕ) : Type 0 where
   pub skips : Skips b 0 at at
+  pub rows : (q r : ℕ) → LabelsTo b at at q r → LabelsTo b 0 0 q r
   pub whole : (name : Labels) → NameAt b at name → at + name_size name ≤ max_size → uncompressed name ≡ drop at b → WholeName b
   pub rest : IsUncompressed b → Rest b at
 
 pub up_to_none : (b : List ℕ) → UncompressedUpTo b 0
 up_to_none b = record {
   skips = skips_none b 0;
+  rows = λ q r row. row;
   whole = λ name s small e. ((name, s), e);
   rest = λ u. record { name = u.0; is_name = u.1; octets = u.2; short = omega (arith, u.1.short) };
 }
@@ -123,7 +125,10 @@ pub up_to_label : (b : List ℕ) (at n at' : ℕ) → UncompressedUpTo b at → 
 up_to_label b at n at' s h e =
     let fits : at + 1 + n ≤ length b = h.fits n refl in
     let same : length (label_at b at n) ≡ n = length_label b at n fits in
+    let short : at + n + 1 ≤ max_size = h.short n refl in
+    let size : at' ≡ at + n + 1 = omega arith in
     record {
+      rows = λ q r row. s.rows q r (LabelsTo.label h.there short fits (subst (λ k. LabelsTo b k (at + n + 1) q r) e (subst (λ k. LabelsTo b at' k q r) size row)));
       skips = skips_label b 0 at at n at' at' s.skips h (omega arith) e;
       whole = λ name m small octets.
           let after : NameAt b (at + 1 + n) name = subst (λ k. NameAt b k name) e m in
@@ -132,6 +137,10 @@ up_to_label b at n at' s h e =
           (ap (λ k. k ∷ (label_at b at n ++ uncompressed name)) same ∙ ap (λ (c : List ℕ). n ∷ (label_at b at n ++ c)) (octets ∙ ap (λ k. drop k b) e) ∙ sym (drop_label b at n h.there));
       rest = λ u. rest_label b at n at' (s.rest u) h.there e;
     }
+
+-- Labels take the octets before `at`.
+pub up_to_labels : (b : List ℕ) (at : ℕ) → UncompressedUpTo b at → LabelsTo b 0 0 at at
+up_to_labels b at s = s.rows at at LabelsTo.none
 
 -- If the octets end with the root label, they are one whole name.
 pub up_to_root : (b : List ℕ) (at : ℕ) → UncompressedUpTo b at → head_at b at ≡ Ok Root → length b ≡ at + 1 → WholeName b

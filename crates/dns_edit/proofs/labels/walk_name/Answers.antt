@@ -8,24 +8,24 @@ use Rattle.dns_edit.specs.Pointers.{PointsTo}
 use Rattle.dns_edit.proofs.WalkLemmas.{walking_label, walked_root, walked_pointer, walked_nowhere}
 use Rattle.dns_edit.proofs.labels.walk_name.Goals as goal
 
-pub returns-in_err-head_after-clause-refuses : goal.returns-in_err-head_after-clause-refuses
-returns-in_err-head_after-clause-refuses c =
+pub returns-in_err-after-clause-refuses : goal.returns-in_err-after-clause-refuses
+returns-in_err-after-clause-refuses c =
     let p = err_from_is_err_and c.from_residual.result c.from_residual.ensures.1 in
-    rw (p.1, p.2) (λ names m. c.walk.invariant.0.faults _ c.in_err-head_after.ensures.begins)
+    rw (p.1, p.2) (λ names m. c.walk.invariant.0.faults _ c.in_err-after.ensures.begins)
 
 pub returns-in-Root-clause-ends : goal.returns-in-Root-clause-ends
 returns-in-Root-clause-ends c =
-    let h : head_at c.args.octets.now c.walk.pos ≡ Ok Root = cc (c.in_ok-head_after.ensures.begins.there, c.in-Root.is) in
+    let h : head_at c.args.octets.now c.walk.pos ≡ Ok Root = cc (c.in_ok-after.ensures.begins.there, c.in-Root.is) in
     (skips_root _ _ _ _ _ c.walk.invariant.0 h refl).0
 
 pub returns-in-Root-clause-accepts : goal.returns-in-Root-clause-accepts
 returns-in-Root-clause-accepts c =
-    let h : head_at c.args.octets.now c.walk.pos ≡ Ok Root = cc (c.in_ok-head_after.ensures.begins.there, c.in-Root.is) in
+    let h : head_at c.args.octets.now c.walk.pos ≡ Ok Root = cc (c.in_ok-after.ensures.begins.there, c.in-Root.is) in
     walked_root _ _ _ _ _ _ c.walk.invariant.1 h (skips_root _ _ _ _ _ c.walk.invariant.0 h refl).0
 
 pub walk-preserved : goal.walk-preserved
 walk-preserved c =
-    let h : Begins c.args.octets.now c.walk.pos c.walk.size (Label c.in-Label.len) = rw c.in-Label.is at c.in_ok-head_after.ensures.begins in
+    let h : Begins c.args.octets.now c.walk.pos c.walk.size (Label c.in-Label.len) = rw c.in-Label.is at c.in_ok-after.ensures.begins in
     let e : c.from-taken.result ≡ c.in-Label.len = c.from-taken.ensures in
     let to : c.walk.pos + (c.from-taken.result + 1) ≡ c.walk.pos + 1 + c.in-Label.len = omega arith in
     let size : c.walk.size + (c.from-taken.result + 1) ≡ c.walk.size + c.in-Label.len + 1 = omega arith in
@@ -33,17 +33,17 @@ walk-preserved c =
 
 pub returns-then-is_marked_before-clause-ends : goal.returns-then-is_marked_before-clause-ends
 returns-then-is_marked_before-clause-ends c =
-    let h : head_at c.args.octets.now c.walk.pos ≡ Ok (Pointer c.in-Pointer.target) = cc (c.in_ok-head_after.ensures.begins.there, c.in-Pointer.is) in
+    let h : head_at c.args.octets.now c.walk.pos ≡ Ok (Pointer c.in-Pointer.target) = cc (c.in_ok-after.ensures.begins.there, c.in-Pointer.is) in
     (skips_pointer _ _ _ _ _ _ c.walk.invariant.0 h refl).0
 
 pub returns-then-is_marked_before-clause-within : goal.returns-then-is_marked_before-clause-within
 returns-then-is_marked_before-clause-within c =
-    let h : head_at c.args.octets.now c.walk.pos ≡ Ok (Pointer c.in-Pointer.target) = cc (c.in_ok-head_after.ensures.begins.there, c.in-Pointer.is) in
+    let h : head_at c.args.octets.now c.walk.pos ≡ Ok (Pointer c.in-Pointer.target) = cc (c.in_ok-after.ensures.begins.there, c.in-Pointer.is) in
     (skips_pointer _ _ _ _ _ _ c.walk.invariant.0 h refl).1
 
 pub returns-then-is_marked_before-clause-accepts : goal.returns-then-is_marked_before-clause-accepts
 returns-then-is_marked_before-clause-accepts c =
-    let h : head_at c.args.octets.now c.walk.pos ≡ Ok (Pointer c.in-Pointer.target) = cc (c.in_ok-head_after.ensures.begins.there, c.in-Pointer.is) in
+    let h : head_at c.args.octets.now c.walk.pos ≡ Ok (Pointer c.in-Pointer.target) = cc (c.in_ok-after.ensures.begins.there, c.in-Pointer.is) in
     let e : c.from.result ≡ c.in-Pointer.target = c.from.ensures in
     let ends = (skips_pointer _ _ _ _ _ _ c.walk.invariant.0 h refl).0 in
     let set = c.is_marked_before.ensures.0 c.if-is_marked_before.true in
@@ -52,9 +52,9 @@ returns-then-is_marked_before-clause-accepts c =
 
 pub returns-in-Pointer-clause-refuses : goal.returns-in-Pointer-clause-refuses
 returns-in-Pointer-clause-refuses c =
-    let h : head_at c.args.octets.now c.walk.pos ≡ Ok (Pointer c.in-Pointer.target) = cc (c.in_ok-head_after.ensures.begins.there, c.in-Pointer.is) in
+    let h : head_at c.args.octets.now c.walk.pos ≡ Ok (Pointer c.in-Pointer.target) = cc (c.in_ok-after.ensures.begins.there, c.in-Pointer.is) in
     let e : c.from.result ≡ c.in-Pointer.target = c.from.ensures in
-    let small : c.in-Pointer.target < pointer_end = c.in_ok-head_after.ensures.range c.in-Pointer.target c.in-Pointer.is in
+    let small : c.in-Pointer.target < pointer_end = rw c.in-Pointer.is at c.in_ok-after.ensures.in_reach in
     let unmarked : (c.in-Pointer.target < c.args.start) × (get_or c.walk.marks c.in-Pointer.target false ≡ true) → ⊥ =
     λ x. let yes = c.is_marked_before.ensures.1 (subst (λ t. (t < c.args.start) × (get_or c.walk.marks t false ≡ true)) (sym e) x) in let no = c.if-is_marked_before.false in cc in
     λ names m. (
