@@ -3,3 +3,4 @@ mod SectionLemmas
 mod FlagsLemmas
 mod TokensLemmas
 mod OctetsLemmas
+mod FlagsEquality

@@ -1,6 +1,7 @@
 -- The text of flags: tokens separated by single spaces, each empty or the name of a flag, ignoring ASCII case.
 use Rattle.std.specs.Prelude.{ℕ, Bool, true, false, ◌==◌, ◌||◌, List, [], ◌∷◌, length, codes, Option, Some, None, if◌then◌else◌}
 use Rattle.std.specs.Borrow.{Bor}
+use Rattle.std.specs.Hash as fed
 use Rattle.std.specs.List.{flat_map, list_all, list_any, slice_split, join_with_byte}
 use Rattle.std.specs.Str.{str_eq_ignore_ascii_case}
 use Rattle.dns_code.specs.declared.flags.Flags.{Flags}
@@ -70,3 +71,11 @@ joined ts = join_with_byte space ts
 -- the printed text of flags
 abbrev pub flags_text : Flags → List ℕ
 flags_text flags = joined (set_names flags)
+
+-- no flag is set
+abbrev pub no_flags : Flags
+no_flags = record { qr = false; aa = false; tc = false; rd = false; ra = false; ad = false; cd = false }
+
+-- what flags feed a hasher: each of them, in the order in which they are printed
+abbrev pub flags_hash_input : Flags → fed.HashWrites
+flags_hash_input flags = flat_map fed.bool (flags.qr ∷ flags.aa ∷ flags.tc ∷ flags.rd ∷ flags.ra ∷ flags.ad ∷ flags.cd ∷ [])

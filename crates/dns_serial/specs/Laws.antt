@@ -1,10 +1,15 @@
 -- What sums and comparisons of serials have in common with those of numbers. RFC 1982 section 3.
 use Rattle.std.specs.Prelude.{◌≡◌, ℕ, ◌+◌, ◌^◌, ◌<◌, ◌≤◌, ◌⊎◌, ◌↔◌}
 use Rattle.dns_serial.specs.Serials.{serial_sum, IsLess, IsGreater}
+use Rattle.dns_serial.specs.declared.serial.TheConstants.Serial.{MAX_ADDEND}
 
 -- a sum with 1 to 2^31 - 1 is greater than the serial
 abbrev pub SumsAreGreater : Type 0
 SumsAreGreater = (s n : ℕ) → s < 2 ^ 32 → 1 ≤ n → n < 2 ^ 31 → IsGreater (serial_sum s n) s
+
+-- a sum with the number after `MAX_ADDEND` is not greater than the serial
+abbrev pub NoGreaterAddend : Type 0
+NoGreaterAddend = (s : ℕ) → s < 2 ^ 32 → ¬ IsGreater (serial_sum s (MAX_ADDEND + 1)) s
 
 -- a serial is greater than another if the other is less than it
 abbrev pub GreaterIsLessExchanged : Type 0

@@ -1,4 +1,4 @@
-ghost use Rattle.std.specs.Prelude.{◌≡◌, ◌↔◌, ℕ, ◌≤◌, Some, decimal};
+ghost use Rattle.std.specs.Prelude.{◌≡◌, ◌↔◌, ℕ, ◌<◌, ◌≤◌, Some, decimal};
 ghost use Rattle.dns_serial.specs.Serials.{serial_sum, IsLess, IsGreater};
 
 use std::cmp::Ordering;
@@ -41,11 +41,12 @@ impl Serial {
         self.0
     }
 
-    /// The sum, modulo 2^32 (RFC 1982 section 3.1). Requires that the addend is at most
-    /// `MAX_ADDEND`.
+    /// The sum, modulo 2^32 (RFC 1982 section 3.1). It is greater than this serial unless the addend
+    /// is 0. Requires that the addend is at most `MAX_ADDEND`.
     pub fn add(self, addend: u32) -> Self
         requires { addend ≤ Self.MAX_ADDEND }
-        ensures { result ≡ serial_sum self addend }
+        ensures sum { result ≡ serial_sum self addend }
+        ensures greater { 0 < addend → IsGreater result self }
     {
         Serial(self.0.wrapping_add(addend))
     }

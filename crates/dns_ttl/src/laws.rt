@@ -1,7 +1,10 @@
-//! A theorem on the constants of a TTL: the contract is the theorem.
-ghost use Rattle.std.specs.Prelude.{◌≡◌, ◌∷◌, []};
+//! Theorems on the constants of a TTL and on how TTLs compare. Each contract is a theorem.
+ghost use Rattle.std.specs.Prelude.{◌≡◌, ◌↔◌, ◌∷◌, [], IsTrue, Some};
+ghost use Rattle.std.specs.Hash as fed;
+ghost use Rattle.std.specs.Ordering.{nat_cmp};
 
 use crate::ttl::Ttl;
+use std::hash::Hash;
 
 /// The seconds of `SECOND`, `MINUTE`, `HOUR` and `DAY`.
 pub fn ttl_units() -> [u32; 4]
@@ -14,3 +17,30 @@ pub fn ttl_units() -> [u32; 4]
         Ttl::DAY.as_secs(),
     ]
 }
+
+/// Two TTLs are equal if and only if their seconds are.
+pub fn ttl_equality()
+    ensures { (a b : _) → IsTrue (⟦<Ttl as PartialEq>⟧.eq a b) ↔ (a ≡ b) }
+{}
+
+/// TTLs are ordered by their seconds.
+pub fn ttl_order()
+    ensures total { ⟦<Ttl as Ord>⟧.cmp ≡ nat_cmp }
+    ensures partial { (a b : _) → ⟦<Ttl as PartialOrd>⟧.partial_cmp a b ≡ Some (nat_cmp a b) }
+{}
+
+/// Hashing feeds the hasher the seconds, and nothing else.
+pub fn ttl_hash()
+    ensures { ⟦<Ttl as Hash>⟧.hash_input ≡ fed.u32 }
+{}
+
+/// A clone is the same TTL, and cloning never fails.
+pub fn ttl_clone()
+    ensures same { (a b : _) → ⟦<Ttl as Clone>⟧.is_clone a b → b ≡ a }
+    ensures always { (a : _) → ⟦<Ttl as Clone>⟧.is_infallible a }
+{}
+
+/// The default is zero seconds.
+pub fn ttl_default()
+    ensures { (ttl : _) → ⟦<Ttl as Default>⟧.is_default ttl → ttl ≡ 0 }
+{}

@@ -402,7 +402,6 @@ impl Rtype {
     pub const DLV: Rtype = Rtype(32769);
 
     /// The name that IANA has registered for the record type. 255, the registry's `*`, is `ANY`.
-    #[tactic(auto, unfolding(crate::specs::Registry::registered_types))]
     pub fn registered_name(self) -> Option<&'static str>
         ensures { option_copied result ≡ mnemonic registered_types self }
     {
