@@ -1,4 +1,5 @@
 mod Base32Lemmas
 mod HexTexts
+mod HexWords
 mod StringSteps
 mod TimeLemmas

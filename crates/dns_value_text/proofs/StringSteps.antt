@@ -1,5 +1,8 @@
 -- The steps of reading a string.
-use Rattle.std.proofs.Common.{◌≡◌, ◌∙◌, ℕ, List, [], ◌∷◌, ◌++◌, Some, length, refl, sym, ap, subst, arith, append_assoc, append-nil}
+use Rattle.std.proofs.Common.{◌≡◌, ◌∙◌, ◌⊎◌, inl, inr, ℕ, List, [], ◌∷◌, ◌++◌, Some, length, refl, sym, ap, subst, arith, append_assoc, append-nil, length-append}
+use Rattle.dns_value_text.specs.declared.text_error.TextError.{TextError}
+use Rattle.dns_value_text.specs.declared.text_error.TextError.TheVariants.{BadWord, OutOfMemory}
+use Rattle.dns_value_text.specs.Reading.{IsFailure, TakesMemory}
 use Rattle.dns_value_text.specs.Strings.{SpellsOctets, octet_at}
 use Rattle.dns_value_text.specs.Strings.SpellsOctets.{none, more}
 
@@ -37,6 +40,26 @@ octet_read whole octets left after octet r e = record {
       let f = first_spelled left after b.0 octet e b.2 in
       (f.0, b.1 ∙ ap (λ xs. octets ++ xs) f.1 ∙ sym (append_assoc octets (octet ∷ []) f.0), f.2);
 }
+
+-- an allocation for one octet more fails: the error is that of the text after it
+pub failed_reads : (whole octets left after : List ℕ) (octet : ℕ) (error : TextError) → IsRead whole octets left → octet_at left ≡ Some (octet, after)
+    → IsFailure (SpellsOctets after) error → (error ≡ OutOfMemory) ⊎ ((error ≡ BadWord) × ((all : List ℕ) → ¬ SpellsOctets whole all))
+failed_reads whole octets left after octet error r e (inl out) = inl out.0
+failed_reads whole octets left after octet error r e (inr bad) = inr (
+  bad.0,
+  λ all h.
+      let b = r.begins all h in
+      let f = first_spelled left after b.0 octet e b.2 in
+      bad.1 f.0 f.2,
+)
+
+-- it is `OutOfMemory` only if the whole text represents octets
+pub failed_full : (whole octets left after : List ℕ) (octet : ℕ) (error : TextError) → IsRead whole octets left → octet_at left ≡ Some (octet, after)
+    → IsFailure (SpellsOctets after) error → error ≡ OutOfMemory → TakesMemory (SpellsOctets whole)
+failed_full whole octets left after octet error r e (inl out) is =
+    let others : List ℕ = out.1.0 in
+    (octets ++ octet ∷ others, r.completes (octet ∷ others) (more e out.1.1), simp length-append (omega arith))
+failed_full whole octets left after octet error r e (inr bad) is = cc (sym bad.0 ∙ is)
 
 -- all is read
 pub all_read : (whole octets left : List ℕ) → IsRead whole octets left → length left ≡ 0 → SpellsOctets whole octets

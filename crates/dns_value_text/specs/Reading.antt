@@ -1,5 +1,5 @@
 -- What reading a word returns.
-use Rattle.std.specs.Prelude.{◌≡◌, ◌⊎◌, ℕ, List, Result, MatchResult}
+use Rattle.std.specs.Prelude.{◌≡◌, ◌<◌, ◌⊎◌, ℕ, List, Result, MatchResult, length}
 use Rattle.std.specs.Global.{Vec}
 use Rattle.dns_value_text.specs.declared.text_error.TextError.{TextError}
 use Rattle.dns_value_text.specs.declared.text_error.TextError.TheVariants.{BadWord, OutOfMemory}
@@ -9,3 +9,12 @@ abbrev pub ReadsOctets : (List ℕ → Type 0) → Result (Vec ℕ) TextError �
 ReadsOctets Represents result =
     MatchResult result (λ octets. Represents octets.items)
     (λ error. (error ≡ OutOfMemory) ⊎ ((error ≡ BadWord) × ((octets : List ℕ) → ¬ Represents octets)))
+
+-- The word represents octets, at least one: they take memory.
+abbrev pub TakesMemory : (List ℕ → Type 0) → Type 0
+TakesMemory Represents = (octets : List ℕ) × Represents octets × (0 < length octets)
+
+-- Why octets are not read once an allocation fails: `OutOfMemory` if the text represents some, else `BadWord`.
+abbrev pub IsFailure : (List ℕ → Type 0) → TextError → Type 0
+IsFailure Represents error =
+    ((error ≡ OutOfMemory) × ((octets : List ℕ) × Represents octets)) ⊎ ((error ≡ BadWord) × ((octets : List ℕ) → ¬ Represents octets))

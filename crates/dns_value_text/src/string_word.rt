@@ -1,8 +1,8 @@
 //! Character strings (RFC 1035 section 5.1).
 ghost use Rattle.std.specs.Char.{is_ascii_digit};
 ghost use Rattle.std.specs.Prelude.{◌≡◌, MatchOption, true};
-ghost use Rattle.dns_value_text.specs.Reading.{ReadsOctets};
-ghost use Rattle.dns_value_text.specs.Strings.{SpellsString, decimal_at, octet_at, unquoted};
+ghost use Rattle.dns_value_text.specs.Reading.{IsFailure, ReadsOctets, TakesMemory};
+ghost use Rattle.dns_value_text.specs.Strings.{SpellsOctets, SpellsString, decimal_at, octet_at, unquoted};
 
 use crate::text_error::TextError;
 use std::alloc::Global;
@@ -63,9 +63,25 @@ fn unquoted(word: &[u8]) -> &[u8]
     }
 }
 
+/// Why a string isn't read after an allocation fails: `BadWord` if the remaining text represents no
+/// octets, else `OutOfMemory`.
+fn failure(text: &[u8]) -> TextError
+    ensures { IsFailure (SpellsOctets text.now) result }
+{
+    let mut left = text;
+    'octets: while !left.is_empty() {
+        let Some((_octet, after)) = split_octet(left) else {
+            return TextError::BadWord;
+        };
+        left = after;
+    }
+    TextError::OutOfMemory
+}
+
 /// The octets of a string, in quotes or without.
 pub fn read_string(alloc: Global, word: &[u8]) -> Result<Vec<u8>, TextError>
-    ensures { ReadsOctets (SpellsString word.now) result }
+    ensures reads { ReadsOctets (SpellsString word.now) result }
+    ensures full { result ≡ Err TextError.OutOfMemory → TakesMemory (SpellsString word.now) }
 {
     let mut octets = Vec::new(alloc);
     let mut left = unquoted(word);
@@ -74,7 +90,7 @@ pub fn read_string(alloc: Global, word: &[u8]) -> Result<Vec<u8>, TextError>
             return Err(TextError::BadWord);
         };
         if octets.push(octet).is_err() {
-            return Err(TextError::OutOfMemory);
+            return Err(failure(after));
         }
         left = after;
     }

@@ -1,4 +1,4 @@
-ghost use Rattle.std.specs.Prelude.{◌≡◌, ◌+◌, ◌<◌, ◌≤◌, ℕ, Bool, Option, Some, None, true, false, length, refl, IfOk, OnErr, IsTrue, vec_len, vec_capacity};
+ghost use Rattle.std.specs.Prelude.{◌≡◌, ◌+◌, ◌<◌, ◌≤◌, ℕ, Bool, Option, Some, None, true, false, length, max, refl, IfOk, OnErr, IsTrue, vec_len, vec_capacity};
 ghost use Rattle.dns_name.specs.Names.{uncompressed};
 ghost use Rattle.dns_wire.specs.Encoders.{IsClear, nothing, Rule, Plain, compresses, encode_octets, encode_name};
 ghost use Rattle.dns_wire.specs.Targets.{Written, IsTarget, Fits, Appends, cut_to, overwrite, with_empty_table};
@@ -84,6 +84,18 @@ pub trait CloneTarget: Composer + Sized {
 /// message over UDP (RFC 1035 section 4.2.1).
 const FIRST_CAPACITY: usize = 512;
 
+/// Reserves the first capacity of a vector without capacity, if that allocation succeeds.
+fn reserve_first(octets: &mut Vec<u8>)
+    ensures items { octets.new.items ≡ octets.old.items }
+    ensures capacity { vec_capacity octets.old ≤ vec_capacity octets.new }
+    ensures bounded { vec_capacity octets.new ≤ max (vec_capacity octets.old) FIRST_CAPACITY }
+{
+    if octets.capacity() == 0 {
+        // If this allocation fails, a smaller one may still succeed.
+        let _ = octets.reserve_exact(FIRST_CAPACITY);
+    }
+}
+
 impl Composer for Vec<u8> {
     ghost rule = { Plain };
 
@@ -105,10 +117,7 @@ impl Composer for Vec<u8> {
         ensures full { result ≡ Err AppendError.OutOfMemory
             → vec_capacity self.old < vec_len self.old + length octets.now }
     {
-        if self.capacity() == 0 {
-            // If this allocation fails, a smaller one for `octets` may still succeed.
-            let _ = self.reserve(FIRST_CAPACITY);
-        }
+        reserve_first(self);
         self.extend_from_slice(octets)
             .map_err(|_| AppendError::OutOfMemory)
     }
@@ -149,8 +158,13 @@ impl FreezeBuilder for Vec<u8> {
 }
 
 impl CloneTarget for Vec<u8> {
-    fn clone_target(&self) -> Result<Self, AllocError> {
-        Vec::clone(self)
+    fn clone_target(&self) -> Result<Self, AllocError>
+        ensures equal { IfOk result (λ clone. clone.items ≡ self.now.items) }
+        ensures full { OnErr result (0 < vec_len self.now) }
+    {
+        let mut clone = Vec::with_capacity(*self.allocator(), self.len())?;
+        clone.extend_from_slice(self)?;
+        Ok(clone)
     }
 }
 

@@ -9,5 +9,5 @@ returns-then-len-gt-MOST_OCTETS c =
     let long : 255 < length c.in-Ok.string.items = grind (arith, common_steps) in
     inr (
       refl,
-      long_string c.args.word.now c.in-Ok.string.items (subst (λ (text : List ℕ). SpellsString text c.in-Ok.string.items) c.as_bytes.ensures.value c.in-Ok.ensures) long,
+      long_string c.args.word.now c.in-Ok.string.items (subst (λ (text : List ℕ). SpellsString text c.in-Ok.string.items) c.as_bytes.ensures.value c.in-Ok.ensures.reads) long,
     )

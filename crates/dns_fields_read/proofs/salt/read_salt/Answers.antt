@@ -25,4 +25,4 @@ pub returns : goal.returns
 returns c =
     let other = not_hyphen c.args.word.now (sym c.eq.ensures ∙ c.if-eq.false) in
     let some = eqb-false (length c.args.word.now) 0 (sym c.is_empty.ensures ∙ c.if-is_empty.false) in
-    salt_read c.args.word.now c.read_hex.result other (omega arith) c.if-word-gt-MOST_HEX_DIGITS.false c.read_hex.ensures
+    salt_read c.args.word.now c.read_hex.result other (omega arith) c.if-word-gt-MOST_HEX_DIGITS.false c.read_hex.ensures.reads
