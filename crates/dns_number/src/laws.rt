@@ -333,8 +333,10 @@ pub fn number_partial_orders()
     ensures classes { (a b : _) → ⟦<Class as PartialOrd>⟧.partial_cmp a b ≡ Some (nat_cmp a b) }
     ensures opcodes { (a b : _) → ⟦<Opcode as PartialOrd>⟧.partial_cmp a b ≡ Some (nat_cmp a b) }
     ensures rcodes { (a b : _) → ⟦<Rcode as PartialOrd>⟧.partial_cmp a b ≡ Some (nat_cmp a b) }
-    ensures opt_rcodes { (a b : _) → ⟦<OptRcode as PartialOrd>⟧.partial_cmp a b ≡ Some (nat_cmp a b) }
-    ensures options { (a b : _) → ⟦<OptionCode as PartialOrd>⟧.partial_cmp a b ≡ Some (nat_cmp a b) }
+    ensures opt_rcodes { (a b : _) →
+        ⟦<OptRcode as PartialOrd>⟧.partial_cmp a b ≡ Some (nat_cmp a b) }
+    ensures options { (a b : _) →
+        ⟦<OptionCode as PartialOrd>⟧.partial_cmp a b ≡ Some (nat_cmp a b) }
 {}
 
 /// Hashing feeds the hasher the number, and nothing else.

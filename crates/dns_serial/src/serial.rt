@@ -41,8 +41,8 @@ impl Serial {
         self.0
     }
 
-    /// The sum, modulo 2^32 (RFC 1982 section 3.1). It is greater than this serial unless the addend
-    /// is 0. Requires that the addend is at most `MAX_ADDEND`.
+    /// The sum, modulo 2^32 (RFC 1982 section 3.1). It is greater than this serial, unless the
+    /// addend is 0. Requires that the addend is at most `MAX_ADDEND`.
     pub fn add(self, addend: u32) -> Self
         requires { addend ≤ Self.MAX_ADDEND }
         ensures sum { result ≡ serial_sum self addend }
