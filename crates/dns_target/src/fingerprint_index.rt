@@ -1,5 +1,5 @@
 //! The index of a fingerprint compressor: the offsets of suffixes and the hashes of their octets.
-ghost use Rattle.std.specs.Prelude.{◌≡◌, ◌+◌, ◌-◌, ◌<◌, ◌≤◌, ◌∷◌, ◌↔◌, [], length, drop, get_or, set, ℕ, IsTrue, OnOk, OnErr, vec_capacity};
+ghost use Rattle.std.specs.Prelude.{◌≡◌, ◌+◌, ◌-◌, ◌<◌, ◌≤◌, ◌∷◌, ◌↔◌, [], length, drop, get_or, set, ℕ, List, IsTrue, IfOk, OnOk, OnErr, vec_capacity};
 ghost use Rattle.dns_wire.specs.Choice.{label_offset};
 ghost use Rattle.dns_name.specs.Names.{Labels};
 ghost use Rattle.dns_target.specs.FingerprintIndex.{hash_of, all_hashed_of, most_hashed, bucket, IsLinked, AreHashed, table_entries_at, cut_hashed};
@@ -377,7 +377,16 @@ impl SuffixIndex for FingerprintIndex {
         self.cut(len);
     }
 
-    fn copy(&self) -> Result<Self, AllocError> {
+    fn copy(&self) -> Result<Self, AllocError>
+        ensures table_entries { IfOk result (λ copy.
+            table_entries_at copy.suffixes ≡ table_entries_at self.now.suffixes) }
+        ensures is_of { IfOk result (λ copy.
+            (b : List ℕ) → AreHashed b self.now.suffixes → AreHashed b copy.suffixes) }
+        ensures full { OnErr result (0 < length self.now.suffixes) }
+    {
+        if self.entries.is_empty() {
+            return Ok(FingerprintIndex::new(*self.entries.allocator()));
+        }
         Ok(FingerprintIndex {
             entries: self.entries.clone()?,
             heads: self.heads.clone()?,

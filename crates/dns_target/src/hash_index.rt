@@ -1,6 +1,6 @@
 //! The index of a hash compressor. It finds a suffix by its first label and the offset of its
 //! parent.
-ghost use Rattle.std.specs.Prelude.{◌≡◌, ◌≤◌, [], None, length, drop};
+ghost use Rattle.std.specs.Prelude.{◌≡◌, ◌≤◌, ◌<◌, [], ℕ, List, None, IfOk, OnErr, length, drop};
 ghost use Rattle.dns_target.specs.TableEntries.{table_in};
 ghost use Rattle.dns_target.specs.Indexes.{AreTableEntries};
 ghost use Rattle.dns_target.specs.HashIndex.{IsParent, ParentIsName, table_entries_in, in_range_count as in_range_count_of};
@@ -179,7 +179,17 @@ impl SuffixIndex for HashIndex {
         }
     }
 
-    fn copy(&self) -> Result<Self, AllocError> {
+    fn copy(&self) -> Result<Self, AllocError>
+        ensures table_entries { IfOk result (λ copy.
+            table_entries_in copy.suffixes.suffixes
+            ≡ table_entries_in self.now.suffixes.suffixes) }
+        ensures is_of { IfOk result (λ copy. (b : List ℕ)
+            → AreKeyed b self.now.suffixes.suffixes
+            × IsParent b self.now.suffixes.suffixes self.now.recent
+            → AreKeyed b copy.suffixes.suffixes
+            × IsParent b copy.suffixes.suffixes copy.recent) }
+        ensures full { OnErr result (0 < length self.now.suffixes.suffixes) }
+    {
         Ok(HashIndex {
             suffixes: self.suffixes.clone()?,
             recent: self.recent,

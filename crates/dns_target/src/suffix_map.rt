@@ -126,8 +126,12 @@ impl SuffixMap {
     }
 
     pub(crate) fn clone(&self) -> Result<Self, AllocError>
-        ensures { IfOk result (λ clone. clone.suffixes ≡ self.now.suffixes) }
+        ensures suffixes { IfOk result (λ clone. clone.suffixes ≡ self.now.suffixes) }
+        ensures full { OnErr result (0 < length self.now.suffixes) }
     {
+        if self.keys.is_empty() {
+            return Ok(SuffixMap::new(*self.keys.allocator()));
+        }
         Ok(SuffixMap {
             offsets: self.offsets.clone()?,
             keys: self.keys.clone()?,

@@ -1,5 +1,5 @@
 //! The index of a tree compressor: suffixes as a tree, whose nodes are in one vector.
-ghost use Rattle.std.specs.Prelude.{◌≡◌, ◌+◌, ◌<◌, ◌≤◌, ◌∷◌, [], length, get_or, None, Some, false, OnOk, OnErr, IfOk, IfSome};
+ghost use Rattle.std.specs.Prelude.{◌≡◌, ◌+◌, ◌<◌, ◌≤◌, ◌∷◌, [], ℕ, List, length, get_or, None, Some, false, OnOk, OnErr, IfOk, IfSome};
 ghost use Rattle.std.specs.Str.{bytes_eq};
 ghost use Rattle.dns_wire.specs.Encoders.{Tree as TreeRule};
 ghost use Rattle.dns_wire.specs.Choice.{Enters};
@@ -88,8 +88,12 @@ impl TreeIndex {
     }
 
     fn clone(&self) -> Result<Self, AllocError>
-        ensures { IfOk result (λ clone. clone.entries ≡ self.now.entries) }
+        ensures entries { IfOk result (λ clone. clone.entries ≡ self.now.entries) }
+        ensures full { OnErr result (0 < length self.now.entries) }
     {
+        if self.nodes.is_empty() {
+            return Ok(TreeIndex::new(*self.nodes.allocator()));
+        }
         Ok(TreeIndex {
             nodes: self.nodes.clone()?,
             newest: self.newest,
@@ -286,7 +290,13 @@ impl SuffixIndex for TreeIndex {
         self.cut(len);
     }
 
-    fn copy(&self) -> Result<Self, AllocError> {
+    fn copy(&self) -> Result<Self, AllocError>
+        ensures table_entries { IfOk result (λ copy.
+            table_entries_of copy.entries ≡ table_entries_of self.now.entries) }
+        ensures is_of { IfOk result (λ copy.
+            (b : List ℕ) → IsTreeOf b self.now.entries → IsTreeOf b copy.entries) }
+        ensures full { OnErr result (0 < length self.now.entries) }
+    {
         self.clone()
     }
 }
