@@ -6,6 +6,7 @@
 mod error;
 mod join;
 mod octets;
+pub mod value_laws;
 
 pub use error::{AppendError, FormError, ParseError, ShortBuf};
 pub use join::join_conversions;
