@@ -53,7 +53,7 @@ pub fn option_clones()
 {}
 
 /// Cloning these values never fails.
-pub fn option_clones_succeed()
+pub fn option_clones_never_fail()
     ensures header { (a : _) → ⟦<OptHeader as Clone>⟧.is_infallible a }
     ensures expire { (a : _) → ⟦<Expire as Clone>⟧.is_infallible a }
     ensures keepalive { (a : _) → ⟦<TcpKeepalive as Clone>⟧.is_infallible a }
