@@ -1,14 +1,16 @@
--- How SOA data compares, field by field; how opaque data and OPT data compare, by their octets, whatever type holds them; and what the three feed a hasher.
-use Rattle.std.specs.Prelude.{ℕ, Bool, List, ◌==◌, ◌++◌}
+-- How SOA data compares, field by field; how opaque data and OPT data compare, by their octets, whatever type holds them; what these and addresses feed a hasher; and what a clone of SOA data is.
+use Rattle.std.specs.Prelude.{◌≡◌, ℕ, Bool, List, ◌==◌, ◌++◌}
 use Rattle.std.specs.Cmp.Lexicographic.{pointwise}
 use Rattle.std.specs.Ordering.{nat_cmp, on, then_cmp, eq_of_both}
 use Rattle.std.specs.declared.cmp.Ordering.{Ordering}
 use Rattle.std.specs.Hash as fed
 use Rattle.dns_octets.specs.declared.octets.Octets.{Ghosts}
+use Rattle.dns_data.specs.A.{address_of}
 use Rattle.dns_data.specs.CanonicalOrders.{octet_order}
 use Rattle.dns_data.specs.Opt.{opt_octets}
 use Rattle.dns_data.specs.Soa.{mname_of, rname_of, serial_of, refresh_of, retry_of, expire_of, minimum_of}
 use Rattle.dns_data.specs.UnknownData.{unknown_rtype_of, unknown_octets}
+use Rattle.dns_data.specs.declared.a.A.{A}
 use Rattle.dns_data.specs.declared.opt.Opt.{Opt}
 use Rattle.dns_data.specs.declared.soa.Soa.{Soa}
 use Rattle.dns_data.specs.declared.unknown.UnknownRecordData.{UnknownRecordData}
@@ -20,6 +22,10 @@ octets_equal = pointwise ◌==◌
 -- what octets feed a hasher: their number, and then each
 abbrev pub octets_hash_input : List ℕ → fed.HashWrites
 octets_hash_input = fed.slice fed.u8
+
+-- what an address feeds a hasher: its octets
+abbrev pub address_hash_input : A → fed.HashWrites
+address_hash_input a = octets_hash_input (address_of a)
 
 module _ {X : Type 0} {holds : Ghosts X} where
   -- opaque data is equal if the types and the octets are
@@ -70,3 +76,13 @@ module _ {N : Type 0} where
       ++ (of_name (rname_of zone)
       ++ (fed.u32 (serial_of zone)
       ++ (fed.u32 (refresh_of zone) ++ (fed.u32 (retry_of zone) ++ (fed.u32 (expire_of zone) ++ fed.u32 (minimum_of zone))))))
+
+  -- a clone of SOA data: the names are clones, and the numbers are the same
+  pub record IsZoneClone (IsNameClone : N → N → Type 0) (zone clone : Soa N) : Type 0 where
+    pub mname : IsNameClone (mname_of zone) (mname_of clone)
+    pub rname : IsNameClone (rname_of zone) (rname_of clone)
+    pub serial : serial_of clone ≡ serial_of zone
+    pub refresh : refresh_of clone ≡ refresh_of zone
+    pub retry : retry_of clone ≡ retry_of zone
+    pub expire : expire_of clone ≡ expire_of zone
+    pub minimum : minimum_of clone ≡ minimum_of zone

@@ -1,8 +1,12 @@
-//! Theorems on messages whose TTLs are changed in place. The functions do nothing: each contract is
-//! a theorem.
+//! Theorems on messages whose TTLs are changed in place, and on changes and errors. The functions do
+//! nothing: each contract is a theorem.
+ghost use Rattle.std.specs.Prelude.{◌≡◌, ◌↔◌, IsTrue};
 ghost use Rattle.dns_edit.specs.Acceptance.{NeverBoth};
 ghost use Rattle.dns_edit.specs.Fields.{NamesAreFields};
 ghost use Rattle.dns_edit.specs.Readings.{ChangedReadsAlike, NamesReadAlike, RdataReadsAlike};
+
+use crate::change::TtlChange;
+use crate::error::EditError;
 
 /// A name that uses no octet of the TTL fields reads the same after the TTLs are changed.
 pub fn names_read_alike()
@@ -30,4 +34,22 @@ pub fn never_both()
 #[tactic(auto, unfolding(dns_fields::specs::RecordTypes::record_types))]
 pub fn names_are_fields()
     ensures { NamesAreFields }
+{}
+
+/// Two changes or two errors are equal if and only if they are the same.
+pub fn change_equality()
+    ensures change { (a b : _) → IsTrue (⟦<TtlChange as PartialEq>⟧.eq a b) ↔ (a ≡ b) }
+    ensures error { (a b : _) → IsTrue (⟦<EditError as PartialEq>⟧.eq a b) ↔ (a ≡ b) }
+{}
+
+/// A clone of a change or of an error is the same.
+pub fn change_clones()
+    ensures change { (a b : _) → ⟦<TtlChange as Clone>⟧.is_clone a b → b ≡ a }
+    ensures error { (a b : _) → ⟦<EditError as Clone>⟧.is_clone a b → b ≡ a }
+{}
+
+/// Cloning a change or an error never fails.
+pub fn change_clones_never_fail()
+    ensures change { (a : _) → ⟦<TtlChange as Clone>⟧.is_infallible a }
+    ensures error { (a : _) → ⟦<EditError as Clone>⟧.is_infallible a }
 {}

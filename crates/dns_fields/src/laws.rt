@@ -1,5 +1,6 @@
-//! Theorems on the record types. Each contract is a theorem.
-ghost use Rattle.std.specs.Prelude.{◌≡◌, Some, [], ◌∷◌, ◌++◌, map, true};
+//! Theorems on the record types, and on how their kinds compare and their fields clone. Each contract
+//! is a theorem.
+ghost use Rattle.std.specs.Prelude.{◌≡◌, ◌↔◌, IsTrue, Some, [], ◌∷◌, ◌++◌, map, true};
 ghost use Rattle.std.specs.List.{list_all, range_with_len};
 ghost use Rattle.dns_number.specs.Mnemonics.{mnemonic};
 ghost use Rattle.dns_number.specs.Registry.{registered_types};
@@ -8,6 +9,13 @@ ghost use Rattle.dns_fields.specs.MadeData.{MadePartsReadBack};
 ghost use Rattle.dns_fields.specs.NamesOfTypes.{types_with, may_be_compressed, may_have_pointer, is_lowercased};
 ghost use Rattle.dns_fields.specs.RecordTypes.{record_types};
 ghost use Rattle.dns_fields.specs.Table.{kinds_in, table_types};
+
+use crate::encoded::Encoded;
+use crate::field_data::FieldData;
+use crate::fields::{Field, Fields};
+use crate::kind::Kind;
+use crate::shape::Shape;
+use crate::value::Value;
 
 /// `TABLE` has the record types of `specs/RecordTypes.antt`: their numbers, mnemonics and fields.
 #[tactic(auto, unfolding(crate::specs::Table::table_types, crate::specs::RecordTypes::record_types))]
@@ -45,4 +53,32 @@ pub fn rest_fields_are_last()
 /// Parts with the layout of a type are what is read from their uncompressed octets.
 pub fn made_parts_read_back()
     ensures { MadePartsReadBack }
+{}
+
+/// Two kinds or two shapes are equal if and only if they are the same.
+pub fn kind_equality()
+    ensures kind { (a b : _) → IsTrue (⟦<Kind as PartialEq>⟧.eq a b) ↔ (a ≡ b) }
+    ensures shape { (a b : _) → IsTrue (⟦<Shape as PartialEq>⟧.eq a b) ↔ (a ≡ b) }
+{}
+
+/// A clone is the same value. So a clone of an iterator yields the same fields.
+pub fn field_clones()
+    ensures kind { (a b : _) → ⟦<Kind as Clone>⟧.is_clone a b → b ≡ a }
+    ensures shape { (a b : _) → ⟦<Shape as Clone>⟧.is_clone a b → b ≡ a }
+    ensures encoded { (a b : _) → ⟦<Encoded<'static> as Clone>⟧.is_clone a b → b ≡ a }
+    ensures value { (a b : _) → ⟦<Value<'static> as Clone>⟧.is_clone a b → b ≡ a }
+    ensures field { (a b : _) → ⟦<Field<'static> as Clone>⟧.is_clone a b → b ≡ a }
+    ensures fields { (a b : _) → ⟦<Fields<'static> as Clone>⟧.is_clone a b → b ≡ a }
+    ensures record_data { (a b : _) → ⟦<FieldData<'static> as Clone>⟧.is_clone a b → b ≡ a }
+{}
+
+/// Cloning these values never fails.
+pub fn field_clones_never_fail()
+    ensures kind { (a : _) → ⟦<Kind as Clone>⟧.is_infallible a }
+    ensures shape { (a : _) → ⟦<Shape as Clone>⟧.is_infallible a }
+    ensures encoded { (a : _) → ⟦<Encoded<'static> as Clone>⟧.is_infallible a }
+    ensures value { (a : _) → ⟦<Value<'static> as Clone>⟧.is_infallible a }
+    ensures field { (a : _) → ⟦<Field<'static> as Clone>⟧.is_infallible a }
+    ensures fields { (a : _) → ⟦<Fields<'static> as Clone>⟧.is_infallible a }
+    ensures record_data { (a : _) → ⟦<FieldData<'static> as Clone>⟧.is_infallible a }
 {}

@@ -7,6 +7,7 @@ pub mod Groups
 pub mod HostIdentities
 pub mod IdentityValues
 pub mod Items
+pub mod ItemEquality
 pub mod ItemsLeft
 pub mod Laws
 pub mod ParameterItems

@@ -7,6 +7,7 @@ pub mod Record
 pub mod RecordOrders
 pub mod Canonical
 pub mod OptRecord
+pub mod Clones
 pub mod RecordReading
 pub mod ParsedData
 pub mod TypedRecords

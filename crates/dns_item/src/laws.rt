@@ -1,17 +1,32 @@
 //! Theorems on questions and records in octets, as written, and as texts, and on how record headers
-//! compare. The functions do nothing: each contract is a theorem over all octets, offsets, items,
-//! texts or headers.
+//! compare and records clone. The functions do nothing: each contract is a theorem over all octets,
+//! offsets, items, texts or values.
 ghost use Rattle.std.specs.Prelude.{◌≡◌};
 ghost use Rattle.std.specs.Ordering.{as_partial_cmp};
 ghost use Rattle.dns_question.specs.Questions.{QuestionOrFault, QuestionEndOrFault, QuestionSkipAgrees, QuestionsGrow, QuestionsReadBack};
 ghost use Rattle.dns_item.specs.Items.{HeaderOrFault, RecordOrFault, RecordEndOrFault, RecordSkipAgrees, RecordsGrow, RecordsReadBack};
+ghost use Rattle.dns_octets.specs.Octets.{ClonesSurely};
+ghost use Rattle.dns_data.specs.Opt.{opt_buffer};
+ghost use Rattle.dns_item.specs.Clones.{IsHeaderClone, IsRecordClone, IsOptRecordClone};
+ghost use Rattle.dns_item.specs.Clones.{parse_errors_equal, IsParseErrorClone, ParseErrorClones};
+ghost use Rattle.dns_item.specs.OptRecord.{opt_data};
+ghost use Rattle.dns_item.specs.Record.{owner_of, data_of};
+ghost use Rattle.dns_item.specs.RecordHeader as header;
 ghost use Rattle.dns_item.specs.HeaderOrders.{headers_equal, header_order, header_hash_input};
 ghost use Rattle.dns_item.specs.TypedRecords.{DataIsParsed};
 ghost use Rattle.dns_question.specs.QuestionTexts.{EachTextRead, OneTextResult, EachWordsRead, OneWordsResult};
 
+use crate::opt_record::OptRecord;
+use crate::parsed_record::ParsedRecord;
+use crate::record::Record;
+use crate::record_error::RecordParseError;
 use crate::record_header::RecordHeader;
-pub use dns_question::laws::{question_equality, question_hash, question_orders};
+pub use dns_question::laws::{
+    question_clones, question_equality, question_hash, question_orders, text_error_clones,
+    text_error_equality,
+};
 pub use dns_ttl::laws::ttl_units;
+use dns_wire::Octets;
 use std::hash::Hash;
 
 /// At each offset either exactly one question can be read, or there is exactly one fault. The same
@@ -74,4 +89,46 @@ pub fn header_orders<N: Ord>()
 /// Hashing a record header feeds the hasher the fields in this order.
 pub fn header_hash<N: Hash>()
     ensures { ⟦<RecordHeader<N> as Hash>⟧.hash_input ≡ header_hash_input N.hash_input }
+{}
+
+/// A clone of a header has a clone of its owner, and its numbers.
+pub fn header_clones<N: Clone>()
+    ensures clone { (a b : _) → ⟦<RecordHeader<N> as Clone>⟧.is_clone a b
+        → IsHeaderClone N.is_clone a b }
+    ensures succeeds { (a : _) → N.is_infallible (header.owner_of a)
+        → ⟦<RecordHeader<N> as Clone>⟧.is_infallible a }
+{}
+
+/// A clone of a record has clones of its owner and RDATA, and its class and TTL.
+pub fn record_clones<N: Clone, D: Clone>()
+    ensures clone { (a b : _) → ⟦<Record<N, D> as Clone>⟧.is_clone a b
+        → IsRecordClone N.is_clone D.is_clone a b }
+    ensures succeeds { (a : _) → N.is_infallible (owner_of a) → D.is_infallible (data_of a)
+        → ⟦<Record<N, D> as Clone>⟧.is_infallible a }
+{}
+
+/// A clone of an OPT record has its class, TTL and octets.
+pub fn opt_record_clones<Octs: Octets + Clone>()
+    ensures clone { (a b : _) → ⟦<OptRecord<Octs> as Clone>⟧.is_clone a b → IsOptRecordClone a b }
+    ensures succeeds { (a : _) → ClonesSurely Octs.is_infallible Octs.is_clone Octs.octets
+        (opt_buffer (opt_data a)) → ⟦<OptRecord<Octs> as Clone>⟧.is_infallible a }
+{}
+
+/// A clone of a record whose RDATA isn't parsed is the same, and cloning it never fails.
+pub fn parsed_record_clones()
+    ensures clone { (a b : _) → ⟦<ParsedRecord<'static> as Clone>⟧.is_clone a b → b ≡ a }
+    ensures succeeds { (a : _) → ⟦<ParsedRecord<'static> as Clone>⟧.is_infallible a }
+{}
+
+/// Errors of parsing a record are equal if and only if they are of one kind, with equal errors.
+pub fn parse_error_equality<N: PartialEq, D: PartialEq>()
+    ensures { ⟦<RecordParseError<N, D> as PartialEq>⟧.eq ≡ parse_errors_equal N.eq D.eq }
+{}
+
+/// A clone of such an error is of the same kind, with a clone of the error in it.
+pub fn parse_error_clones<N: Clone, D: Clone>()
+    ensures clone { (a b : _) → ⟦<RecordParseError<N, D> as Clone>⟧.is_clone a b
+        → IsParseErrorClone N.is_clone D.is_clone a b }
+    ensures succeeds { (a : _) → ParseErrorClones N.is_infallible D.is_infallible a
+        → ⟦<RecordParseError<N, D> as Clone>⟧.is_infallible a }
 {}

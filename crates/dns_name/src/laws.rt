@@ -1,8 +1,20 @@
-//! Theorems on names in octets and as texts. The functions do nothing: each contract is a theorem
-//! over all octets and offsets, or over all texts.
+//! Theorems on names in octets and as texts, and on how the values of this crate compare and clone.
+//! The functions do nothing: each contract is a theorem over all octets and offsets, texts or
+//! values.
+ghost use Rattle.std.specs.Prelude.{◌≡◌, ◌↔◌, IsTrue};
 ghost use Rattle.dns_name.specs.Laws.{NameOrFault, NameOrFaultNotBoth, OneName, OneFault, EncodedNamesAreNames, EndOrSkipFault, EndOrSkipFaultNotBoth, OneEnd, EncodedNamesEnd, SkipFaultsAreFaults, SkippingEndsAlike, SkippingFailsAlike};
 ghost use Rattle.dns_name.specs.Laws.{NameOrderIsTotal, ComposedOrderIsTotal, NameOrderAgrees, ComposedOrderAgrees, EqualNamesHashAlike};
 ghost use Rattle.dns_name.specs.NameTexts.{DottedNamesSpell, OneTextFault, OneTextName, PrintedNamesSpell, TextNameOrFault, TextNameOrFaultNotBoth};
+
+use crate::cached_name::CachedName;
+use crate::head::Head;
+use crate::label::Label;
+use crate::label_iter::LabelIter;
+use crate::name_error::{FromStrError, PresentationError};
+use crate::name_print::DisplayWithDot;
+use crate::parsed_name::ParsedName;
+use crate::parser::Parser;
+use crate::suffix_iter::SuffixIter;
 
 /// At each offset either exactly one name is encoded, or reading fails with exactly one fault,
 /// never both.
@@ -54,4 +66,40 @@ pub fn names_as_texts()
     ensures one_fault { OneTextFault }
     ensures printed { PrintedNamesSpell }
     ensures dotted { DottedNamesSpell }
+{}
+
+/// Two values are equal if and only if they are the same.
+pub fn value_equality()
+    ensures head { (a b : _) → IsTrue (⟦<Head as PartialEq>⟧.eq a b) ↔ (a ≡ b) }
+    ensures text { (a b : _) → IsTrue (⟦<PresentationError as PartialEq>⟧.eq a b) ↔ (a ≡ b) }
+    ensures error { (a b : _) → IsTrue (⟦<FromStrError as PartialEq>⟧.eq a b) ↔ (a ≡ b) }
+{}
+
+/// A clone is the same value. So a clone of an iterator yields the same items, and a clone of a
+/// parser reads at the same offset.
+pub fn value_clones()
+    ensures parser { (a b : _) → ⟦<Parser<'static> as Clone>⟧.is_clone a b → b ≡ a }
+    ensures name { (a b : _) → ⟦<ParsedName<'static> as Clone>⟧.is_clone a b → b ≡ a }
+    ensures label { (a b : _) → ⟦<Label<'static> as Clone>⟧.is_clone a b → b ≡ a }
+    ensures labels { (a b : _) → ⟦<LabelIter<'static> as Clone>⟧.is_clone a b → b ≡ a }
+    ensures suffixes { (a b : _) → ⟦<SuffixIter<'static> as Clone>⟧.is_clone a b → b ≡ a }
+    ensures cached { (a b : _) → ⟦<CachedName as Clone>⟧.is_clone a b → b ≡ a }
+    ensures dotted { (a b : _) → ⟦<DisplayWithDot<'static> as Clone>⟧.is_clone a b → b ≡ a }
+    ensures head { (a b : _) → ⟦<Head as Clone>⟧.is_clone a b → b ≡ a }
+    ensures text { (a b : _) → ⟦<PresentationError as Clone>⟧.is_clone a b → b ≡ a }
+    ensures error { (a b : _) → ⟦<FromStrError as Clone>⟧.is_clone a b → b ≡ a }
+{}
+
+/// Cloning these values never fails.
+pub fn value_clones_never_fail()
+    ensures parser { (a : _) → ⟦<Parser<'static> as Clone>⟧.is_infallible a }
+    ensures name { (a : _) → ⟦<ParsedName<'static> as Clone>⟧.is_infallible a }
+    ensures label { (a : _) → ⟦<Label<'static> as Clone>⟧.is_infallible a }
+    ensures labels { (a : _) → ⟦<LabelIter<'static> as Clone>⟧.is_infallible a }
+    ensures suffixes { (a : _) → ⟦<SuffixIter<'static> as Clone>⟧.is_infallible a }
+    ensures cached { (a : _) → ⟦<CachedName as Clone>⟧.is_infallible a }
+    ensures dotted { (a : _) → ⟦<DisplayWithDot<'static> as Clone>⟧.is_infallible a }
+    ensures head { (a : _) → ⟦<Head as Clone>⟧.is_infallible a }
+    ensures text { (a : _) → ⟦<PresentationError as Clone>⟧.is_infallible a }
+    ensures error { (a : _) → ⟦<FromStrError as Clone>⟧.is_infallible a }
 {}

@@ -7,6 +7,7 @@ mod error;
 mod join;
 pub mod laws;
 mod octets;
+pub mod value_laws;
 
 pub use error::{AppendError, FormError, ParseError, ShortBuf};
 pub use join::join_conversions;

@@ -8,4 +8,5 @@ pub mod KnownOptions
 pub mod ReadOptions
 pub mod Prefixes
 pub mod ReadKinds
+pub mod Equality
 pub mod Laws

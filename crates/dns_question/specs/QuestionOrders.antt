@@ -1,5 +1,5 @@
--- How questions compare and hash, field by field, and their canonical order. RFC 1035 section 4.1.2, RFC 4034 section 6.
-use Rattle.std.specs.Prelude.{Bool, ◌++◌, ◌==◌}
+-- How questions compare, hash and clone, field by field, and their canonical order. RFC 1035 section 4.1.2, RFC 4034 section 6.
+use Rattle.std.specs.Prelude.{◌≡◌, Bool, ◌++◌, ◌==◌}
 use Rattle.std.specs.Hash.{HashWrites, u16}
 use Rattle.std.specs.Ordering.{on, nat_cmp, then_cmp, eq_of_both}
 use Rattle.std.specs.declared.cmp.Ordering.{Ordering}
@@ -20,6 +20,12 @@ module _ {N : Type 0} where
   -- what a question feeds a hasher: name, type and class
   abbrev pub question_hash_input : (N → HashWrites) → Question N → HashWrites
   question_hash_input of_name q = of_name (qname_of q) ++ (u16 (qtype_of q) ++ u16 (qclass_of q))
+
+  -- a clone of a question: the name is a clone, and type and class are the same
+  pub record IsQuestionClone (IsNameClone : N → N → Type 0) (question clone : Question N) : Type 0 where
+    pub qname : IsNameClone (qname_of question) (qname_of clone)
+    pub qtype : qtype_of clone ≡ qtype_of question
+    pub qclass : qclass_of clone ≡ qclass_of question
 
   -- The canonical order: by the octets of the uncompressed names, lowercased, then by type, then by class.
   abbrev pub canonical_question_order : (N → Labels) → Question N → Question N → Ordering

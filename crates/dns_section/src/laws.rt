@@ -1,6 +1,6 @@
-//! Theorems on reading sections and on their order. The functions do nothing: each contract is a
-//! theorem over all octets or all sections.
-ghost use Rattle.std.specs.Prelude.{◌≡◌, Some};
+//! Theorems on reading sections, on their order and on clones of cursors. The functions do nothing:
+//! each contract is a theorem over all octets, sections or cursors.
+ghost use Rattle.std.specs.Prelude.{◌≡◌, ◌↔◌, IsTrue, Some};
 ghost use Rattle.dns_section.specs.QuestionsFrom.{QuestionsFromAreRead};
 ghost use Rattle.dns_section.specs.RecordsFrom.{RecordsFromAreRead};
 ghost use Rattle.dns_section.specs.Readings.{OneReadingOfQuestions, OneReadingOfRecords, OneStart, StartOrFault, ReadingsOfQuestionsEnd, ReadingsOfRecordsEnd};
@@ -8,6 +8,8 @@ ghost use Rattle.dns_section.specs.Readings.{QuestionsSkipOrStop, RecordsSkipOrS
 ghost use Rattle.dns_section.specs.SectionOrder.{section_order};
 ghost use Rattle.dns_section.specs.declared.section.Section.{Section};
 
+use crate::question_section::QuestionSection;
+use crate::record_section::RecordSection;
 use crate::section::Section;
 
 /// From each offset there is exactly one reading of at most n questions, and exactly one of at most
@@ -48,4 +50,23 @@ pub fn start_or_fault()
 pub fn sections_compare()
     ensures { (first second : Section) → ⟦<Section as PartialOrd>⟧.partial_cmp first second
         ≡ Some (section_order first second) }
+{}
+
+/// Two sections are equal if and only if they are the same.
+pub fn section_equality()
+    ensures { (a b : _) → IsTrue (⟦<Section as PartialEq>⟧.eq a b) ↔ (a ≡ b) }
+{}
+
+/// A clone of a cursor is the same cursor, so it yields the same entries.
+pub fn cursor_clones()
+    ensures questions { (a b : _) → ⟦<QuestionSection<'static> as Clone>⟧.is_clone a b → b ≡ a }
+    ensures records { (a b : _) → ⟦<RecordSection<'static> as Clone>⟧.is_clone a b → b ≡ a }
+    ensures section { (a b : _) → ⟦<Section as Clone>⟧.is_clone a b → b ≡ a }
+{}
+
+/// Cloning a cursor never fails.
+pub fn cursor_clones_never_fail()
+    ensures questions { (a : _) → ⟦<QuestionSection<'static> as Clone>⟧.is_infallible a }
+    ensures records { (a : _) → ⟦<RecordSection<'static> as Clone>⟧.is_infallible a }
+    ensures section { (a : _) → ⟦<Section as Clone>⟧.is_infallible a }
 {}
