@@ -1,7 +1,7 @@
 -- The lines of records that were read.
 use Rattle.std.proofs.Common.{◌≡◌, ◌∙◌, ℕ, List, [], ◌∷◌, ap, true, false, append_assoc, drop, codes, None}
 use Rattle.std.specs.Fmt.{◌++?◌, decimal}
-use Rattle.std.specs.Prelude.{◌==◌, if◌then◌else◌, Some}
+use Rattle.std.specs.Prelude.{if◌then◌else◌, Some}
 use Rattle.dns_number.specs.Classes.{class_text}
 use Rattle.dns_data.specs.Printing.{opaque_text}
 use Rattle.dns_name.specs.ParsedName.{labels}
@@ -20,15 +20,15 @@ use Rattle.dns_fields_text.specs.RecordLines.{record_text}
 use Rattle.dns_fields_text.specs.TypeNames.{type_word}
 use Rattle.dns_fields_text.specs.ZoneNames.{zone_name_text}
 use Rattle.dns_tool.specs.Show.{data_parts, line}
-use Rattle.dns_lines.specs.ZoneLines.{line_with, rdata_text, record_lines}
+use Rattle.dns_lines.specs.ZoneLines.{is_of_message, line_with, rdata_text, record_lines}
 
 module _ (x : EncodedRecord) where
-  -- an OPT record has no line
-  pub opt_has_none : (x.entry.rtype == 41) ≡ true → record_lines x ≡ []
-  opt_has_none is = ap (λ b. if b then [] else line_with x (data_parts x (type_layout x.entry.rtype))) is
+  -- a record of one message has no line
+  pub of_message_has_none : is_of_message x ≡ true → record_lines x ≡ []
+  of_message_has_none is = ap (λ b. if b then [] else line_with x (data_parts x (type_layout x.entry.rtype))) is
 
   -- any other has one
-  pub others_have_one : (x.entry.rtype == 41) ≡ false → record_lines x ≡ line_with x (data_parts x (type_layout x.entry.rtype))
+  pub others_have_one : is_of_message x ≡ false → record_lines x ≡ line_with x (data_parts x (type_layout x.entry.rtype))
   others_have_one is = ap (λ b. if b then [] else line_with x (data_parts x (type_layout x.entry.rtype))) is
 
   -- the text of a record, by the fields that were read

@@ -1,10 +1,10 @@
 //! Prints the records of a message as lines of a zone file.
-ghost use Rattle.std.specs.Prelude.{None, Ok, OnOk};
+ghost use Rattle.std.specs.Prelude.{◌≡◌, None, Ok, OnOk};
 ghost use Rattle.std.specs.Io.KnownBytes.{Appends};
 ghost use Rattle.dns_item.specs.ParsedRecord.{encoded_record};
 ghost use Rattle.dns_read.specs.Message.{message_octets};
 ghost use Rattle.dns_tool.specs.Show.{HasShortData, IsRead};
-ghost use Rattle.dns_lines.specs.ZoneLines.{line_with, malformed_line, record_lines, zone_lines};
+ghost use Rattle.dns_lines.specs.ZoneLines.{covers_no_type, is_of_message, line_with, malformed_line, rdata_octets, record_lines, zone_lines};
 
 use dns_code::Rtype;
 use dns_data::UnknownRecordData;
@@ -20,9 +20,10 @@ use std::io::Write;
 /// Prints each record of the message as a line, in order: the owner with a final dot, the TTL in
 /// seconds, the class, the type and the RDATA, separated by spaces.
 ///
-/// An OPT record has no line, as it isn't data of a zone (RFC 6891 section 6.1.1). A line that
-/// begins with `;;` says that a record is malformed, and ends its section; or that a section has no
-/// start, and ends the output. Returns the error of `writer` if it fails.
+/// Records that aren't data of a zone have no line: OPT (RFC 6891 section 6.1.1), TKEY (RFC 2930),
+/// TSIG (RFC 8945), and SIG(0), which is SIG that covers the type 0 (RFC 2931). A line that begins
+/// with `;;` says that a record is malformed, and ends its section; or that a section has no start,
+/// and ends the output. Returns the error of `writer` if it fails.
 pub fn print_zone_lines<W: Write>(writer: &mut W, message: &Message<&[u8]>) -> io::Result<()>
     ensures { OnOk result (Appends (W.contents writer.old) (W.contents writer.new)
         (zone_lines (message_octets message.now))) }
@@ -58,20 +59,50 @@ impl RecordLines for ZoneLines {
     }
 }
 
-/// Prints the line of a record, but none for an OPT record.
+/// Prints the line of a record, but none for a record of one message.
 fn print_parsed<W: Write>(writer: &mut W, parsed: &ParsedRecord<'_>) -> io::Result<()>
     requires read { IsRead (encoded_record parsed.now) }
     requires short { HasShortData (encoded_record parsed.now) }
     ensures { OnOk result (Appends (W.contents writer.old) (W.contents writer.new)
         (record_lines (encoded_record parsed.now))) }
 {
-    if parsed.rtype() == Rtype::OPT {
+    if is_of_message(parsed) {
         return Ok(());
     }
     match parsed.to_any_record::<FieldData<'_>>() {
         Ok(found) => writeln!(writer, "{}", RecordText(&found)),
         Err(_) => print_opaque(writer, parsed),
     }
+}
+
+/// Whether a record is of one message, and isn't data of a zone.
+fn is_of_message(parsed: &ParsedRecord<'_>) -> bool
+    requires read { IsRead (encoded_record parsed.now) }
+    requires short { HasShortData (encoded_record parsed.now) }
+    ensures { result ≡ is_of_message (encoded_record parsed.now) }
+{
+    let rtype = parsed.rtype();
+    rtype == Rtype::OPT
+        || rtype == Rtype::TKEY
+        || rtype == Rtype::TSIG
+        || (rtype == Rtype::SIG && covers_no_type(parsed))
+}
+
+/// Whether the RDATA begins with the type 0.
+fn covers_no_type(parsed: &ParsedRecord<'_>) -> bool
+    requires read { IsRead (encoded_record parsed.now) }
+    requires short { HasShortData (encoded_record parsed.now) }
+    ensures { result ≡ covers_no_type (rdata_octets (encoded_record parsed.now)) }
+{
+    let found = parsed.to_any_record::<UnknownRecordData<&[u8]>>().unwrap();
+    begins_with_zeros(found.data().data())
+}
+
+/// Whether octets begin with two zero octets.
+fn begins_with_zeros(octets: &[u8]) -> bool
+    ensures { result ≡ covers_no_type octets.now }
+{
+    octets.starts_with(&[0, 0])
 }
 
 /// Prints the line of a record with its RDATA as octets.

@@ -1,6 +1,5 @@
 use Rattle.std.proofs.Common.{◌∙◌, List, ℕ, ap, subst, sym, Some, OnOk}
 use Rattle.std.specs.Io.KnownBytes.{Appends}
-use Rattle.std.specs.Prelude.{◌==◌}
 use Rattle.dns_item.specs.ParsedRecord.{encoded_record}
 use Rattle.dns_item.specs.Record.{data_of}
 use Rattle.dns_name.specs.Names.{fault_of}
@@ -11,14 +10,14 @@ use Rattle.dns_tool.proofs.theory.AppendedTexts.{appends_none}
 use Rattle.dns_tool.proofs.theory.PrintedLines.{printed_as}
 use Rattle.dns_tool.proofs.theory.ShownRecords.{there, parts_there, parts_missing}
 use Rattle.dns_lines.specs.ZoneLines.{line_with}
-use Rattle.dns_lines.proofs.LineLemmas.{opt_has_none, others_have_one, text_of_fields}
+use Rattle.dns_lines.proofs.LineLemmas.{of_message_has_none, others_have_one, text_of_fields}
 use Rattle.dns_lines.proofs.zone_lines.print_parsed.Goals as goal
 
-pub returns-then-eq : goal.returns-then-eq
-returns-then-eq g c =
+pub returns-then-is_of_message : goal.returns-then-is_of_message
+returns-then-is_of_message g c =
     let x = encoded_record c.args.parsed.now in
     let w = g.W.Write.contents c.args.writer.now in
-    subst (λ (text : List ℕ). Appends w w text) (sym (opt_has_none x (ap (λ n. n == 41) (sym c.rtype.ensures) ∙ sym c.eq.ensures ∙ c.if-eq.true))) (appends_none w)
+    subst (λ (text : List ℕ). Appends w w text) (sym (of_message_has_none x (sym c.is_of_message.ensures ∙ c.if-is_of_message.true))) (appends_none w)
 
 pub returns-in-Ok : goal.returns-in-Ok
 returns-in-Ok g c =
@@ -28,7 +27,7 @@ returns-in-Ok g c =
     let given = returned.gives (there x c.requires.read) in
     let parts = parts_there x c.requires.read (type_layout x.entry.rtype) (parts_of (data_of r)) given.1 in
     printed_as _ _ _ _ c.writeln.result
-    (ap (λ (text : List ℕ). Some (line text)) (text_of_fields x r given.0) ∙ ap (λ o. Some (line_with x o)) (sym parts) ∙ ap (λ (text : List ℕ). Some text) (sym (others_have_one x (ap (λ n. n == 41) (sym c.rtype.ensures) ∙ sym c.eq.ensures ∙ c.if-eq.false))))
+    (ap (λ (text : List ℕ). Some (line text)) (text_of_fields x r given.0) ∙ ap (λ o. Some (line_with x o)) (sym parts) ∙ ap (λ (text : List ℕ). Some text) (sym (others_have_one x (sym c.is_of_message.ensures ∙ c.if-is_of_message.false))))
     c.writeln.ensures.bytes
 
 pub returns-in-Err : goal.returns-in-Err
@@ -38,4 +37,4 @@ returns-in-Err g c =
     let given = returned.gives (there x c.requires.read) in
     let parts = parts_missing x c.requires.read (type_layout x.entry.rtype) (fault_of c.in-Err.field-0) given in
     subst (λ (text : List ℕ). OnOk c.print_opaque.result (Appends (g.W.Write.contents c.args.writer.now) (g.W.Write.contents c.print_opaque.new.writer) text))
-    (ap (line_with x) (sym parts) ∙ sym (others_have_one x (ap (λ n. n == 41) (sym c.rtype.ensures) ∙ sym c.eq.ensures ∙ c.if-eq.false))) c.print_opaque.ensures
+    (ap (line_with x) (sym parts) ∙ sym (others_have_one x (sym c.is_of_message.ensures ∙ c.if-is_of_message.false))) c.print_opaque.ensures
