@@ -1,1 +1,3 @@
+mod EntrySteps
 mod NameSteps
+mod SectionSteps

@@ -47,7 +47,7 @@ module _ (b : List ℕ) where
         let size : length text ≡ n = length_label b p n fits in
         let P : ℕ → Type 0 = λ k. NameAt b k x.name in
         let regroup : labels ++ n ∷ [] ++ text ++ uncompressed x.name ≡ labels ++ (n ∷ (text ++ uncompressed x.name)) =
-          ap (λ xs. xs ++ uncompressed x.name) (append_assoc labels (n ∷ []) text) ∙ append_assoc labels (n ∷ text) (uncompressed x.name) in
+        ap (λ xs. xs ++ uncompressed x.name) (append_assoc labels (n ∷ []) text) ∙ append_assoc labels (n ∷ text) (uncompressed x.name) in
         record {
           name = text ∷ x.name;
           there = NameAt.label h fits (subst P end x.there) (omega (arith, x.short, longer_count));

@@ -29,11 +29,7 @@ fn head_at(octets: &[u8], offset: usize) -> Result<Head, ParseError>
 }
 
 /// Appends the name at an offset to the labels before it.
-fn name_after(
-    octets: &[u8],
-    offset: usize,
-    mut labels: PlainName,
-) -> Result<PlainName, ParseError>
+fn name_after(octets: &[u8], offset: usize, mut labels: PlainName) -> Result<PlainName, ParseError>
     requires { array_vec_len labels ≤ max_size }
     ensures { MatchResult result
         (λ name. NameAfter octets.now offset labels.items name.items)

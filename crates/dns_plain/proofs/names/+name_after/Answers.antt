@@ -41,12 +41,12 @@ returns-else-octets-offset t c =
     let fits : c.args.offset + 1 + c.in-Label.len ≤ length c.args.octets.now = omega arith in
     let end : c.args.offset + (c.from-taken.result + 1) ≡ c.args.offset + 1 + c.in-Label.len = omega arith in
     MatchResult-weaker c.name_after.result c.name_after.ensures
-      (λ name x. after_label _ _ _ _ _ _ fits end longer h (omega arith) _ x)
-      (λ error x. fault_after_label _ _ _ _ _ _ h (omega arith) fits end (longer_count _ _ _ _ _ _ fits end longer) _ x)
+    (λ name x. after_label _ _ _ _ _ _ fits end longer h (omega arith) _ x)
+    (λ error x. fault_after_label _ _ _ _ _ _ h (omega arith) fits end (longer_count _ _ _ _ _ _ fits end longer) _ x)
 
 pub returns-else-target-offset : goal.returns-else-target-offset
 returns-else-target-offset t c =
     let h : head_at c.args.octets.now c.args.offset ≡ Ok (Pointer c.from-target.result) = cc (c.in_ok-head_at.ensures.head, c.from-target.ensures) in
     MatchResult-weaker c.name_after-in-Pointer.result c.name_after-in-Pointer.ensures
-      (λ name x. after_pointer _ _ _ _ h (omega arith) _ x)
-      (λ error x. Faulty.pointer h (omega arith) x)
+    (λ name x. after_pointer _ _ _ _ h (omega arith) _ x)
+    (λ error x. Faulty.pointer h (omega arith) x)
