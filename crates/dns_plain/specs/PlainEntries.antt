@@ -30,9 +30,9 @@ pub record ShowsHeader (b : List ℕ) (p : ℕ) (x : Header) : Type 0 where
 pub record ShowsRecord (b : List ℕ) (p q : ℕ) (x : Record) : Type 0 where
   pub item : RecordEntry
   pub reads : ReadsRecord b p q item
-  pub owner : x.owner.items ≡ uncompressed item.owner
-  pub rtype : x.rtype ≡ item.rtype
-  pub class : x.class ≡ item.class
-  pub ttl : x.ttl ≡ item.ttl
-  pub rdata_start : x.rdata_start ≡ item.rdata_start
-  pub rdata_end : x.rdata_end ≡ item.rdata_end
+  pub owner : x.header.owner.items ≡ uncompressed item.owner
+  pub rtype : x.header.rtype ≡ item.rtype
+  pub class : x.header.class ≡ item.class
+  pub ttl : x.header.ttl ≡ item.ttl
+  pub rdata_start : x.header.end ≡ item.rdata_start
+  pub rdata_end : x.end ≡ item.rdata_end

@@ -1,7 +1,7 @@
-ghost use Rattle.std.specs.Prelude.{◌≡◌, ◌+◌, ◌<◌, ◌≤◌, length, OnOk, MatchResult};
+ghost use Rattle.std.specs.Prelude.{◌+◌, ◌<◌, ◌≤◌, length, OnOk};
 ghost use Rattle.arrayvec.specs.ArrayVec.{array_vec_len};
-ghost use Rattle.dns_name.specs.Names.{head_at, Reads, max_size, fault_of, Faulty, FaultAt, NameContinues, NameEndsAt, SkipFaulty, SkipFaultAt};
-ghost use Rattle.dns_plain.specs.Plain.{NameIs, NameAfter};
+ghost use Rattle.dns_name.specs.Names.{head_at, Reads, max_size, Faulty, FaultAt, SkipFaulty, SkipFaultAt};
+ghost use Rattle.dns_plain.specs.Plain.{Gives, NameIs, NameAfter, EndsWithin};
 
 use arrayvec::ArrayVec;
 use dns_name::Head;
@@ -31,9 +31,8 @@ fn head_at(octets: &[u8], offset: usize) -> Result<Head, ParseError>
 /// Appends the name at an offset to the labels before it.
 fn name_after(octets: &[u8], offset: usize, mut labels: PlainName) -> Result<PlainName, ParseError>
     requires { array_vec_len labels ≤ max_size }
-    ensures { MatchResult result
-        (λ name. NameAfter octets.now offset labels.items name.items)
-        (λ error. Faulty octets.now offset (array_vec_len labels) (fault_of error)) }
+    ensures { Gives result (λ name. NameAfter octets.now offset labels.items name.items)
+        (Faulty octets.now offset (array_vec_len labels)) }
 {
     match head_at(octets, offset)? {
         Head::Root => {
@@ -48,10 +47,9 @@ fn name_after(octets: &[u8], offset: usize, mut labels: PlainName) -> Result<Pla
             if octets.len() - offset < taken {
                 return Err(ParseError::ShortInput);
             }
+            let text = &octets[offset + 1..offset + taken];
             labels.push(len);
-            labels
-                .try_extend_from_slice(&octets[offset + 1..offset + taken])
-                .unwrap();
+            labels.try_extend_from_slice(text).unwrap();
             name_after(octets, offset + taken, labels)
         }
         Head::Pointer(target) => {
@@ -66,9 +64,7 @@ fn name_after(octets: &[u8], offset: usize, mut labels: PlainName) -> Result<Pla
 
 /// Returns the uncompressed name that is encoded at an offset, or its leftmost error.
 pub fn name_at(octets: &[u8], offset: usize) -> Result<PlainName, ParseError>
-    ensures { MatchResult result
-        (λ name. NameIs octets.now offset name.items)
-        (λ error. FaultAt octets.now offset (fault_of error)) }
+    ensures { Gives result (λ name. NameIs octets.now offset name.items) (FaultAt octets.now offset) }
 {
     name_after(octets, offset, ArrayVec::new())
 }
@@ -76,9 +72,7 @@ pub fn name_at(octets: &[u8], offset: usize) -> Result<PlainName, ParseError>
 /// Returns the offset after the encoding of a name whose labels so far take `size` octets.
 fn end_after(octets: &[u8], offset: usize, size: usize) -> Result<usize, ParseError>
     requires { size ≤ max_size }
-    ensures { MatchResult result
-        (λ end. NameContinues octets.now offset size end × (end ≤ length octets.now))
-        (λ error. SkipFaulty octets.now offset size (fault_of error)) }
+    ensures { Gives result (EndsWithin octets.now offset size) (SkipFaulty octets.now offset size) }
 {
     match head_at(octets, offset)? {
         Head::Root => Ok(offset + 1),
@@ -96,12 +90,9 @@ fn end_after(octets: &[u8], offset: usize, size: usize) -> Result<usize, ParseEr
     }
 }
 
-/// Returns the offset after the encoding of the name at an offset, or its leftmost error. Pointers
-/// aren't followed.
+/// Returns the offset after the encoding of a name, or its leftmost error. No pointer is followed.
 pub fn name_end(octets: &[u8], offset: usize) -> Result<usize, ParseError>
-    ensures { MatchResult result
-        (λ end. NameEndsAt octets.now offset end × (end ≤ length octets.now))
-        (λ error. SkipFaultAt octets.now offset (fault_of error)) }
+    ensures { Gives result (EndsWithin octets.now offset 0) (SkipFaultAt octets.now offset) }
 {
     end_after(octets, offset, 0)
 }

@@ -7,10 +7,10 @@ use Rattle.dns_plain.proofs.sections.+skip_questions.Goals as goal
 pub returns-then-count-eq0 : goal.returns-then-count-eq0
 returns-then-count-eq0 t c = skips_none _ (QuestionSkipFaultAt c.args.octets.now) _ _ (omega arith)
 
-pub returns-in_err-next : goal.returns-in_err-next
-returns-in_err-next t c =
+pub returns-in_err-question_end : goal.returns-in_err-question_end
+returns-in_err-question_end t c =
     let p = err_from_is_err_and c.from_residual.result c.from_residual.ensures.1 in
-    rw (p.1, p.2) (stops_here _ _ _ _ _ (omega arith) c.in_err-next.ensures)
+    rw (p.1, p.2) (stops_here _ _ _ _ _ (omega arith) c.in_err-question_end.ensures)
 
 pub returns : goal.returns
-returns t c = skips_on _ _ _ _ _ c.skip_questions.result (omega arith) c.in_ok-next.ensures c.skip_questions.ensures
+returns t c = skips_on _ _ _ _ _ c.skip_questions.result (omega arith) c.in_ok-question_end.ensures c.skip_questions.ensures

@@ -1,8 +1,8 @@
 use Rattle.std.proofs.Common.{arith, ap, ◌∙◌, ◌∷◌, [], ◌++◌}
 use Rattle.std.specs.Prelude.{Err}
 use Rattle.dns_plain.proofs.SectionSteps.{reading_none, reading_entry, reading_stop}
-use Rattle.dns_plain.proofs.sections.+records_from.Goals as goal
-use Rattle.dns_plain.proofs.sections.+records_from.Goals.{in-Ok+in_ok-items-in-Ok+in_ok-insert-in-Ok, in-Err+in_ok-push-in-Err}
+use Rattle.dns_plain.proofs.sections.+read_records.Goals as goal
+use Rattle.dns_plain.proofs.sections.+read_records.Goals.{in-Ok+in_ok-items-in-Ok+in_ok-insert-in-Ok, in-Err+in_ok-push-in-Err}
 
 pub returns-then-count-eq0 : goal.returns-then-count-eq0
 returns-then-count-eq0 t c = reading_none _ _ _ _ _ (omega arith) c.new-items.ensures.items
