@@ -1,0 +1,3 @@
+mod EntrySteps
+mod NameSteps
+mod SectionSteps
