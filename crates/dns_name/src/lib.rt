@@ -30,7 +30,7 @@ pub use head::Head;
 pub use label::Label;
 pub use label_iter::LabelIter;
 pub use name::Name;
-pub use name_print::DisplayWithDot;
+pub use name_print::{DisplayWithDot, write_dotted_name, write_label, write_name, write_octet};
 pub use parsed_name::ParsedName;
 pub use parser::Parser;
 pub use suffix_iter::SuffixIter;

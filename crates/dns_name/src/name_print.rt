@@ -1,64 +1,85 @@
 //! Printing of names in presentation format (RFC 1035 section 5.1).
-ghost use Rattle.std.specs.Prelude.{◌≡◌, Some, ℕ};
-ghost use Rattle.std.specs.Fmt.{WritesOnOk};
+ghost use Rattle.std.specs.Prelude.{◌≡◌, OnErr, Some, ℕ};
 ghost use Rattle.dns_name.specs.ParsedName.{label_octets, labels};
 ghost use Rattle.dns_name.specs.NameReading.{name_labels};
 ghost use Rattle.dns_name.specs.DottedNames.{dotted_labels};
 ghost use Rattle.dns_name.specs.NameTexts.{decimal_text, dotted_text, label_text, name_text, octet_text};
+ghost use Rattle.dns_print.specs.Printing.{PrintsOnOk};
 
 use crate::label::Label;
 use crate::name::Name;
 use crate::parsed_name::ParsedName;
 use crate::to_name::ToName;
 use dns_octets::Octets;
+use dns_print::TextWriter;
 use std::fmt;
 
 /// Prints a backslash and the three decimal digits of an octet.
-fn write_decimal<W: fmt::Write>(f: &mut fmt::Formatter<W>, octet: u8) -> fmt::Result
-    ensures { WritesOnOk W.write_str_gives f.old result (decimal_text octet) f.new }
+#[tactic(auto, using(dns_print::proofs::theory::Prints::prints, std::proofs::lemmas::Grind::common_steps))]
+fn write_decimal<W: TextWriter>(writer: &mut W, octet: u8) -> fmt::Result
+    ensures text { PrintsOnOk W.takes writer.old result (decimal_text octet) writer.new }
+    ensures err { OnErr result W.MayFail }
 {
-    f.write_char('\\')?;
-    f.write_char(char::from(b'0' + octet / 100))?;
-    f.write_char(char::from(b'0' + octet / 10 % 10))?;
-    f.write_char(char::from(b'0' + octet % 10))
+    writer.write_char('\\')?;
+    writer.write_char(char::from(b'0' + octet / 100))?;
+    writer.write_char(char::from(b'0' + octet / 10 % 10))?;
+    writer.write_char(char::from(b'0' + octet % 10))
 }
 
-fn write_octet<W: fmt::Write>(f: &mut fmt::Formatter<W>, octet: u8) -> fmt::Result
-    ensures { WritesOnOk W.write_str_gives f.old result (octet_text octet) f.new }
+/// Prints an octet of a label in presentation format.
+#[tactic(auto, using(dns_print::proofs::theory::Prints::prints, std::proofs::lemmas::Grind::common_steps))]
+pub fn write_octet<W: TextWriter>(writer: &mut W, octet: u8) -> fmt::Result
+    ensures text { PrintsOnOk W.takes writer.old result (octet_text octet) writer.new }
+    ensures err { OnErr result W.MayFail }
 {
     match octet {
         b'.' | b'\\' => {
-            f.write_char('\\')?;
-            f.write_char(char::from(octet))
+            writer.write_char('\\')?;
+            writer.write_char(char::from(octet))
         }
-        0x21..=0x7e => f.write_char(char::from(octet)),
-        _ => write_decimal(f, octet),
+        0x21..=0x7e => writer.write_char(char::from(octet)),
+        _ => write_decimal(writer, octet),
     }
 }
 
-fn write_label<W: fmt::Write>(f: &mut fmt::Formatter<W>, label: Label<'_>) -> fmt::Result
-    ensures { WritesOnOk W.write_str_gives f.old result (label_text (label_octets label.entry))
-        f.new }
+/// Prints a label in presentation format.
+#[tactic(auto, using(dns_print::proofs::theory::Prints::prints, std::proofs::lemmas::Grind::common_steps))]
+pub fn write_label<W: TextWriter>(writer: &mut W, label: Label<'_>) -> fmt::Result
+    ensures text { PrintsOnOk W.takes writer.old result (label_text (label_octets label.entry))
+        writer.new }
+    ensures err { OnErr result W.MayFail }
 {
     for octet in label.as_slice() {
-        write_octet(f, *octet)?;
+        write_octet(writer, *octet)?;
     }
     Ok(())
 }
 
 /// Prints the labels separated by dots, and nothing for the root label.
-fn write_labels<W: fmt::Write>(f: &mut fmt::Formatter<W>, name: &ParsedName<'_>) -> fmt::Result
-    ensures { WritesOnOk W.write_str_gives f.old result (name_text (labels name.now)) f.new }
+pub fn write_name<W: TextWriter>(writer: &mut W, name: &ParsedName<'_>) -> fmt::Result
+    ensures text { PrintsOnOk W.takes writer.old result (name_text (labels name.now)) writer.new }
+    ensures err { OnErr result W.MayFail }
 {
     let mut separator = "";
     for label in name.iter_labels() {
         if !label.is_root() {
-            f.write_str(separator)?;
-            write_label(f, label)?;
+            writer.write_text(separator)?;
+            write_label(writer, label)?;
             separator = ".";
         }
     }
     Ok(())
+}
+
+/// Prints the labels separated by dots, and a final dot. The root is a single dot.
+#[tactic(auto, using(dns_print::proofs::theory::Prints::prints))]
+pub fn write_dotted_name<W: TextWriter>(writer: &mut W, name: &ParsedName<'_>) -> fmt::Result
+    ensures text { PrintsOnOk W.takes writer.old result (dotted_text (labels name.now))
+        writer.new }
+    ensures err { OnErr result W.MayFail }
+{
+    write_name(writer, name)?;
+    writer.write_text(".")
 }
 
 /// Prints the labels separated by dots, without a final dot. The root is the empty text.
@@ -68,8 +89,10 @@ fn write_labels<W: fmt::Write>(f: &mut fmt::Formatter<W>, name: &ParsedName<'_>)
 impl<Octs: Octets> fmt::Display for Name<Octs> {
     ghost output = { λ name. Some (name_text (name_labels name)) };
 
+    ghost styled_output = { λ name _. Some (name_text (name_labels name)) };
+
     fn fmt<W: fmt::Write>(&self, f: &mut fmt::Formatter<W>) -> fmt::Result {
-        write_labels(f, &self.as_parsed())
+        fmt::Display::fmt(&self.as_parsed(), f)
     }
 }
 
@@ -77,8 +100,10 @@ impl<Octs: Octets> fmt::Display for Name<Octs> {
 impl fmt::Display for ParsedName<'_> {
     ghost output = { λ name. Some (name_text (labels name)) };
 
+    ghost styled_output = { λ name _. Some (name_text (labels name)) };
+
     fn fmt<W: fmt::Write>(&self, f: &mut fmt::Formatter<W>) -> fmt::Result {
-        write_labels(f, self)
+        write_name(f, self)
     }
 }
 
@@ -92,9 +117,10 @@ pub struct DisplayWithDot<'a> {
 impl fmt::Display for DisplayWithDot<'_> {
     ghost output = { λ it. Some (dotted_text (dotted_labels it)) };
 
+    ghost styled_output = { λ it _. Some (dotted_text (dotted_labels it)) };
+
     fn fmt<W: fmt::Write>(&self, f: &mut fmt::Formatter<W>) -> fmt::Result {
-        write_labels(f, &self.name)?;
-        f.write_char('.')
+        write_dotted_name(f, &self.name)
     }
 }
 

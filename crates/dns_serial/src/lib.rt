@@ -7,4 +7,4 @@
 pub mod laws;
 mod serial;
 
-pub use serial::Serial;
+pub use serial::{Serial, write_serial};

@@ -1,6 +1,8 @@
-ghost use Rattle.std.specs.Prelude.{◌≡◌, ◌↔◌, ℕ, ◌<◌, ◌≤◌, Some, decimal};
+ghost use Rattle.std.specs.Prelude.{◌≡◌, ◌↔◌, ℕ, ◌<◌, ◌≤◌, OnErr, Some, decimal};
+ghost use Rattle.dns_print.specs.Printing.{PrintsOnOk};
 ghost use Rattle.dns_serial.specs.Serials.{serial_sum, IsLess, IsGreater};
 
+use dns_print::{TextWriter, write_number};
 use std::cmp::Ordering;
 use std::fmt;
 use std::marker::Model;
@@ -83,11 +85,21 @@ impl From<Serial> for u32 {
     }
 }
 
+/// Prints the number in decimal digits.
+pub fn write_serial<W: TextWriter>(writer: &mut W, serial: Serial) -> fmt::Result
+    ensures text { PrintsOnOk W.takes writer.old result (decimal serial) writer.new }
+    ensures err { OnErr result W.MayFail }
+{
+    write_number(writer, u64::from(serial.0))
+}
+
 /// The number in decimal digits.
 impl fmt::Display for Serial {
     ghost output = { λ serial. Some (decimal serial) };
 
+    ghost styled_output = { λ serial _. Some (decimal serial) };
+
     fn fmt<W: fmt::Write>(&self, f: &mut fmt::Formatter<W>) -> fmt::Result {
-        write!(f, "{}", self.0)
+        write_serial(f, *self)
     }
 }

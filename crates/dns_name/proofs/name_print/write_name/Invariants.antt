@@ -1,9 +1,9 @@
 use Rattle.std.proofs.Common.{◌≡◌, ◌++◌, List, ℕ}
-use Rattle.std.specs.Fmt.{HasWritten, IsPlainFormatter}
+use Rattle.std.specs.Fmt.{WritesInCalls}
 use Rattle.dns_name.specs.ParsedName.{labels_left, labels}
 use Rattle.dns_name.specs.NameTexts.{name_text}
 use Rattle.dns_name.proofs.NameTextLemmas.{text_left}
-use Rattle.dns_name.proofs.name_print.write_labels.Given as goal
+use Rattle.dns_name.proofs.name_print.write_name.Given as goal
 use denote.Shadow.{shadow}
 use denote.Text.{Utf8}
 
@@ -12,4 +12,4 @@ invariant-loop-label g l =
     (goal.iterator-loop-label g).can_next l.label-iterator
     × (goal.iterator-loop-label g).is_finite l.label-iterator
     × shadow (Utf8 l.separator)
-    × (IsPlainFormatter l.fn.f → (printed : List ℕ) × HasWritten g.W.Write.write_str_gives l.fn.f printed l.f × (printed ++ text_left l.separator (labels_left l.label-iterator) ≡ name_text (labels l.fn.name)))
+    × ((printed : List ℕ) × WritesInCalls g.W.TextWriter.takes l.fn.writer printed l.writer × (printed ++ text_left l.separator (labels_left l.label-iterator) ≡ name_text (labels l.fn.name)))

@@ -1,0 +1,11 @@
+//! Writers of text, and values printed to them.
+//!
+//! What is printed here is the same under any options of a formatter, as a width or `#`. A function
+//! that prints to any writer fails only if the writer does.
+#![tactic(auto)]
+
+mod value;
+mod writer;
+
+pub use value::{write_number, write_value};
+pub use writer::TextWriter;
