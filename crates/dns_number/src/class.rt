@@ -1,11 +1,13 @@
 //! Classes of records.
-ghost use Rattle.std.specs.Prelude.{◌≡◌, ℕ, Some};
+ghost use Rattle.std.specs.Prelude.{◌≡◌, ℕ, OnErr, Some};
 ghost use Rattle.dns_number.specs.NumberTexts.{ReadsNumber};
 ghost use Rattle.dns_number.specs.Classes.{class_text, SpellsClass};
+ghost use Rattle.dns_print.specs.Printing.{PrintsOnOk};
 
 mod registered;
 
 use crate::mnemonic::{self, Entry};
+use dns_print::TextWriter;
 use std::fmt;
 use std::marker::Model;
 use std::str::FromStr;
@@ -46,13 +48,23 @@ impl Class {
     }
 }
 
+/// Prints the text of a class, as `{}` does.
+#[tactic(auto, unfolding(crate::specs::Mnemonics::class_mnemonics))]
+pub fn write_class<W: TextWriter>(writer: &mut W, class: Class) -> fmt::Result
+    ensures text { PrintsOnOk W.takes writer.old result (class_text class) writer.new }
+    ensures err { OnErr result W.MayFail }
+{
+    mnemonic::write(writer, &MNEMONICS, "CLASS", class.0)
+}
+
 /// The mnemonic if the class has one, else `CLASS` and the decimal number (RFC 3597 section 5).
 impl fmt::Display for Class {
     ghost output = { λ class. Some (class_text class) };
 
-    #[tactic(auto, unfolding(crate::specs::Mnemonics::class_mnemonics))]
+    ghost styled_output = { λ class _. Some (class_text class) };
+
     fn fmt<W: fmt::Write>(&self, f: &mut fmt::Formatter<W>) -> fmt::Result {
-        mnemonic::write(f, &MNEMONICS, "CLASS", self.0)
+        write_class(f, *self)
     }
 }
 

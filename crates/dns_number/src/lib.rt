@@ -14,8 +14,8 @@ mod rcode;
 mod registry;
 pub mod rtype;
 
-pub use class::Class;
+pub use class::{Class, write_class};
 pub use opcode::Opcode;
 pub use option_code::OptionCode;
 pub use rcode::{OptRcode, Rcode};
-pub use rtype::Rtype;
+pub use rtype::{Rtype, write_rtype};

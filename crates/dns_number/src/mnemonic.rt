@@ -1,12 +1,13 @@
 //! Tables of numbers with their mnemonics, and the texts of such numbers (RFC 3597 section 5).
-ghost use Rattle.std.specs.Prelude.{◌≡◌, ℕ, ◌↔◌, IsTrue, Some, option_map, ◌<◌, ◌^◌};
-ghost use Rattle.std.specs.Fmt.{WritesOnOk};
+ghost use Rattle.std.specs.Prelude.{◌≡◌, ℕ, ◌↔◌, IsTrue, OnErr, Some, option_map, ◌<◌, ◌^◌, ◌++◌, decimal};
 ghost use Rattle.std.specs.Option.{SomeIff};
 ghost use Rattle.std.specs.Str.Parse.{IsNumeral, digits_value};
 ghost use Rattle.dns_number.specs.Mnemonics.{mnemonic};
 ghost use Rattle.dns_number.specs.NumberTexts.{IsMnemonic, IsNumbered, Spells, number_text};
+ghost use Rattle.dns_print.specs.Printing.{PrintsOnOk};
 ghost use Rattle.dns_number.specs.Tables.{table, is_distinct, is_apart};
 
+use dns_print::{TextWriter, write_number};
 use std::fmt;
 
 /// A number and its mnemonic.
@@ -23,19 +24,30 @@ fn of(entries: &[Entry], number: u16) -> Option<&'static str>
     None
 }
 
+/// Prints the word and the decimal number.
+#[tactic(auto, using(dns_print::proofs::theory::Prints::prints))]
+fn write_numbered<W: TextWriter>(writer: &mut W, word: &str, number: u16) -> fmt::Result
+    ensures text { PrintsOnOk W.takes writer.old result (word.now ++ decimal number) writer.new }
+    ensures err { OnErr result W.MayFail }
+{
+    writer.write_text(word)?;
+    write_number(writer, u64::from(number))
+}
+
 /// Prints the mnemonic of the number if it has one, else the word and the decimal number.
-pub(crate) fn write<W: fmt::Write>(
-    f: &mut fmt::Formatter<W>,
+pub(crate) fn write<W: TextWriter>(
+    writer: &mut W,
     entries: &[Entry],
     word: &str,
     number: u16,
 ) -> fmt::Result
-    ensures { WritesOnOk W.write_str_gives f.old result
-        (number_text (table entries.now) word.now number) f.new }
+    ensures text { PrintsOnOk W.takes writer.old result
+        (number_text (table entries.now) word.now number) writer.new }
+    ensures err { OnErr result W.MayFail }
 {
     match of(entries, number) {
-        Some(mnemonic) => f.write_str(mnemonic),
-        None => write!(f, "{word}{number}"),
+        Some(mnemonic) => writer.write_text(mnemonic),
+        None => write_numbered(writer, word, number),
     }
 }
 

@@ -1,11 +1,13 @@
 //! Record types.
-ghost use Rattle.std.specs.Prelude.{◌≡◌, ℕ, Some};
+ghost use Rattle.std.specs.Prelude.{◌≡◌, ℕ, OnErr, Some};
 ghost use Rattle.dns_number.specs.NumberTexts.{ReadsNumber};
 ghost use Rattle.dns_number.specs.Types.{type_text, SpellsType};
+ghost use Rattle.dns_print.specs.Printing.{PrintsOnOk};
 
 mod registered;
 
 use crate::mnemonic::{self, Entry};
+use dns_print::TextWriter;
 use std::fmt;
 use std::marker::Model;
 use std::str::FromStr;
@@ -55,13 +57,23 @@ impl Rtype {
     }
 }
 
+/// Prints the text of a type, as `{}` does.
+#[tactic(auto, unfolding(crate::specs::Mnemonics::type_mnemonics))]
+pub fn write_rtype<W: TextWriter>(writer: &mut W, rtype: Rtype) -> fmt::Result
+    ensures text { PrintsOnOk W.takes writer.old result (type_text rtype) writer.new }
+    ensures err { OnErr result W.MayFail }
+{
+    mnemonic::write(writer, &MNEMONICS, "TYPE", rtype.0)
+}
+
 /// The mnemonic if the type has one, else `TYPE` and the decimal number (RFC 3597 section 5).
 impl fmt::Display for Rtype {
     ghost output = { λ rtype. Some (type_text rtype) };
 
-    #[tactic(auto, unfolding(crate::specs::Mnemonics::type_mnemonics))]
+    ghost styled_output = { λ rtype _. Some (type_text rtype) };
+
     fn fmt<W: fmt::Write>(&self, f: &mut fmt::Formatter<W>) -> fmt::Result {
-        mnemonic::write(f, &MNEMONICS, "TYPE", self.0)
+        write_rtype(f, *self)
     }
 }
 
