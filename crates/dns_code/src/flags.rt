@@ -1,9 +1,10 @@
-ghost use Rattle.std.specs.Prelude.{◌≡◌, Some, MatchOption, IsErr, Ok, false};
-ghost use Rattle.std.specs.Fmt.{WritesOnOk};
+ghost use Rattle.std.specs.Prelude.{◌≡◌, OnErr, Some, MatchOption, IsErr, Ok, false};
 ghost use Rattle.std.specs.List.{list_all};
+ghost use Rattle.dns_print.specs.Printing.{PrintsOnOk};
 ghost use Rattle.dns_code.specs.Flags.{flags_read, flags_text, is_flags_token, is_named, joined, names_shown, tokens};
 
 use crate::error::FlagsFromStrError;
+use dns_print::TextWriter;
 use std::fmt;
 use std::str::FromStr;
 
@@ -55,31 +56,42 @@ impl Flags {
 impl fmt::Display for Flags {
     ghost output = { λ flags. Some (flags_text flags) };
 
+    ghost styled_output = { λ flags _. Some (flags_text flags) };
+
     fn fmt<W: fmt::Write>(&self, f: &mut fmt::Formatter<W>) -> fmt::Result {
-        write_names(
-            f,
-            &[
-                (self.qr, "QR"),
-                (self.aa, "AA"),
-                (self.tc, "TC"),
-                (self.rd, "RD"),
-                (self.ra, "RA"),
-                (self.ad, "AD"),
-                (self.cd, "CD"),
-            ],
-        )
+        write_flags(f, self)
     }
 }
 
+/// Prints the names of the flags that are set, separated by one space.
+fn write_flags<W: TextWriter>(f: &mut W, flags: &Flags) -> fmt::Result
+    ensures text { PrintsOnOk W.takes f.old result (flags_text flags.now) f.new }
+    ensures err { OnErr result W.MayFail }
+{
+    write_names(
+        f,
+        &[
+            (flags.qr, "QR"),
+            (flags.aa, "AA"),
+            (flags.tc, "TC"),
+            (flags.rd, "RD"),
+            (flags.ra, "RA"),
+            (flags.ad, "AD"),
+            (flags.cd, "CD"),
+        ],
+    )
+}
+
 /// Prints the names whose flag is set, separated by one space.
-fn write_names<W: fmt::Write>(f: &mut fmt::Formatter<W>, names: &[(bool, &str)]) -> fmt::Result
-    ensures { WritesOnOk W.write_str_gives f.old result (joined (names_shown names.now)) f.new }
+fn write_names<W: TextWriter>(f: &mut W, names: &[(bool, &str)]) -> fmt::Result
+    ensures text { PrintsOnOk W.takes f.old result (joined (names_shown names.now)) f.new }
+    ensures err { OnErr result W.MayFail }
 {
     let mut separator = "";
     for (is_set, name) in names {
         if *is_set {
-            f.write_str(separator)?;
-            f.write_str(name)?;
+            f.write_text(separator)?;
+            f.write_text(name)?;
             separator = " ";
         }
     }

@@ -1,10 +1,12 @@
 //! EUI-48 and EUI-64 addresses (RFC 7043), and 64-bit locators (RFC 6742 section 2.1.2). The addresses
 //! of IPv4 and IPv6 are std's.
-ghost use Rattle.std.specs.Prelude.{Some, ◌++◌};
-ghost use Rattle.std.specs.Fmt.{WritesOnOk};
+ghost use Rattle.std.specs.Prelude.{OnErr, Some, ◌++◌};
 ghost use Rattle.std.specs.List.{flat_map};
+ghost use Rattle.dns_print.specs.Printing.{PrintsOnOk};
 ghost use Rattle.dns_value_text.specs.Addresses.{eui_text, hyphen_pair, locator_text, low_pair};
 
+use crate::hexadecimal::write_pair;
+use dns_print::TextWriter;
 use std::fmt;
 
 /// Octets that print as pairs of lowercase hexadecimal digits, separated by hyphens: an EUI-48 or
@@ -17,24 +19,21 @@ pub struct Eui<'a>(pub &'a [u8]);
 #[derive(Clone, Copy, Debug)]
 pub struct Locator64(pub [u8; 8]);
 
-/// Prints an octet as two lowercase hexadecimal digits.
-fn write_pair<W: fmt::Write>(f: &mut fmt::Formatter<W>, octet: u8) -> fmt::Result
-    ensures { WritesOnOk W.write_str_gives f.old result (low_pair octet) f.new }
-{
-    write!(f, "{octet:02x}")
-}
-
 /// Prints a hyphen and an octet.
-fn write_hyphen_pair<W: fmt::Write>(f: &mut fmt::Formatter<W>, octet: u8) -> fmt::Result
-    ensures { WritesOnOk W.write_str_gives f.old result (hyphen_pair octet) f.new }
+#[tactic(auto, using(dns_print::proofs::theory::Prints::prints, std::proofs::lemmas::Grind::common_steps))]
+fn write_hyphen_pair<W: TextWriter>(f: &mut W, octet: u8) -> fmt::Result
+    ensures text { PrintsOnOk W.takes f.old result (hyphen_pair octet) f.new }
+    ensures err { OnErr result W.MayFail }
 {
-    f.write_char('-')?;
-    write_pair(f, octet)
+    f.write_text("-")?;
+    write_pair(f, false, octet)
 }
 
 /// Prints each octet after a hyphen.
-fn write_hyphen_pairs<W: fmt::Write>(f: &mut fmt::Formatter<W>, octets: &[u8]) -> fmt::Result
-    ensures { WritesOnOk W.write_str_gives f.old result (flat_map hyphen_pair octets.now) f.new }
+#[tactic(auto, using(dns_print::proofs::theory::Prints::prints, std::proofs::lemmas::Grind::common_steps))]
+fn write_hyphen_pairs<W: TextWriter>(f: &mut W, octets: &[u8]) -> fmt::Result
+    ensures text { PrintsOnOk W.takes f.old result (flat_map hyphen_pair octets.now) f.new }
+    ensures err { OnErr result W.MayFail }
 {
     for octet in octets {
         write_hyphen_pair(f, *octet)?;
@@ -42,35 +41,50 @@ fn write_hyphen_pairs<W: fmt::Write>(f: &mut fmt::Formatter<W>, octets: &[u8]) -
     Ok(())
 }
 
+/// Prints octets as pairs of digits, separated by hyphens.
+#[tactic(auto, using(dns_print::proofs::theory::Prints::prints, std::proofs::lemmas::Grind::common_steps))]
+fn write_eui<W: TextWriter>(f: &mut W, octets: &[u8]) -> fmt::Result
+    ensures text { PrintsOnOk W.takes f.old result (eui_text octets.now) f.new }
+    ensures err { OnErr result W.MayFail }
+{
+    let [first, after @ ..] = octets else {
+        return Ok(());
+    };
+    write_pair(f, false, *first)?;
+    write_hyphen_pairs(f, after)
+}
+
 impl fmt::Display for Eui<'_> {
     ghost output = { λ eui. Some (eui_text eui.0.now) };
 
+    ghost styled_output = { λ eui _. Some (eui_text eui.0.now) };
+
     fn fmt<W: fmt::Write>(&self, f: &mut fmt::Formatter<W>) -> fmt::Result {
-        let [first, after @ ..] = self.0 else {
-            return Ok(());
-        };
-        write_pair(f, *first)?;
-        write_hyphen_pairs(f, after)
+        write_eui(f, self.0)
     }
 }
 
 /// Prints two octets as four hexadecimal digits.
-fn write_group<W: fmt::Write>(f: &mut fmt::Formatter<W>, high: u8, low: u8) -> fmt::Result
-    ensures { WritesOnOk W.write_str_gives f.old result (low_pair high ++ low_pair low) f.new }
+#[tactic(auto, using(dns_print::proofs::theory::Prints::prints, std::proofs::lemmas::Grind::common_steps))]
+fn write_group<W: TextWriter>(f: &mut W, high: u8, low: u8) -> fmt::Result
+    ensures text { PrintsOnOk W.takes f.old result (low_pair high ++ low_pair low) f.new }
+    ensures err { OnErr result W.MayFail }
 {
-    write_pair(f, high)?;
-    write_pair(f, low)
+    write_pair(f, false, high)?;
+    write_pair(f, false, low)
 }
 
 /// Prints groups of two octets, separated by colons.
-fn write_groups<W: fmt::Write>(f: &mut fmt::Formatter<W>, octets: &[u8]) -> fmt::Result
-    ensures { WritesOnOk W.write_str_gives f.old result (locator_text octets.now) f.new }
+#[tactic(auto, using(dns_print::proofs::theory::Prints::prints, std::proofs::lemmas::Grind::common_steps))]
+fn write_groups<W: TextWriter>(f: &mut W, octets: &[u8]) -> fmt::Result
+    ensures text { PrintsOnOk W.takes f.old result (locator_text octets.now) f.new }
+    ensures err { OnErr result W.MayFail }
 {
     match octets {
         [high, low] => write_group(f, *high, *low),
         [high, low, after @ ..] => {
             write_group(f, *high, *low)?;
-            f.write_char(':')?;
+            f.write_text(":")?;
             write_groups(f, after)
         }
         _ => Ok(()),
@@ -79,6 +93,8 @@ fn write_groups<W: fmt::Write>(f: &mut fmt::Formatter<W>, octets: &[u8]) -> fmt:
 
 impl fmt::Display for Locator64 {
     ghost output = { λ locator. Some (locator_text locator.0) };
+
+    ghost styled_output = { λ locator _. Some (locator_text locator.0) };
 
     fn fmt<W: fmt::Write>(&self, f: &mut fmt::Formatter<W>) -> fmt::Result {
         write_groups(f, &self.0)

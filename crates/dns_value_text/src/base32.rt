@@ -1,10 +1,12 @@
 //! Octets in base32 with the extended hexadecimal alphabet and without padding (RFC 4648 section 7,
 //! RFC 5155 section 3.3).
-ghost use Rattle.std.specs.Prelude.{◌≡◌, ◌<◌, Some, length, true};
-ghost use Rattle.std.specs.Fmt.{WritesOnOk, digit_glyph};
+ghost use Rattle.std.specs.Prelude.{OnErr, ◌≡◌, ◌<◌, Some, length, true};
+ghost use Rattle.std.specs.Fmt.{digit_glyph};
+ghost use Rattle.dns_print.specs.Printing.{PrintsOnOk};
 ghost use Rattle.dns_value_text.specs.Base32.{base32_digits, base32_text};
 
 use crate::number::number_of;
+use dns_print::TextWriter;
 use std::fmt;
 
 /// Octets that print in base32: digits 0 to 9 and A to V, without padding.
@@ -26,8 +28,9 @@ fn digit(number: u8) -> char
 
 /// Prints the last `count` digits of a number.
 #[tactic(auto, using(crate::proofs::Base32Lemmas::digits_none, crate::proofs::Base32Lemmas::digits_more))]
-fn write_digits<W: fmt::Write>(f: &mut fmt::Formatter<W>, count: u8, number: u64) -> fmt::Result
-    ensures { WritesOnOk W.write_str_gives f.old result (base32_digits count number) f.new }
+fn write_digits<W: TextWriter>(f: &mut W, count: u8, number: u64) -> fmt::Result
+    ensures text { PrintsOnOk W.takes f.old result (base32_digits count number) f.new }
+    ensures err { OnErr result W.MayFail }
 {
     if count == 0 {
         return Ok(());
@@ -37,9 +40,11 @@ fn write_digits<W: fmt::Write>(f: &mut fmt::Formatter<W>, count: u8, number: u64
 }
 
 /// Prints at most four octets in base32.
-fn write_last<W: fmt::Write>(f: &mut fmt::Formatter<W>, octets: &[u8]) -> fmt::Result
+#[tactic(auto, using(dns_print::proofs::theory::Prints::prints, std::proofs::lemmas::Grind::common_steps))]
+fn write_last<W: TextWriter>(f: &mut W, octets: &[u8]) -> fmt::Result
     requires { length octets.now < 5 }
-    ensures { WritesOnOk W.write_str_gives f.old result (base32_text octets.now) f.new }
+    ensures text { PrintsOnOk W.takes f.old result (base32_text octets.now) f.new }
+    ensures err { OnErr result W.MayFail }
 {
     match octets {
         [] => Ok(()),
@@ -52,8 +57,10 @@ fn write_last<W: fmt::Write>(f: &mut fmt::Formatter<W>, octets: &[u8]) -> fmt::R
 }
 
 /// Prints octets in base32.
-fn write_octets<W: fmt::Write>(f: &mut fmt::Formatter<W>, octets: &[u8]) -> fmt::Result
-    ensures { WritesOnOk W.write_str_gives f.old result (base32_text octets.now) f.new }
+#[tactic(auto, using(dns_print::proofs::theory::Prints::prints, std::proofs::lemmas::Grind::common_steps))]
+fn write_octets<W: TextWriter>(f: &mut W, octets: &[u8]) -> fmt::Result
+    ensures text { PrintsOnOk W.takes f.old result (base32_text octets.now) f.new }
+    ensures err { OnErr result W.MayFail }
 {
     if octets.len() < 5 {
         return write_last(f, octets);
@@ -65,6 +72,8 @@ fn write_octets<W: fmt::Write>(f: &mut fmt::Formatter<W>, octets: &[u8]) -> fmt:
 
 impl fmt::Display for Base32<'_> {
     ghost output = { λ base32. Some (base32_text base32.0.now) };
+
+    ghost styled_output = { λ base32 _. Some (base32_text base32.0.now) };
 
     fn fmt<W: fmt::Write>(&self, f: &mut fmt::Formatter<W>) -> fmt::Result {
         write_octets(f, self.0)

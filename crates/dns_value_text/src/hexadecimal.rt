@@ -1,28 +1,69 @@
 //! Octets in hexadecimal (RFC 4648 section 8).
-ghost use Rattle.std.specs.Prelude.{Some};
-ghost use Rattle.std.specs.Fmt.{WritesOnOk};
-ghost use Rattle.dns_value_text.specs.Hex.{hex_pair, hex_text};
+ghost use Rattle.std.specs.Prelude.{OnErr, ◌≡◌, ◌<◌, ◌/◌, ◌%◌, Some, [], ◌∷◌};
+ghost use Rattle.std.specs.Fmt.{digit_glyph};
+ghost use Rattle.dns_print.specs.Printing.{PrintsOnOk};
+ghost use Rattle.dns_value_text.specs.Hex.{hex_text};
 
+use dns_print::TextWriter;
 use std::fmt;
 
 /// Octets that print as two uppercase hexadecimal digits each.
 #[derive(Clone, Copy, Debug)]
 pub struct Hex<'a>(pub &'a [u8]);
 
-/// Prints an octet as two uppercase hexadecimal digits.
-fn write_pair<W: fmt::Write>(f: &mut fmt::Formatter<W>, octet: u8) -> fmt::Result
-    ensures { WritesOnOk W.write_str_gives f.old result (hex_pair octet) f.new }
+/// The hexadecimal digit of a number.
+fn digit(upper: bool, number: u8) -> char
+    requires { number < 16 }
+    ensures glyph { result ≡ digit_glyph upper number }
+    ensures ascii { result < 128 }
 {
-    write!(f, "{octet:02X}")
+    char::from(if number < 10 {
+        b'0' + number
+    } else if upper {
+        b'A' + (number - 10)
+    } else {
+        b'a' + (number - 10)
+    })
+}
+
+/// Prints a hexadecimal digit.
+fn write_digit<W: TextWriter>(f: &mut W, upper: bool, number: u8) -> fmt::Result
+    requires { number < 16 }
+    ensures text { PrintsOnOk W.takes f.old result (digit_glyph upper number ∷ []) f.new }
+    ensures err { OnErr result W.MayFail }
+{
+    f.write_char(digit(upper, number))
+}
+
+/// Prints an octet as two hexadecimal digits.
+#[tactic(auto, using(dns_print::proofs::theory::Prints::prints, std::proofs::lemmas::Grind::common_steps))]
+pub(crate) fn write_pair<W: TextWriter>(f: &mut W, upper: bool, octet: u8) -> fmt::Result
+    ensures text { PrintsOnOk W.takes f.old result
+        (digit_glyph upper (octet / 16) ∷ digit_glyph upper (octet % 16) ∷ []) f.new }
+    ensures err { OnErr result W.MayFail }
+{
+    write_digit(f, upper, octet / 16)?;
+    write_digit(f, upper, octet % 16)
+}
+
+/// Prints octets as two uppercase hexadecimal digits each.
+#[tactic(auto, using(dns_print::proofs::theory::Prints::prints, std::proofs::lemmas::Grind::common_steps))]
+fn write_pairs<W: TextWriter>(f: &mut W, octets: &[u8]) -> fmt::Result
+    ensures text { PrintsOnOk W.takes f.old result (hex_text octets.now) f.new }
+    ensures err { OnErr result W.MayFail }
+{
+    for octet in octets {
+        write_pair(f, true, *octet)?;
+    }
+    Ok(())
 }
 
 impl fmt::Display for Hex<'_> {
     ghost output = { λ hex. Some (hex_text hex.0.now) };
 
+    ghost styled_output = { λ hex _. Some (hex_text hex.0.now) };
+
     fn fmt<W: fmt::Write>(&self, f: &mut fmt::Formatter<W>) -> fmt::Result {
-        for octet in self.0 {
-            write_pair(f, *octet)?;
-        }
-        Ok(())
+        write_pairs(f, self.0)
     }
 }

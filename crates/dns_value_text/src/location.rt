@@ -1,9 +1,10 @@
 //! Locations (RFC 1876 sections 2 and 3).
-ghost use Rattle.std.specs.Prelude.{◌≡◌, Some, true};
-ghost use Rattle.std.specs.Fmt.{WritesOnOk};
-ghost use Rattle.dns_value_text.specs.Locations.{altitude_text, angle_text, are_printable, direction_text, is_angle, is_size, metres_text, position_text, seconds_text, size_of, size_text};
+ghost use Rattle.std.specs.Prelude.{OnErr, ◌≡◌, ◌++◌, ◌∷◌, [], Some, decimal, true, nat_lt, if◌then◌else◌};
+ghost use Rattle.dns_print.specs.Printing.{PrintsOnOk};
+ghost use Rattle.dns_value_text.specs.Locations.{altitude_text, angle_text, are_printable, direction_text, is_angle, is_size, metres_text, middle, position_text, seconds_text, size_of, size_text};
 
 use crate::time::write_two_digits;
+use dns_print::{TextWriter, write_number};
 use std::fmt;
 
 /// The number of the equator and of the prime meridian.
@@ -107,77 +108,124 @@ fn size_of(octet: u8) -> u64
 }
 
 /// Prints a length in metres with two decimals.
-fn write_metres<W: fmt::Write>(f: &mut fmt::Formatter<W>, centimetres: u64) -> fmt::Result
-    ensures { WritesOnOk W.write_str_gives f.old result (metres_text centimetres) f.new }
+#[tactic(auto, using(dns_print::proofs::theory::Prints::prints, std::proofs::lemmas::Grind::common_steps))]
+fn write_metres<W: TextWriter>(f: &mut W, centimetres: u64) -> fmt::Result
+    ensures text { PrintsOnOk W.takes f.old result (metres_text centimetres) f.new }
+    ensures err { OnErr result W.MayFail }
 {
-    write!(f, "{}.", centimetres / 100)?;
+    write_number(f, centimetres / 100)?;
+    f.write_text(".")?;
     write_two_digits(f, (centimetres % 100) as u32)?;
-    f.write_char('m')
+    f.write_text("m")
 }
 
 /// Prints seconds with three decimals.
-fn write_seconds<W: fmt::Write>(f: &mut fmt::Formatter<W>, thousandths: u32) -> fmt::Result
-    ensures { WritesOnOk W.write_str_gives f.old result (seconds_text thousandths) f.new }
+#[tactic(auto, using(dns_print::proofs::theory::Prints::prints, std::proofs::lemmas::Grind::common_steps))]
+fn write_seconds<W: TextWriter>(f: &mut W, thousandths: u32) -> fmt::Result
+    ensures text { PrintsOnOk W.takes f.old result (seconds_text thousandths) f.new }
+    ensures err { OnErr result W.MayFail }
 {
-    write!(f, "{}.", thousandths / 1000)?;
+    write_number(f, u64::from(thousandths / 1000))?;
+    f.write_text(".")?;
     f.write_char(char::from(b'0' + (thousandths / 100 % 10) as u8))?;
     write_two_digits(f, thousandths % 100)
 }
 
-/// Prints an angle: degrees, minutes, and seconds with three decimals.
-fn write_angle<W: fmt::Write>(f: &mut fmt::Formatter<W>, angle: u32) -> fmt::Result
-    ensures { WritesOnOk W.write_str_gives f.old result (angle_text angle) f.new }
+/// Prints a number and a space.
+#[tactic(auto, using(dns_print::proofs::theory::Prints::prints, std::proofs::lemmas::Grind::common_steps))]
+fn write_spaced<W: TextWriter>(f: &mut W, number: u32) -> fmt::Result
+    ensures text { PrintsOnOk W.takes f.old result (decimal number ++ 32 ∷ []) f.new }
+    ensures err { OnErr result W.MayFail }
 {
-    write!(f, "{} {} ", angle / 3_600_000, angle / 60_000 % 60)?;
+    write_number(f, u64::from(number))?;
+    f.write_text(" ")
+}
+
+/// Prints an angle: degrees, minutes, and seconds with three decimals.
+#[tactic(auto, using(dns_print::proofs::theory::Prints::prints, std::proofs::lemmas::Grind::common_steps))]
+fn write_angle<W: TextWriter>(f: &mut W, angle: u32) -> fmt::Result
+    ensures text { PrintsOnOk W.takes f.old result (angle_text angle) f.new }
+    ensures err { OnErr result W.MayFail }
+{
+    write_spaced(f, angle / 3_600_000)?;
+    write_spaced(f, angle / 60_000 % 60)?;
     write_seconds(f, angle % 60_000)
 }
 
+/// The direction of a number from the middle.
+fn direction<'a>(number: u32, positive: &'a str, negative: &'a str) -> &'a str
+    ensures { result.now ≡ (if nat_lt number middle then negative.entry.now else positive.entry.now) }
+{
+    if number < MIDDLE { negative } else { positive }
+}
+
 /// Prints the angle of a number and its direction.
-fn write_direction<W: fmt::Write>(
-    f: &mut fmt::Formatter<W>,
+#[tactic(auto, using(dns_print::proofs::theory::Prints::prints, std::proofs::lemmas::Grind::common_steps))]
+fn write_direction<W: TextWriter>(
+    f: &mut W,
     number: u32,
     positive: &str,
     negative: &str,
 ) -> fmt::Result
-    ensures { WritesOnOk W.write_str_gives f.old result
+    ensures text { PrintsOnOk W.takes f.old result
         (direction_text positive.now negative.now number) f.new }
+    ensures err { OnErr result W.MayFail }
 {
     write_angle(f, number.abs_diff(MIDDLE))?;
-    f.write_char(' ')?;
-    f.write_str(if number < MIDDLE { negative } else { positive })
+    f.write_text(" ")?;
+    f.write_text(direction(number, positive, negative))
 }
 
 /// Prints the altitude of a number.
-fn write_altitude<W: fmt::Write>(f: &mut fmt::Formatter<W>, number: u32) -> fmt::Result
-    ensures { WritesOnOk W.write_str_gives f.old result (altitude_text number) f.new }
+#[tactic(auto, using(dns_print::proofs::theory::Prints::prints, std::proofs::lemmas::Grind::common_steps))]
+fn write_altitude<W: TextWriter>(f: &mut W, number: u32) -> fmt::Result
+    ensures text { PrintsOnOk W.takes f.old result (altitude_text number) f.new }
+    ensures err { OnErr result W.MayFail }
 {
     if number < SPHEROID {
-        f.write_char('-')?;
+        f.write_text("-")?;
     }
     write_metres(f, u64::from(number.abs_diff(SPHEROID)))
 }
 
 /// Prints a size after a space.
-fn write_size<W: fmt::Write>(f: &mut fmt::Formatter<W>, octet: u8) -> fmt::Result
+#[tactic(auto, using(dns_print::proofs::theory::Prints::prints, std::proofs::lemmas::Grind::common_steps))]
+fn write_size<W: TextWriter>(f: &mut W, octet: u8) -> fmt::Result
     requires { is_size octet ≡ true }
-    ensures { WritesOnOk W.write_str_gives f.old result (size_text octet) f.new }
+    ensures text { PrintsOnOk W.takes f.old result (size_text octet) f.new }
+    ensures err { OnErr result W.MayFail }
 {
-    f.write_char(' ')?;
+    f.write_text(" ")?;
     write_metres(f, size_of(octet))
 }
 
 /// Prints latitude and longitude, each before a space.
-fn write_position<W: fmt::Write>(
-    f: &mut fmt::Formatter<W>,
-    latitude: u32,
-    longitude: u32,
-) -> fmt::Result
-    ensures { WritesOnOk W.write_str_gives f.old result (position_text latitude longitude) f.new }
+#[tactic(auto, using(dns_print::proofs::theory::Prints::prints, std::proofs::lemmas::Grind::common_steps))]
+fn write_position<W: TextWriter>(f: &mut W, latitude: u32, longitude: u32) -> fmt::Result
+    ensures text { PrintsOnOk W.takes f.old result (position_text latitude longitude) f.new }
+    ensures err { OnErr result W.MayFail }
 {
     write_direction(f, latitude, "N", "S")?;
-    f.write_char(' ')?;
+    f.write_text(" ")?;
     write_direction(f, longitude, "E", "W")?;
-    f.write_char(' ')
+    f.write_text(" ")
+}
+
+impl Location {
+    ghost use Rattle.dns_value_text.specs.LocationItems.{location_item, location_text};
+
+    /// Prints latitude, longitude, altitude, size, and horizontal and vertical precision.
+    fn write<W: TextWriter>(&self, f: &mut W) -> fmt::Result
+        ensures text { PrintsOnOk W.takes f.old result (location_text (location_item self.now))
+            f.new }
+        ensures err { OnErr result W.MayFail }
+    {
+        write_position(f, self.latitude, self.longitude)?;
+        write_altitude(f, self.altitude)?;
+        write_size(f, self.size)?;
+        write_size(f, self.horizontal)?;
+        write_size(f, self.vertical)
+    }
 }
 
 impl fmt::Display for Location {
@@ -185,11 +233,9 @@ impl fmt::Display for Location {
 
     ghost output = { λ location. Some (location_text (location_item location)) };
 
+    ghost styled_output = { λ location _. Some (location_text (location_item location)) };
+
     fn fmt<W: fmt::Write>(&self, f: &mut fmt::Formatter<W>) -> fmt::Result {
-        write_position(f, self.latitude, self.longitude)?;
-        write_altitude(f, self.altitude)?;
-        write_size(f, self.size)?;
-        write_size(f, self.horizontal)?;
-        write_size(f, self.vertical)
+        self.write(f)
     }
 }

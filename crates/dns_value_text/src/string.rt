@@ -1,10 +1,11 @@
 //! Character strings and tags (RFC 1035 section 5.1; tags: RFC 8659 section 4.1).
-ghost use Rattle.std.specs.Prelude.{Some, ◌≡◌, true};
+ghost use Rattle.std.specs.Prelude.{OnErr, Some, ◌≡◌, true};
 ghost use Rattle.std.specs.Char.{is_ascii_alphanumeric};
-ghost use Rattle.std.specs.Fmt.{WritesOnOk};
 ghost use Rattle.std.specs.List.{flat_map, list_all};
+ghost use Rattle.dns_print.specs.Printing.{PrintsOnOk};
 ghost use Rattle.dns_value_text.specs.String.{decimal_text, is_tag, quoted, string_octet};
 
+use dns_print::TextWriter;
 use std::fmt;
 
 /// Octets that print in quotes. A backslash precedes a quote or a backslash. An octet that is neither
@@ -13,8 +14,10 @@ use std::fmt;
 pub struct Quoted<'a>(pub &'a [u8]);
 
 /// Prints a backslash and the three decimal digits of an octet.
-fn write_decimal<W: fmt::Write>(f: &mut fmt::Formatter<W>, octet: u8) -> fmt::Result
-    ensures { WritesOnOk W.write_str_gives f.old result (decimal_text octet) f.new }
+#[tactic(auto, using(dns_print::proofs::theory::Prints::prints, std::proofs::lemmas::Grind::common_steps))]
+fn write_decimal<W: TextWriter>(f: &mut W, octet: u8) -> fmt::Result
+    ensures text { PrintsOnOk W.takes f.old result (decimal_text octet) f.new }
+    ensures err { OnErr result W.MayFail }
 {
     f.write_char('\\')?;
     f.write_char(char::from(b'0' + octet / 100))?;
@@ -23,8 +26,10 @@ fn write_decimal<W: fmt::Write>(f: &mut fmt::Formatter<W>, octet: u8) -> fmt::Re
 }
 
 /// Prints an octet of a quoted string.
-fn write_octet<W: fmt::Write>(f: &mut fmt::Formatter<W>, octet: u8) -> fmt::Result
-    ensures { WritesOnOk W.write_str_gives f.old result (string_octet octet) f.new }
+#[tactic(auto, using(dns_print::proofs::theory::Prints::prints, std::proofs::lemmas::Grind::common_steps))]
+fn write_octet<W: TextWriter>(f: &mut W, octet: u8) -> fmt::Result
+    ensures text { PrintsOnOk W.takes f.old result (string_octet octet) f.new }
+    ensures err { OnErr result W.MayFail }
 {
     match octet {
         b'"' | b'\\' => {
@@ -37,8 +42,10 @@ fn write_octet<W: fmt::Write>(f: &mut fmt::Formatter<W>, octet: u8) -> fmt::Resu
 }
 
 /// Prints octets as they stand between quotes.
-fn write_octets<W: fmt::Write>(f: &mut fmt::Formatter<W>, octets: &[u8]) -> fmt::Result
-    ensures { WritesOnOk W.write_str_gives f.old result (flat_map string_octet octets.now) f.new }
+#[tactic(auto, using(dns_print::proofs::theory::Prints::prints, std::proofs::lemmas::Grind::common_steps))]
+fn write_octets<W: TextWriter>(f: &mut W, octets: &[u8]) -> fmt::Result
+    ensures text { PrintsOnOk W.takes f.old result (flat_map string_octet octets.now) f.new }
+    ensures err { OnErr result W.MayFail }
 {
     for octet in octets {
         write_octet(f, *octet)?;
@@ -46,13 +53,24 @@ fn write_octets<W: fmt::Write>(f: &mut fmt::Formatter<W>, octets: &[u8]) -> fmt:
     Ok(())
 }
 
+/// Prints octets in quotes.
+#[tactic(auto, using(dns_print::proofs::theory::Prints::prints, std::proofs::lemmas::Grind::common_steps))]
+fn write_quoted<W: TextWriter>(f: &mut W, octets: &[u8]) -> fmt::Result
+    ensures text { PrintsOnOk W.takes f.old result (quoted octets.now) f.new }
+    ensures err { OnErr result W.MayFail }
+{
+    f.write_text("\"")?;
+    write_octets(f, octets)?;
+    f.write_text("\"")
+}
+
 impl fmt::Display for Quoted<'_> {
     ghost output = { λ string. Some (quoted string.0.now) };
 
+    ghost styled_output = { λ string _. Some (quoted string.0.now) };
+
     fn fmt<W: fmt::Write>(&self, f: &mut fmt::Formatter<W>) -> fmt::Result {
-        f.write_char('"')?;
-        write_octets(f, self.0)?;
-        f.write_char('"')
+        write_quoted(f, self.0)
     }
 }
 
@@ -99,15 +117,27 @@ impl<'a> Tag<'a> {
     }
 }
 
+/// Prints letters and digits.
+#[tactic(auto, using(dns_print::proofs::theory::Prints::prints, std::proofs::lemmas::Grind::common_steps))]
+fn write_ascii<W: TextWriter>(f: &mut W, octets: &[u8]) -> fmt::Result
+    requires { list_all is_ascii_alphanumeric octets.now ≡ true }
+    ensures text { PrintsOnOk W.takes f.old result octets.now f.new }
+    ensures err { OnErr result W.MayFail }
+{
+    for octet in octets {
+        f.write_char(char::from(*octet))?;
+    }
+    Ok(())
+}
+
 impl fmt::Display for Tag<'_> {
     ghost use Rattle.dns_value_text.specs.Tags.{tag_octets};
 
     ghost output = { λ tag. Some (tag_octets tag) };
 
+    ghost styled_output = { λ tag _. Some (tag_octets tag) };
+
     fn fmt<W: fmt::Write>(&self, f: &mut fmt::Formatter<W>) -> fmt::Result {
-        for octet in self.octets {
-            f.write_char(char::from(*octet))?;
-        }
-        Ok(())
+        write_ascii(f, self.octets)
     }
 }

@@ -1,9 +1,10 @@
 //! Times: fourteen digits for year, month, day, hour, minute and second in UTC (RFC 4034 section
 //! 3.2).
-ghost use Rattle.std.specs.Prelude.{◌≡◌, ◌+◌, ◌<◌, ◌≤◌, ◌/◌, length, Some};
-ghost use Rattle.std.specs.Fmt.{WritesOnOk};
+ghost use Rattle.std.specs.Prelude.{OnErr, ◌≡◌, ◌+◌, ◌<◌, ◌≤◌, ◌/◌, length, Some};
+ghost use Rattle.dns_print.specs.Printing.{PrintsOnOk};
 ghost use Rattle.dns_value_text.specs.Time.{clock_text, date_text, is_leap, month_of, month_sizes, time_text, two_digits, year_of, year_size};
 
+use dns_print::TextWriter;
 use std::fmt;
 
 /// The year in which times begin.
@@ -85,21 +86,20 @@ fn month_of(sizes: &[u32], month: u32, days: u32) -> DayOf
 }
 
 /// Prints the last two decimal digits of a number.
-pub(crate) fn write_two_digits<W: fmt::Write>(f: &mut fmt::Formatter<W>, number: u32) -> fmt::Result
-    ensures { WritesOnOk W.write_str_gives f.old result (two_digits number) f.new }
+#[tactic(auto, using(dns_print::proofs::theory::Prints::prints, std::proofs::lemmas::Grind::common_steps))]
+pub(crate) fn write_two_digits<W: TextWriter>(f: &mut W, number: u32) -> fmt::Result
+    ensures text { PrintsOnOk W.takes f.old result (two_digits number) f.new }
+    ensures err { OnErr result W.MayFail }
 {
     f.write_char(char::from(b'0' + (number / 10 % 10) as u8))?;
     f.write_char(char::from(b'0' + (number % 10) as u8))
 }
 
 /// Prints a date in eight digits.
-fn write_date<W: fmt::Write>(
-    f: &mut fmt::Formatter<W>,
-    year: u32,
-    month: u32,
-    day: u32,
-) -> fmt::Result
-    ensures { WritesOnOk W.write_str_gives f.old result (date_text year month day) f.new }
+#[tactic(auto, using(dns_print::proofs::theory::Prints::prints, std::proofs::lemmas::Grind::common_steps))]
+fn write_date<W: TextWriter>(f: &mut W, year: u32, month: u32, day: u32) -> fmt::Result
+    ensures text { PrintsOnOk W.takes f.old result (date_text year month day) f.new }
+    ensures err { OnErr result W.MayFail }
 {
     write_two_digits(f, year / 100)?;
     write_two_digits(f, year % 100)?;
@@ -108,21 +108,34 @@ fn write_date<W: fmt::Write>(
 }
 
 /// Prints the time of the day in six digits.
-fn write_clock<W: fmt::Write>(f: &mut fmt::Formatter<W>, seconds: u32) -> fmt::Result
-    ensures { WritesOnOk W.write_str_gives f.old result (clock_text seconds) f.new }
+#[tactic(auto, using(dns_print::proofs::theory::Prints::prints, std::proofs::lemmas::Grind::common_steps))]
+fn write_clock<W: TextWriter>(f: &mut W, seconds: u32) -> fmt::Result
+    ensures text { PrintsOnOk W.takes f.old result (clock_text seconds) f.new }
+    ensures err { OnErr result W.MayFail }
 {
     write_two_digits(f, seconds / 3600 % 24)?;
     write_two_digits(f, seconds / 60 % 60)?;
     write_two_digits(f, seconds % 60)
 }
 
+/// Prints a time in fourteen digits.
+#[tactic(auto, using(dns_print::proofs::theory::Prints::prints, std::proofs::lemmas::Grind::common_steps))]
+fn write_time<W: TextWriter>(f: &mut W, time: u32) -> fmt::Result
+    ensures text { PrintsOnOk W.takes f.old result (time_text time) f.new }
+    ensures err { OnErr result W.MayFail }
+{
+    let in_year = year_of(137, FIRST_YEAR, time / 86400);
+    let in_month = month_of(&month_sizes(in_year.period), 1, in_year.day);
+    write_date(f, in_year.period, in_month.period, in_month.day + 1)?;
+    write_clock(f, time)
+}
+
 impl fmt::Display for Timestamp {
     ghost output = { λ time. Some (time_text time.0) };
 
+    ghost styled_output = { λ time _. Some (time_text time.0) };
+
     fn fmt<W: fmt::Write>(&self, f: &mut fmt::Formatter<W>) -> fmt::Result {
-        let in_year = year_of(137, FIRST_YEAR, self.0 / 86400);
-        let in_month = month_of(&month_sizes(in_year.period), 1, in_year.day);
-        write_date(f, in_year.period, in_month.period, in_month.day + 1)?;
-        write_clock(f, self.0)
+        write_time(f, self.0)
     }
 }

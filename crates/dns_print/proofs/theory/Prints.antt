@@ -1,9 +1,11 @@
 -- Texts that are printed one after the other.
 use Rattle.std.proofs.Common.{◌≡◌, ◌∙◌, ℕ, List, [], ◌∷◌, ◌++◌, refl, ap, sym, subst, append_assoc, append-nil}
 use Rattle.std.specs.List.{FoldsTo, concat}
-use Rattle.std.specs.Fmt.{WritesInCalls, HasWritten, HasWrittenStyled, IsPlainFormatter, IsDefaultSpec, IsFlush}
+use Rattle.std.specs.Fmt.{WritesInCalls, DisplaysOnOk, DisplaysStyledOnOk, HasWritten, HasWrittenStyled, IsPlainFormatter, IsDefaultSpec, IsFlush}
+use Rattle.std.specs.Prelude.{IfSome, Option, Some, None, Result}
+use Rattle.std.specs.declared.fmt.Error.{Error}
 use Rattle.std.specs.declared.fmt.Formatter.{Formatter}
-use Rattle.dns_print.specs.Printing.{FormatterTakes}
+use Rattle.dns_print.specs.Printing.{FormatterTakes, PrintsOnOk}
 
 concat-append : (xs ys : List (List ℕ)) → concat (xs ++ ys) ≡ concat xs ++ concat ys
 concat-append [] ys = refl
@@ -68,5 +70,14 @@ module _ {W : Type 0} (gives : W → List ℕ → W → Type 0) where
   printed_plain f text g p plain =
       let w = printed_styled f text g p plain.flush in
       record { wrote = w.wrote; plain = record { bare = subst IsDefaultSpec (sym w.spec) plain.bare; flush = w.flush } }
+
+  -- The text of a value that may be unknown.
+  pub displayed_plain : (f g : Formatter W) (r : Result (Unit {0}) Error) (o : Option (List ℕ)) → IfSome o (λ text. PrintsOnOk (FormatterTakes gives) f r text g) → DisplaysOnOk gives f r o g
+  displayed_plain f g r None printed = tt
+  displayed_plain f g r (Some text) printed = λ plain ok. printed_plain f text g (printed ok) plain
+
+  pub displayed_styled : (f g : Formatter W) (r : Result (Unit {0}) Error) (o : Option (List ℕ)) → IfSome o (λ text. PrintsOnOk (FormatterTakes gives) f r text g) → DisplaysStyledOnOk gives f r o g
+  displayed_styled f g r None printed = tt
+  displayed_styled f g r (Some text) printed = λ flush ok. printed_styled f text g (printed ok) flush
 
 pub ruleset prints = (print_one, print_two, print_three, print_four, printed_styled, printed_plain)

@@ -1,5 +1,5 @@
 use Rattle.std.proofs.Common.{◌≡◌, take}
-use Rattle.std.specs.Fmt.{HasWritten, IsPlainFormatter}
+use Rattle.std.specs.Fmt.{WritesInCalls}
 use Rattle.dns_code.specs.Flags.{joined, names_shown}
 use Rattle.dns_code.proofs.FlagsLemmas.{separator_after}
 use Rattle.dns_code.proofs.flags.write_names.Given as goal
@@ -10,4 +10,4 @@ abbrev pub invariant-loop-is_set : goal.invariant-loop-is_set
 invariant-loop-is_set g l =
     shadow (Utf8 l.separator)
     × (l.separator ≡ separator_after (names_shown (take l.is_set-index l.names)))
-    × (IsPlainFormatter l.fn.f → HasWritten g.W.Write.write_str_gives l.fn.f (joined (names_shown (take l.is_set-index l.names))) l.f)
+    × WritesInCalls g.W.TextWriter.takes l.fn.f (joined (names_shown (take l.is_set-index l.names))) l.f
