@@ -28,7 +28,7 @@ pub enum NoAddresses {
     #[error("no answer to the query")]
     OtherMessage,
     /// Its rcode isn't NOERROR.
-    #[error("the server failed")]
+    #[error("the rcode is {} ({})", .0.registered_name().unwrap_or("unassigned"), .0.to_int())]
     Failed(OptRcode),
     /// TC is set. The query has to be sent again over TCP (RFC 7766 section 5).
     #[error("cut short")]
