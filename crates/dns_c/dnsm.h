@@ -64,7 +64,7 @@ typedef enum dnsm_status {
     DNSM_OTHER_CLASS = 16,  /* the class of the question isn't IN */
     DNSM_OTHER_TYPE = 17,   /* the type of the question is neither A nor ANY */
     DNSM_NOT_OPT = 18,      /* the item is no OPT record */
-    DNSM_BAD_OPTION = 19,   /* an option isn't whole within the RDATA */
+    DNSM_BAD_OPTION = 19,   /* an option isn't whole within the RDATA, or its offset isn't there */
     DNSM_NO_NAME = 20,      /* the RDATA has no such name */
     DNSM_BAD_DATA = 21,     /* the octets are no RDATA of the record type */
     DNSM_UNFORMATTED = 22,  /* RDATA couldn't be formatted; never returned */
@@ -100,7 +100,7 @@ typedef struct dnsm_header {
 
 /* A position in a message. The caller owns it, and may copy it to return to the position later. */
 typedef struct dnsm_cursor {
-    size_t place;       /* offset at which the next item begins */
+    size_t place;       /* offset at which the next item begins; after DNSM_END the offset after the last item */
     uint16_t left;      /* items still to come in the section, by its count */
     uint8_t section;
     dnsm_status status; /* DNSM_OK, or the error that ended the iteration */
@@ -126,7 +126,9 @@ dnsm_status dnsm_open(const uint8_t *message, size_t message_len, dnsm_header *h
 /* Reads the next item, in the order of the message, and moves the cursor past it. The cursor is one that dnsm_open has set, for
  * the same octets. With another cursor, or over other octets, the call is safe, but its results mean nothing.
  *
- * Returns DNSM_OK with an item, or DNSM_END after the last one. Without an item, `*item` isn't written.
+ * Returns DNSM_OK with an item, or DNSM_END after the last one. Without an item, `*item` isn't written. At DNSM_END the cursor's
+ * `place` is where the message ends: the offset after the last item, or 12 if there is none. The octets from there on, if there
+ * are any, are no part of the message.
  *
  * Errors: DNSM_SHORT_INPUT, DNSM_BAD_LABEL, DNSM_BAD_POINTER or DNSM_LONG_NAME if the next item can't be read. The cursor keeps
  * the error, and each later call returns it again. DNSM_BAD_SECTION for a cursor that keeps no error and whose section
@@ -134,6 +136,8 @@ dnsm_status dnsm_open(const uint8_t *message, size_t message_len, dnsm_header *h
 dnsm_status dnsm_next(const uint8_t *message, size_t message_len, dnsm_cursor *cursor, dnsm_item *item);
 
 /* Writes the name at offset `place` as text, with a dot after each label. dnsm_name_from_text reads it back as the same name.
+ * To read a name in RDATA without the octets after the RDATA, pass the end of the RDATA as `message_len`: the item's `data` plus
+ * its `data_len`. dnsm_data_name gives only offsets at which that succeeds, with the same name.
  *
  * Errors: DNSM_NO_ROOM, and DNSM_SHORT_INPUT, DNSM_BAD_LABEL, DNSM_BAD_POINTER or DNSM_LONG_NAME if no name can be read there. */
 dnsm_status dnsm_name_text(const uint8_t *message, size_t message_len, size_t place, char *out, size_t out_len, size_t *len);
@@ -150,12 +154,12 @@ dnsm_status dnsm_name_octets(const uint8_t *message, size_t message_len, size_t 
 dnsm_status dnsm_name_end(const uint8_t *message, size_t message_len, size_t place, size_t *end);
 
 /* Sets `*place` to the offset of a name in the RDATA of a record, for dnsm_name_text and dnsm_name_octets: of the first name if
- * `index` is 0, and of the second name of SOA if it is 1. The types are NS, CNAME, SOA, PTR, MX, SRV and DNAME. It isn't checked
- * that a name can be read there.
+ * `index` is 0, and of the second name of SOA if it is 1. The types are NS, CNAME, SOA, PTR, MX, SRV and DNAME. A name can be read
+ * there, and no octet after the RDATA belongs to it, also where it has a compression pointer.
  *
- * Errors: DNSM_NO_NAME if RDATA of this type has no name with this index, or ends before it. DNSM_SHORT_INPUT if the name would
- * be past the end of the message. For the second name of SOA, the error of reading the first one. On an error `*place` isn't
- * written. */
+ * Errors, the first that applies: DNSM_NO_NAME if RDATA of this type has no name with this index; DNSM_SHORT_INPUT if the RDATA
+ * isn't within the message, which happens only for an item that dnsm_next didn't write for these octets; DNSM_BAD_DATA if the RDATA
+ * isn't that of its type, which dnsm_data_text writes as `\#`. On an error `*place` isn't written. */
 dnsm_status dnsm_data_name(const uint8_t *message, size_t message_len, const dnsm_item *item, size_t index, size_t *place);
 
 /* Writes the octets of the name that the text represents (see "Names as text"), as in the RDATA of a dnsm_new_item: that of MX is
@@ -176,12 +180,14 @@ dnsm_status dnsm_name_from_text(const char *text, size_t text_len, uint8_t *out,
 dnsm_status dnsm_data_text(const uint8_t *message, size_t message_len, const dnsm_item *item, char *out, size_t out_len,
                            size_t *len);
 
-/* Writes a record type: its mnemonic, or TYPE with its number (RFC 3597 section 5). 16 octets are always enough.
+/* Writes a record type: the name that IANA has registered for it, as SRV, RRSIG or HTTPS, and ANY for 255; or TYPE with its
+ * number, if there is none (RFC 3597 section 5). 16 octets are always enough.
  *
  * Errors: DNSM_NO_ROOM. */
 dnsm_status dnsm_type_text(uint16_t type, char *out, size_t out_len, size_t *len);
 
-/* Writes a class: its mnemonic, or CLASS with its number (RFC 3597 section 5). 16 octets are always enough.
+/* Writes a class: the name that IANA has registered for it, which is IN, CH, HS, NONE (254) or ANY (255); or CLASS with its number
+ * (RFC 3597 section 5). 16 octets are always enough.
  *
  * Errors: DNSM_NO_ROOM. */
 dnsm_status dnsm_class_text(uint16_t class_, char *out, size_t out_len, size_t *len);
@@ -223,10 +229,11 @@ typedef struct dnsm_opt_option {
 /* Reads the option at offset `*place` of the RDATA of an OPT record, and sets `*place` to the offset after it. Set `place` to the
  * item's `data` before the first call. The option needn't be initialised.
  *
- * Returns DNSM_OK with an option, or DNSM_END at the end of the RDATA. Without an option, nothing is written.
+ * Returns DNSM_OK with an option, or DNSM_END if `*place` is the end of the RDATA. Without an option, nothing is written.
  *
- * Errors: DNSM_NOT_OPT; DNSM_BAD_OPTION if no whole option begins there; DNSM_SHORT_INPUT if the RDATA isn't within the message,
- * which happens only for an item that dnsm_next didn't write for these octets. */
+ * Errors, the first that applies: DNSM_NOT_OPT; DNSM_SHORT_INPUT if the RDATA isn't within the message, which happens only for an
+ * item that dnsm_next didn't write for these octets; DNSM_BAD_OPTION if `*place` isn't in the RDATA, or no whole option begins
+ * there. */
 dnsm_status dnsm_next_option(const uint8_t *message, size_t message_len, const dnsm_item *item, size_t *place,
                              dnsm_opt_option *option);
 

@@ -1,11 +1,12 @@
 -- OPT records: the fields of a TTL, and the options in octets. RFC 6891 sections 6.1.2 and 6.1.3.
-use Rattle.std.proofs.Common.{◌≡◌, ◌∙◌, ℕ, ◌+◌, ◌-◌, ◌*◌, ◌/◌, ◌%◌, ◌<◌, ◌≤◌, List, [], ◌++◌, length, take, drop, ap, refl, subst, sym, inr, arith, length-append, length-drop}
+use Rattle.std.proofs.Common.{◌≡◌, ◌∙◌, ℕ, ◌+◌, ◌-◌, ◌*◌, ◌/◌, ◌%◌, ◌<◌, ◌≤◌, List, ◌++◌, length, take, drop, ap, refl, subst, sym, inr, arith, length-append, length-drop}
 use Rattle.std.specs.Int.{to_be_bytes, w16}
 use Rattle.std.specs.Prelude.{◌==◌}
-use Rattle.std.proofs.lemmas.List.{drop-drop, drop-take, drop_all, length-take-le, take-append-drop, take-take}
+use Rattle.std.proofs.lemmas.List.{drop-drop, drop-take, length-take-le, take-append-drop, take-take}
 use Rattle.dns_code.specs.Bits.{number_in}
 use Rattle.dns_opt.specs.Options.{OptionBegins, encode_option}
-use Rattle.dns_c.specs.Opts.{BeginsNoOption, HasFields, LacksOption, data_from}
+use Rattle.dns_c.specs.DataNames.{data_end}
+use Rattle.dns_c.specs.Opts.{BeginsNoOption, HasFields, HoldsOpt, IsInData, LacksOption, data_from}
 use Rattle.dns_c.specs.declared.opts.Opt.{Opt}
 use Rattle.dns_c.specs.declared.walk.Item.{Item}
 
@@ -45,10 +46,6 @@ option_read b p end q code n within fits is size after =
       octets = drop-drop 4 p (take end b) ∙ sym (take-append-drop n (drop (p + 4) (take end b))) ∙ (λ i. front i ++ back i);
     }
 
--- nothing is left at the end
-pub none_left : (b : List ℕ) (p end : ℕ) → end ≤ length b → end ≤ p → drop p (take end b) ≡ []
-none_left b p end within past = let all = length-take-le end b within in drop_all p (take end b) (omega (arith, all))
-
 -- how long an option's encoding is
 pub option_size : (code : ℕ) (octets : List ℕ) → length (encode_option (record { code = code; octets = octets })) ≡ length octets + 4
 option_size code octets =
@@ -57,16 +54,24 @@ option_size code octets =
     omega (arith, first, second)
 
 -- the octets `cut` are those of the RDATA from p on
-module _ (b cut : List ℕ) (item : Item) (p n : ℕ) (is : cut ≡ drop p (take (item.«data» + n) b)) (all : n ≡ item.data_len) where
+module _ (b cut : List ℕ) (item : Item) (p end : ℕ) (is : cut ≡ drop p (take end b)) (own : end ≡ data_end item) where
   cut_from : cut ≡ data_from b item p
-  cut_from = is ∙ ap (λ (e : ℕ). drop p (take (item.«data» + e) b)) all
+  cut_from = is ∙ ap (λ (e : ℕ). drop p (take e b)) own
 
   -- an option is read there
-  pub next_read : (code len q : ℕ) → item.«data» + n ≤ length b → 4 + len ≤ length cut → code ≡ number_in cut 0 → len ≡ number_in cut 2 → q ≡ p + 4 + len
+  pub next_read : (code len q : ℕ) → end ≤ length b → 4 + len ≤ length cut → code ≡ number_in cut 0 → len ≡ number_in cut 2 → q ≡ p + 4 + len
       → OptionBegins (record { code = code; octets = take len (drop (p + 4) b) }) (data_from b item p) (data_from b item q)
   next_read code len q within fits first second after =
-      option_read b p (item.«data» + item.data_len) q code len (omega arith) (subst (λ (o : List ℕ). 4 + len ≤ length o) cut_from fits) (first ∙ ap (λ (o : List ℕ). number_in o 0) cut_from) (second ∙ ap (λ (o : List ℕ). number_in o 2) cut_from) after
+      option_read b p (data_end item) q code len (omega arith) (subst (λ (o : List ℕ). 4 + len ≤ length o) cut_from fits) (first ∙ ap (λ (o : List ℕ). number_in o 0) cut_from) (second ∙ ap (λ (o : List ℕ). number_in o 2) cut_from) after
+
+  -- it ends within the RDATA
+  pub next_within : (len q : ℕ) → end ≤ length b → p ≤ end → 4 + len ≤ length cut → q ≡ p + 4 + len → q ≤ data_end item
+  next_within len q within before fits after =
+      let size = length-drop p (take end b) in
+      let all = length-take-le end b within in
+      let same = ap (λ (o : List ℕ). length o) is in
+      omega (arith, size, all, same)
 
   -- none can be read there
-  pub none_read : p < item.«data» + n → BeginsNoOption cut → LacksOption b item p 19
-  none_read before none = inr (inr (subst (λ (o : List ℕ). BeginsNoOption o) cut_from none, omega arith, refl))
+  pub none_read : HoldsOpt b item → IsInData item p → p < end → BeginsNoOption cut → LacksOption b item p 19
+  none_read opt within before none = inr (inr (inr (opt, within, subst (λ (o : List ℕ). BeginsNoOption o) cut_from none, omega arith, refl)))

@@ -33,7 +33,8 @@ use Rattle.dns_read.proofs.theory.SectionStartLemmas.{start_found, no_answers, n
 use Rattle.dns_question.specs.AfterNames.FieldsFaultAt.{name as in_name}
 use Rattle.dns_c.proofs.FaultLemmas.{reported_fields}
 use Rattle.dns_c.specs.Codes.{IsReported}
-use Rattle.dns_c.specs.Steps.{left_from, IsHeader, IsOpen, Opens, ReturnsQuestion, ReturnsRecord, ReturnsEntry, Spans, Reports}
+use Rattle.dns_c.specs.Steps.{left_from, Ends, EndsFrom, IsHeader, IsOpen, Opens, ReturnsQuestion, ReturnsRecord, ReturnsEntry, SkipsEntry, Spans, Reports}
+use Rattle.dns_c.specs.Steps.Ends.{nothing, next_section, next_question, next_record}
 use Rattle.dns_c.specs.declared.walk.Cursor.{Cursor}
 use Rattle.dns_c.specs.declared.walk.Header.{Header}
 use Rattle.dns_c.specs.declared.walk.Item.{Item}
@@ -216,6 +217,40 @@ at_the_fault b m old new f same left other fault =
     let one = positive new.left other in
     sym kept ∙ fault one.0 one.1
 
+-- Where the last item ends.
+
+-- a cursor that moves on to the next section
+pub ends_in_next : (b : List ℕ) (s n m p end : ℕ) → n ≡ 0 → s < 3 → m ≡ count_at b (s + 1) → Ends b (s + 1) m p end → Ends b s n p end
+ends_in_next b s n m p end empty less counted h =
+    subst (λ k. Ends b s k p end) (sym empty) (next_section less (subst (λ k. Ends b (s + 1) k p end) counted h))
+
+-- an item, and those after it
+with_item : (b : List ℕ) (s n p q end : ℕ) → SkipsEntry b s p q → Ends b s n q end → Ends b s (suc n) p end
+with_item b zero n p q end skips h = next_question skips h
+with_item b (suc s) n p q end skips h = next_record skips h
+
+pub ends_after_item : (b m : List ℕ) (old new : Cursor) (left q end : ℕ) → m ≡ b → ((end : ℕ) → EndsFrom m new end → EndsFrom m old end) → new.left ≡ left + 1 → SkipsEntry b new.section new.place q
+    → Ends b new.section left q end → EndsFrom b old end
+ends_after_item b m old new left q end same before counted skips h =
+    let there : EndsFrom b new end = subst (λ k. Ends b new.section k new.place end) (let e : suc left ≡ new.left = omega arith in e) (with_item b new.section left new.place q end skips h) in
+    subst (λ k. EndsFrom k old end) same (before end (subst (λ k. EndsFrom k new end) (sym same) there))
+
+-- a cursor with nothing left
+pub ends_here : (b m : List ℕ) (old new : Cursor) → m ≡ b → ((end : ℕ) → EndsFrom m new end → EndsFrom m old end) → (new.left ≡ 0 → new.section ≡ 3) → new.left ≡ 0
+    → EndsFrom b old new.place
+ends_here b m old new same before last none_left =
+    let here : EndsFrom m new new.place = subst (λ s. Ends m s new.left new.place new.place) (sym (last none_left)) (subst (λ k. Ends m 3 k new.place new.place) (sym none_left) nothing) in
+    subst (λ k. EndsFrom k old new.place) same (before new.place here)
+
+-- the entry that is read ends where the next one begins
+pub question_skipped : (b : List ℕ) (cursor : Cursor) (r : Result (Item × ℕ) ParseError) → cursor.section ≡ 0 → ReturnsQuestion b cursor.place r → IfOk r (λ found. SkipsEntry b cursor.section cursor.place found.1)
+question_skipped b cursor (Ok found) first h = subst (λ s. SkipsEntry b s cursor.place found.1) (sym first) h.1.skips
+question_skipped b cursor (Err e) first h = tt
+
+pub record_skipped : (b : List ℕ) (cursor : Cursor) (r : Result (Item × ℕ) ParseError) (s : ℕ) → cursor.section ≡ suc s → ReturnsRecord b cursor.section cursor.place r → IfOk r (λ found. SkipsEntry b cursor.section cursor.place found.1)
+record_skipped b cursor (Ok found) s at h = subst (λ t. SkipsEntry b t cursor.place found.1) (sym at) h.1.skips
+record_skipped b cursor (Err e) s at h = tt
+
 -- Past the end, every read is `ShortInput`.
 
 past_head : (b : List ℕ) (p : ℕ) → length b < p → head_at b p ≡ Err ShortInput
@@ -308,4 +343,5 @@ opened b m header n same fields counted long = record {
   place = refl;
   left = counted ∙ ap question_count same;
   walk = ap (λ k. left_at b 0 k 12) (counted ∙ ap question_count same) ∙ begun b;
+  end = λ end h. subst (λ k. Ends b 0 k 12 end) (counted ∙ ap question_count same) h;
 }

@@ -1,21 +1,45 @@
 -- What a call of `dnsm_next` returns, and where it leaves the cursor. RFC 1035 section 4.1.
 --
 -- `b` are the octets of the message.
-use Rattle.std.specs.Prelude.{◌≡◌, ℕ, suc, ◌+◌, ◌≤◌, List, [], ◌∷◌, length, take, Bool, true, false, Result, Ok, Err}
+use Rattle.std.specs.Prelude.{◌≡◌, ℕ, zero, suc, ◌+◌, ◌<◌, ◌≤◌, List, [], ◌∷◌, length, take, Bool, true, false, Result, Ok, Err}
 use Rattle.dns_octets.specs.declared.error.ParseError.{ParseError}
 use Rattle.dns_name.specs.Names.{Fault, NameAt, fault_of}
 use Rattle.dns_code.specs.Bits.{number_in}
 use Rattle.dns_code.specs.Header.{fields_in}
 use Rattle.dns_code.specs.HeaderSection.{header_size}
-use Rattle.dns_question.specs.Questions.{QuestionItem, ReadsQuestion, QuestionFaultAt}
-use Rattle.dns_item.specs.Items.{RecordEntry, ReadsRecord, RecordFaultAt}
+use Rattle.dns_question.specs.Questions.{QuestionItem, SkipsQuestion, ReadsQuestion, QuestionFaultAt}
+use Rattle.dns_item.specs.Items.{RecordEntry, SkipsRecord, ReadsRecord, RecordFaultAt}
 use Rattle.dns_section.specs.Sections.{question_count, answer_count, authority_count, additional_count}
 use Rattle.dns_c.specs.Codes.{code_of, number_of, ReportsFault}
-use Rattle.dns_c.specs.Walk.{Entry, Asked, Stated, Given, left_at, section_at, walk_of}
+use Rattle.dns_c.specs.Walk.{Entry, Asked, Stated, Given, count_at, left_at, section_at, walk_of}
 use Rattle.dns_c.specs.declared.code.Fault.{Fault as FaultGiven}
 use Rattle.dns_c.specs.declared.walk.Cursor.{Cursor}
 use Rattle.dns_c.specs.declared.walk.Header.{Header}
 use Rattle.dns_c.specs.declared.walk.Item.{Item}
+
+-- If n items are still to come in a section, the first of them at offset p, the last item of the message ends at `end`. The question section has the number 0.
+pub data Ends (b : List ℕ) : ℕ → ℕ → ℕ → ℕ → Type 0 where
+  -- no item is to come
+  nothing : {p : ℕ} → Ends b 3 0 p p
+  -- none in this section
+  next_section : {s p end : ℕ} → s < 3 → Ends b (s + 1) (count_at b (s + 1)) p end → Ends b s 0 p end
+  -- a question, and then the other items
+  next_question : {n p q end : ℕ} → SkipsQuestion b p q → Ends b 0 n q end → Ends b 0 (suc n) p end
+  -- a record, and then the other items
+  next_record : {s n p q end : ℕ} → SkipsRecord b p q → Ends b (suc s) n q end → Ends b (suc s) (suc n) p end
+
+-- the last item of the message ends at `end`
+abbrev pub MessageEndsAt : List ℕ → ℕ → Type 0
+MessageEndsAt b end = Ends b 0 (question_count b) header_size end
+
+-- it does if it has the items still to come at a cursor
+abbrev pub EndsFrom : List ℕ → Cursor → ℕ → Type 0
+EndsFrom b cursor end = Ends b cursor.section cursor.left cursor.place end
+
+-- the entry of this section that begins at p ends at q
+abbrev pub SkipsEntry : List ℕ → ℕ → ℕ → ℕ → Type 0
+SkipsEntry b zero p q = SkipsQuestion b p q
+SkipsEntry b (suc s) p q = SkipsRecord b p q
 
 -- the entries still to come at a cursor
 abbrev pub left_from : List ℕ → Cursor → List Given
@@ -43,6 +67,7 @@ pub record Opens (b : List ℕ) (header : Header) (cursor : Cursor) : Type 0 whe
   pub place : cursor.place ≡ header_size
   pub left : cursor.left ≡ question_count b
   pub walk : left_from b cursor ≡ walk_of b
+  pub end : (end : ℕ) → EndsFrom b cursor end → MessageEndsAt b end
 
 -- the item that C gets describes this question
 pub record ReportsQuestion (b : List ℕ) (item : Item) (x : QuestionItem) : Type 0 where

@@ -1,8 +1,10 @@
--- Text in a caller's buffer, and the text of RDATA. RFC 1035 section 5.1, RFC 3597 section 5.
-use Rattle.std.specs.Prelude.{◌≡◌, ℕ, ◌≤◌, ◌-◌, ◌^◌, Bool, true, false, List, [], ◌∷◌, ◌++◌, drop, length, take, min, Option, Some, None}
+-- Text in a caller's buffer, and the texts of record types, classes, names and RDATA. RFC 1035 section 5.1, RFC 3597 section 5.
+use Rattle.std.specs.Prelude.{◌≡◌, ℕ, ◌≤◌, ◌-◌, ◌^◌, Bool, true, false, List, [], ◌∷◌, ◌++◌, codes, drop, length, take, min, Option, Some, None}
 use Rattle.std.specs.List.{flat_map}
 use Rattle.dns_name.specs.Names.{Fault, Labels}
 use Rattle.dns_name.specs.NameTexts.{dot, name_text}
+use Rattle.dns_number.specs.NumberTexts.{number_text}
+use Rattle.dns_number.specs.Registry.{registered_classes, registered_types}
 use Rattle.dns_data.specs.Printing.{hex_octet}
 use Rattle.dns_item.specs.Items.{RecordEntry, ReadsRecord, RecordFaultAt}
 use Rattle.dns_item.specs.ParsedRecord.{EncodedRecord}
@@ -20,6 +22,14 @@ use Rattle.dns_c.specs.PlainFields.{are_plain}
 pub record Holds (out text : List ℕ) (end : ℕ) : Type 0 where
   pub counted : end ≡ min (length text) (2 ^ 64 - 1)
   pub held : length text ≤ length out → take (length text) out ≡ text
+
+-- the text of a record type: the name that IANA has registered for it, or TYPE and its number. RFC 3597 section 5
+abbrev pub type_text : ℕ → List ℕ
+type_text n = number_text registered_types (codes "TYPE") n
+
+-- the text of a class: the name that IANA has registered for it, or CLASS and its number. RFC 3597 section 5
+abbrev pub class_text : ℕ → List ℕ
+class_text n = number_text registered_classes (codes "CLASS") n
 
 -- the text of a name with its final dot
 abbrev pub absolute_name : Labels → List ℕ

@@ -1,13 +1,31 @@
 //! The names in RDATA.
-ghost use Rattle.std.specs.Prelude.{◌≡◌, ◌+◌, ◌<◌, IfErr, IfOk};
+ghost use Rattle.std.specs.Prelude.{◌≡◌, ◌+◌, ◌<◌, ◌≤◌, Some, length, true, false, IfErr, IfOk};
+ghost use Rattle.dns_name.specs.Names.{Labels, NameAt};
 ghost use Rattle.dns_c.specs.Codes.{number_of};
-ghost use Rattle.dns_c.specs.DataNames.{IsDataName, LacksDataName, LacksPlace, before_name, first_names};
+ghost use Rattle.dns_c.specs.DataNames.{HasName, IsDataName, IsNoRdata, IsPlaceOf, IsRdata, LacksDataName, before_name, data_end, first_names};
 
 use crate::code::Fault;
 use crate::walk::{Item, name_end};
+use dns_code::Rtype;
+use dns_data::ParseAnyRecordData;
+use dns_fields::FieldData;
+use dns_wire::Parser;
 
 /// The record type of SOA, whose RDATA begins with two names.
 const SOA_RTYPE: u16 = 6;
+
+/// The offset after the RDATA of an item, if that is within the message.
+pub(crate) fn data_end(octets: &[u8], item: &Item) -> Result<usize, Fault>
+    ensures end { IfOk result (λ end. (end ≡ data_end item.now) × (end ≤ length octets.now)) }
+    ensures none { IfErr result (λ fault. (fault ≡ Fault.ShortInput)
+        × (length octets.now < data_end item.now)) }
+{
+    let size = usize::from(item.data_len);
+    if item.data > octets.len() || size > octets.len() - item.data {
+        return Err(Fault::ShortInput);
+    }
+    Ok(item.data + size)
+}
 
 /// How many octets precede the first name in RDATA of a type, if it has names.
 #[tactic(auto, unfolding(std::specs::Prelude::find, crate::specs::DataNames::first_names))]
@@ -22,36 +40,66 @@ fn before_name(rtype: u16) -> Option<usize>
     }
 }
 
-/// The offset of the name with this index in RDATA, of whatever length that is.
-fn place_of(octets: &[u8], item: &Item, index: usize) -> Result<usize, Fault>
-    ensures name { IfOk result (λ place. IsDataName octets.now item.now index place) }
-    ensures none { IfErr result (λ fault. LacksPlace octets.now item.now index (number_of fault)) }
+/// How many octets precede the first name in RDATA of a type that has a name with this index.
+fn before_first(rtype: u16, index: usize) -> Result<usize, Fault>
+    ensures name { IfOk result (λ before. HasName rtype index
+        × (before_name rtype ≡ Some before)) }
+    ensures none { IfErr result (λ fault. (fault ≡ Fault.NoName) × (HasName rtype index → ⊥)) }
 {
-    let Some(before) = before_name(item.rtype) else {
+    let Some(before) = before_name(rtype) else {
         return Err(Fault::NoName);
     };
-    if before > octets.len() || item.data > octets.len() - before {
-        return Err(Fault::ShortInput);
-    }
-    if index == 0 {
-        return Ok(item.data + before);
-    }
-    if index == 1 && item.rtype == SOA_RTYPE {
-        return name_end(octets, item.data);
+    if index == 0 || (index == 1 && rtype == SOA_RTYPE) {
+        return Ok(before);
     }
     Err(Fault::NoName)
+}
+
+/// Whether the octets from offset `start` on are RDATA of this type.
+fn is_rdata(octets: &[u8], rtype: u16, start: usize) -> bool
+    requires { start ≤ length octets.now }
+    ensures whole { result ≡ true → IsRdata octets.now rtype start }
+    ensures malformed { result ≡ false → IsNoRdata octets.now rtype start }
+{
+    let mut parser = Parser::new(octets);
+    let Ok(()) = parser.seek(start) else {
+        unreachable!()
+    };
+    let Ok(_) = FieldData::parse_any_rdata(Rtype::from_int(rtype), &mut parser) else {
+        return false;
+    };
+    parser.remaining() == 0
+}
+
+/// The offset of the name with this index in RDATA that takes all octets from `start` on. The first
+/// name is after `before` octets.
+fn place_in(octets: &[u8], rtype: u16, start: usize, index: usize, before: usize) -> usize
+    requires rdata { IsRdata octets.now rtype start }
+    requires name { HasName rtype index }
+    requires before { before_name rtype ≡ Some before }
+    ensures place { IsPlaceOf octets.now rtype start index result }
+    ensures name { (name : Labels) × NameAt octets.now result name }
+{
+    if index == 0 {
+        return start + before;
+    }
+    let Ok(place) = name_end(octets, start) else {
+        unreachable!()
+    };
+    place
 }
 
 /// The offset of the name with this index in the RDATA of a record.
 pub(crate) fn data_name(octets: &[u8], item: &Item, index: usize) -> Result<usize, Fault>
     ensures name { IfOk result (λ place. IsDataName octets.now item.now index place) }
-    ensures within { IfOk result (λ place. place < item.now.«data» + item.now.data_len) }
     ensures none { IfErr result (λ fault.
         LacksDataName octets.now item.now index (number_of fault)) }
 {
-    let place = place_of(octets, item, index)?;
-    if place >= item.data && place - item.data >= usize::from(item.data_len) {
-        return Err(Fault::NoName);
+    let before = before_first(item.rtype, index)?;
+    let end = data_end(octets, item)?;
+    let seen = &octets[..end];
+    if !is_rdata(seen, item.rtype, item.data) {
+        return Err(Fault::BadData);
     }
-    Ok(place)
+    Ok(place_in(seen, item.rtype, item.data, index, before))
 }

@@ -20,14 +20,12 @@ mod text;
 mod walk;
 mod words;
 
-ghost use Rattle.std.specs.Prelude.{◌≡◌, ◌≢◌, ◌⊎◌, ◌<◌, ◌≤◌, ◌+◌, ◌-◌, ◌^◌, ◌++◌, ◌∷◌, [], length, take, min, get_or, None, true};
+ghost use Rattle.std.specs.Prelude.{◌≡◌, ◌≢◌, ◌⊎◌, ◌<◌, ◌≤◌, ◌+◌, ◌-◌, ◌^◌, ◌++◌, ◌∷◌, ℕ, [], length, take, min, get_or, None, true};
 ghost use Rattle.dns_name.specs.NameTexts.{SpellsName, name_text};
 ghost use Rattle.dns_name.specs.Names.{Labels, NameAt, NameEndsAt, uncompressed};
 ghost use Rattle.dns_wire.specs.Encoders.{Tree};
 ghost use Rattle.dns_code.specs.Header.{fields_in};
 ghost use Rattle.dns_code.specs.HeaderSection.{header_size};
-ghost use Rattle.dns_number.specs.Classes.{class_text};
-ghost use Rattle.dns_number.specs.Types.{type_text};
 ghost use Rattle.dns_item.specs.Items.{RecordEntry};
 ghost use Rattle.dns_opt.specs.Options.{OptionBegins, encode_option};
 ghost use Rattle.dns_question.specs.Questions.{QuestionItem};
@@ -40,12 +38,12 @@ ghost use Rattle.dns_put.specs.declared.draft.Draft.{Draft};
 ghost use Rattle.dns_put.specs.declared.draft.PutError.{PutError};
 ghost use Rattle.dns_c.specs.Built.{HasTooMany, IsBuilt, IsUnbuilt, header_of};
 ghost use Rattle.dns_c.specs.Codes.{number_of, put_fault};
-ghost use Rattle.dns_c.specs.DataNames.{IsDataName, LacksDataName};
+ghost use Rattle.dns_c.specs.DataNames.{IsDataName, LacksDataName, data_end, up_to_data_end};
 ghost use Rattle.dns_c.specs.Made.{AsksNothing, AsksOne, HoldsQuery, IsLonger, IsQuery, IsResponse, LacksName, SpellsNoName};
-ghost use Rattle.dns_c.specs.Opts.{HasFields, IsOpt, LacksOption, data_from, option_at};
+ghost use Rattle.dns_c.specs.Opts.{HasFields, HoldsOpt, IsInData, IsOpt, LacksOption, data_from, option_at};
 ghost use Rattle.dns_c.specs.Statuses.{status_text};
-ghost use Rattle.dns_c.specs.Steps.{IsOpen, Opens, Spans, GivesNext};
-ghost use Rattle.dns_c.specs.Texts.{HasOtherField, NoRecordAt, RecordAt, data_text};
+ghost use Rattle.dns_c.specs.Steps.{EndsFrom, IsOpen, Opens, Spans, GivesNext};
+ghost use Rattle.dns_c.specs.Texts.{HasOtherField, NoRecordAt, RecordAt, class_text, data_text, type_text};
 
 pub use build::NewItem;
 pub use code::Fault;
@@ -66,7 +64,8 @@ pub extern "C" fn dnsm_open(message: &[u8], header: &mut Header, cursor: &mut Cu
 }
 
 /// Reads the next question or record. Returns 0 with an item, 1 past the last one, otherwise the
-/// number of the error; later calls return the same error again.
+/// number of the error; later calls return the same error again. At the end `place` is the offset
+/// after the last item.
 #[unsafe(no_mangle)]
 pub extern "C" fn dnsm_next(message: &[u8], cursor: &mut Cursor, item: &mut Item) -> u32
     ensures gives { IsOpen message.now cursor.old
@@ -76,6 +75,11 @@ pub extern "C" fn dnsm_next(message: &[u8], cursor: &mut Cursor, item: &mut Item
         × (item.new.section ≡ cursor.new.section) }
     ensures kept { cursor.old.status ≢ 0 → (result ≡ cursor.old.status)
         × (cursor.new ≡ cursor.old) }
+    ensures goes_on { cursor.old.status ≡ 0 → result ≡ 0 → (end : ℕ)
+        → EndsFrom message.now cursor.new end → EndsFrom message.now cursor.old end }
+    ensures end { cursor.old.status ≡ 0 → result ≡ 1
+        → EndsFrom message.now cursor.old cursor.new.place }
+    ensures end_place { result ≡ 1 → cursor.new.place ≡ cursor.old.place }
     ensures no_section { cursor.old.status ≡ 0 → 3 < cursor.old.section
         → (result ≡ number_of Fault.BadSection) × (cursor.new ≡ cursor.old) }
     ensures short { cursor.old.status ≡ 0 → cursor.old.section ≤ 3
@@ -189,7 +193,8 @@ pub extern "C" fn dnsm_name_end(message: &[u8], place: usize, end: &mut usize) -
     }
 }
 
-/// Sets `place` to the offset of the name with this index in the RDATA of a record.
+/// Sets `place` to the offset of the name with this index in the RDATA of a record. The name is read
+/// without the octets after the RDATA.
 #[unsafe(no_mangle)]
 pub extern "C" fn dnsm_data_name(
     message: &[u8],
@@ -198,7 +203,11 @@ pub extern "C" fn dnsm_data_name(
     place: &mut usize,
 ) -> u32
     ensures name { result ≡ 0 → IsDataName message.now item.now index place.new }
-    ensures within { result ≡ 0 → place.new < item.now.«data» + item.now.data_len }
+    ensures read { result ≡ 0 → (name : Labels)
+        × NameAt (up_to_data_end message.now item.now) place.new name
+        × NameAt message.now place.new name }
+    ensures within { result ≡ 0 → (item.now.«data» ≤ place.new)
+        × (place.new < data_end item.now) }
     ensures none { result ≢ 0 → LacksDataName message.now item.now index result }
     ensures unchanged { result ≢ 0 → place.new ≡ place.old }
 {
@@ -231,7 +240,8 @@ pub extern "C" fn dnsm_name_from_text(text: &[u8], out: &mut [u8], len: &mut usi
     }
 }
 
-/// Writes the mnemonic of a record type, or `TYPE` and its number, and a zero octet.
+/// Writes the name that IANA has registered for a record type, or `TYPE` and its number, and a zero
+/// octet.
 #[unsafe(no_mangle)]
 pub extern "C" fn dnsm_type_text(rtype: u16, out: &mut [u8], len: &mut usize) -> u32
     ensures length { length out.new ≡ length out.old }
@@ -245,7 +255,7 @@ pub extern "C" fn dnsm_type_text(rtype: u16, out: &mut [u8], len: &mut usize) ->
     text::finish(end, out, len)
 }
 
-/// Writes the mnemonic of a class, or `CLASS` and its number, and a zero octet.
+/// Writes the name that IANA has registered for a class, or `CLASS` and its number, and a zero octet.
 #[unsafe(no_mangle)]
 pub extern "C" fn dnsm_class_text(class: u16, out: &mut [u8], len: &mut usize) -> u32
     ensures length { length out.new ≡ length out.old }
@@ -299,7 +309,8 @@ pub extern "C" fn dnsm_opt_ttl(opt: &Opt) -> u32
 }
 
 /// Reads the option at offset `place` of an OPT record's RDATA, and moves `place` past it. Returns 0
-/// with an option, 1 at the end of the RDATA, otherwise the number of the error.
+/// with an option, 1 at the end of the RDATA, otherwise the number of the error, also for an offset
+/// outside of the RDATA.
 #[unsafe(no_mangle)]
 pub extern "C" fn dnsm_next_option(
     message: &[u8],
@@ -307,9 +318,11 @@ pub extern "C" fn dnsm_next_option(
     place: &mut usize,
     option: &mut OptOption,
 ) -> u32
+    ensures opt { result ≤ 1 → HoldsOpt message.now item.now × IsInData item.now place.old }
     ensures option { result ≡ 0 → OptionBegins (option_at message.now option.new)
         (data_from message.now item.now place.old) (data_from message.now item.now place.new) }
-    ensures end { result ≡ 1 → data_from message.now item.now place.old ≡ [] }
+    ensures within { result ≡ 0 → (place.old < place.new) × (place.new ≤ data_end item.now) }
+    ensures end { result ≡ 1 → place.new ≡ data_end item.now }
     ensures none { result ≢ 0 → result ≢ 1 → LacksOption message.now item.now place.old result }
     ensures unchanged { result ≢ 0 → (place.new ≡ place.old) × (option.new ≡ option.old) }
 {

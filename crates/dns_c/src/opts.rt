@@ -3,10 +3,12 @@ ghost use Rattle.std.specs.Prelude.{◌≡◌, ◌≢◌, ◌+◌, ◌<◌, ◌�
 ghost use Rattle.dns_code.specs.Bits.{number_in};
 ghost use Rattle.dns_opt.specs.Options.{OptionBegins, encode_option};
 ghost use Rattle.dns_c.specs.Codes.{number_of};
-ghost use Rattle.dns_c.specs.Opts.{BeginsNoOption, HasFields, IsOpt, LacksOption, data_from, option_at};
+ghost use Rattle.dns_c.specs.DataNames.{data_end};
+ghost use Rattle.dns_c.specs.Opts.{BeginsNoOption, HasFields, HoldsOpt, IsInData, IsOpt, LacksOption, data_from, option_at};
 ghost use Rattle.dns_c.specs.Texts.{Holds};
 
 use crate::code::Fault;
+use crate::data_name::data_end;
 use crate::pieces::{End, START, append_octets};
 use crate::walk::Item;
 
@@ -101,18 +103,21 @@ fn first_option(octets: &[u8]) -> Option<(u16, u16)>
 }
 
 /// Reads the option at offset `place`, and moves `place` past it. Returns `Ok(false)` if `place` is
-/// at the end of the RDATA, or past it.
+/// at the end of the RDATA.
 pub(crate) fn next_option(
     octets: &[u8],
     item: &Item,
     place: &mut usize,
     option: &mut OptOption,
 ) -> Result<bool, Fault>
+    ensures opt { IfOk result (λ given. HoldsOpt octets.now item.now
+        × IsInData item.now place.old) }
     ensures option { IfOk result (λ given. given ≡ true → OptionBegins
         (option_at octets.now option.new)
         (data_from octets.now item.now place.old) (data_from octets.now item.now place.new)) }
-    ensures end { IfOk result (λ given. given ≢ true
-        → data_from octets.now item.now place.old ≡ []) }
+    ensures within { IfOk result (λ given. given ≡ true
+        → (place.old < place.new) × (place.new ≤ data_end item.now)) }
+    ensures end { IfOk result (λ given. given ≢ true → place.old ≡ data_end item.now) }
     ensures none { IfErr result (λ fault.
         LacksOption octets.now item.now place.old (number_of fault)) }
     ensures unchanged { result ≢ Ok true → (place.new ≡ place.old) × (option.new ≡ option.old) }
@@ -120,11 +125,11 @@ pub(crate) fn next_option(
     if !is_opt(item) {
         return Err(Fault::NotOpt);
     }
-    if item.data > octets.len() || usize::from(item.data_len) > octets.len() - item.data {
-        return Err(Fault::ShortInput);
+    let end = data_end(octets, item)?;
+    if *place < item.data || *place > end {
+        return Err(Fault::BadOption);
     }
-    let end = item.data + usize::from(item.data_len);
-    if *place >= end {
+    if *place == end {
         return Ok(false);
     }
     let Some((code, data_len)) = first_option(&octets[*place..end]) else {

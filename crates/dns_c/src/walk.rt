@@ -1,5 +1,5 @@
 //! Iterates over a message with a cursor that the caller owns.
-ghost use Rattle.std.specs.Prelude.{◌≡◌, ◌≢◌, ◌+◌, ◌<◌, ◌≤◌, length, true, Ok, Err, IfOk, IfErr};
+ghost use Rattle.std.specs.Prelude.{◌≡◌, ◌≢◌, ◌+◌, ◌<◌, ◌≤◌, ℕ, length, true, Ok, Err, IfOk, IfErr};
 ghost use Rattle.dns_name.specs.Names.{FaultAt, Labels, NameAt, NameEndsAt, fault_of};
 ghost use Rattle.dns_name.specs.ParsedName.{labels};
 ghost use Rattle.dns_name.specs.Parsers as Parsers;
@@ -10,7 +10,7 @@ ghost use Rattle.dns_item.specs.Items.{RecordFaultAt};
 ghost use Rattle.dns_read.specs.Message.{message_octets};
 ghost use Rattle.dns_c.specs.Codes.{number_of, IsReported};
 ghost use Rattle.dns_c.specs.Made.{LacksName};
-ghost use Rattle.dns_c.specs.Steps.{left_from, IsHeader, IsOpen, Opens, Spans, ReturnsQuestion, ReturnsRecord, ReturnsEntry, Steps};
+ghost use Rattle.dns_c.specs.Steps.{left_from, EndsFrom, IsHeader, IsOpen, Opens, SkipsEntry, Spans, ReturnsQuestion, ReturnsRecord, ReturnsEntry, Steps};
 ghost use Rattle.dns_c.specs.Walk.{count_at};
 
 use crate::code;
@@ -132,6 +132,8 @@ fn settle(message: &Message<&[u8]>, cursor: &mut Cursor)
     ensures last { cursor.new.left ≡ 0 → cursor.new.section ≡ 3 }
     ensures status { cursor.new.status ≡ cursor.old.status }
     ensures place { cursor.new.place ≡ cursor.old.place }
+    ensures end { (end : ℕ) → EndsFrom (message_octets message.now) cursor.new end
+        → EndsFrom (message_octets message.now) cursor.old end }
 {
     while cursor.left == 0 && cursor.section < 3 {
         cursor.section += 1;
@@ -198,6 +200,8 @@ fn read(octets: &[u8], cursor: &Cursor) -> Result<(Item, usize), ParseError>
     ensures within { IfOk result (λ found. found.0.«data» + found.0.data_len ≤ length octets.now) }
     ensures place { IfOk result (λ found. Spans found.0 cursor.now.place found.1
         × (found.0.section ≡ cursor.now.section)) }
+    ensures skips { IfOk result (λ found.
+        SkipsEntry octets.now cursor.now.section cursor.now.place found.1) }
     ensures reported { IfErr result (λ error. IsReported (fault_of error)) }
 {
     if cursor.section == 0 {
@@ -216,6 +220,11 @@ pub(crate) fn next(octets: &[u8], cursor: &mut Cursor, item: &mut Item) -> Resul
     ensures place { IfOk result (λ given. given ≡ true
         → Spans item.new cursor.old.place cursor.new.place
         × (item.new.section ≡ cursor.new.section)) }
+    ensures goes_on { IfOk result (λ given. given ≡ true → (end : ℕ)
+        → EndsFrom octets.now cursor.new end → EndsFrom octets.now cursor.old end) }
+    ensures end { IfOk result (λ given. given ≢ true
+        → EndsFrom octets.now cursor.old cursor.new.place
+        × (cursor.new.place ≡ cursor.old.place)) }
     ensures no_section { 3 < cursor.old.section → (result ≡ Err Fault.BadSection)
         × (cursor.new ≡ cursor.old) }
     ensures short { cursor.old.section ≤ 3 → length octets.now < header_size

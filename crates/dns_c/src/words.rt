@@ -1,50 +1,11 @@
 //! The text of record types, classes and statuses.
 ghost use Rattle.std.specs.Prelude.{◌≡◌, ◌++◌, ℕ, List, [], ◌∷◌, decimal, option_map, unwrap_or};
-ghost use Rattle.dns_number.specs.Classes.{class_text};
-ghost use Rattle.dns_number.specs.Mnemonics.{mnemonic, type_mnemonics, class_mnemonics};
-ghost use Rattle.dns_number.specs.NumberTexts.{number_text};
-ghost use Rattle.dns_number.specs.Tables.{table};
-ghost use Rattle.dns_number.specs.Types.{type_text};
+ghost use Rattle.dns_number.specs.Mnemonics.{mnemonic};
 ghost use Rattle.dns_c.specs.Statuses.{status_sentences, status_text};
-ghost use Rattle.dns_c.specs.Texts.{Holds};
+ghost use Rattle.dns_c.specs.Texts.{Holds, class_text, type_text};
 
 use crate::pieces::{End, START, append_number, append_octets};
 use dns_number::{Class, Rtype};
-
-/// The mnemonic of a record type, if it has one.
-#[tactic(auto, unfolding(std::specs::Prelude::find, dns_number::specs::Mnemonics::type_mnemonics))]
-fn type_word(rtype: Rtype) -> Option<&'static str>
-    ensures { option_map (λ word. word.now) result ≡ mnemonic type_mnemonics rtype }
-{
-    match rtype {
-        Rtype::A => Some("A"),
-        Rtype::NS => Some("NS"),
-        Rtype::CNAME => Some("CNAME"),
-        Rtype::SOA => Some("SOA"),
-        Rtype::PTR => Some("PTR"),
-        Rtype::MX => Some("MX"),
-        Rtype::TXT => Some("TXT"),
-        Rtype::AAAA => Some("AAAA"),
-        Rtype::OPT => Some("OPT"),
-        Rtype::IXFR => Some("IXFR"),
-        Rtype::AXFR => Some("AXFR"),
-        Rtype::ANY => Some("ANY"),
-        _ => None,
-    }
-}
-
-/// The mnemonic of a class, if it has one.
-#[tactic(auto, unfolding(dns_number::specs::Mnemonics::class_mnemonics))]
-fn class_word(class: Class) -> Option<&'static str>
-    ensures { option_map (λ word. word.now) result ≡ mnemonic class_mnemonics class }
-{
-    match class {
-        Class::IN => Some("IN"),
-        Class::CH => Some("CH"),
-        Class::HS => Some("HS"),
-        _ => None,
-    }
-}
 
 /// Writes `word`, or `other` followed by the number if there is none.
 fn append_word(word: Option<&str>, other: &[u8], number: u32, out: &mut [u8]) -> End
@@ -60,19 +21,19 @@ fn append_word(word: Option<&str>, other: &[u8], number: u32, out: &mut [u8]) ->
     }
 }
 
-/// Writes a record type.
+/// Writes a record type: its registered name, or `TYPE` and its number.
 pub(crate) fn rtype(number: u16, out: &mut [u8]) -> End
     ensures { Holds out.new (type_text number) result }
 {
-    let word = type_word(Rtype::from_int(number));
+    let word = Rtype::from_int(number).registered_name();
     append_word(word, b"TYPE", u32::from(number), out)
 }
 
-/// Writes a class.
+/// Writes a class: its registered name, or `CLASS` and its number.
 pub(crate) fn class(number: u16, out: &mut [u8]) -> End
     ensures { Holds out.new (class_text number) result }
 {
-    let word = class_word(Class::from_int(number));
+    let word = Class::from_int(number).registered_name();
     append_word(word, b"CLASS", u32::from(number), out)
 }
 

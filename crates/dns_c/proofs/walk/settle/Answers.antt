@@ -1,5 +1,5 @@
 use Rattle.dns_read.specs.Message.{message_octets}
-use Rattle.dns_c.proofs.WalkLemmas.{moved_on}
+use Rattle.dns_c.proofs.WalkLemmas.{ends_in_next, moved_on}
 use Rattle.dns_c.proofs.walk.settle.Goals as goal
 use Rattle.std.proofs.Common.{◌∙◌, arith}
 
@@ -13,4 +13,7 @@ loop-cursor-preserved c =
       section = omega arith;
       status = c.loop-cursor.invariant.status;
       place = c.loop-cursor.invariant.place;
+      end = λ end h.
+          c.loop-cursor.invariant.end end
+          (ends_in_next (message_octets c.args.message.now) old.section old.left c.count_of-cursor.result old.place end c.loop-cursor-test.true c.if-cursor-lt3.true c.count_of-cursor.ensures h);
     }

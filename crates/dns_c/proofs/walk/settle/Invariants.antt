@@ -1,6 +1,6 @@
-use Rattle.std.proofs.Common.{◌≡◌, ◌≤◌, ◌-◌}
+use Rattle.std.proofs.Common.{◌≡◌, ℕ, ◌≤◌, ◌-◌}
 use Rattle.dns_read.specs.Message.{message_octets}
-use Rattle.dns_c.specs.Steps.{left_from}
+use Rattle.dns_c.specs.Steps.{left_from, EndsFrom}
 use Rattle.dns_c.proofs.walk.settle.Given as goal
 
 abbrev pub invariant-loop-cursor : goal.invariant-loop-cursor
@@ -9,6 +9,7 @@ invariant-loop-cursor l = record {
   section : l.cursor.section ≤ 3;
   status : l.cursor.status ≡ l.fn.cursor.status;
   place : l.cursor.place ≡ l.fn.cursor.place;
+  end : (end : ℕ) → EndsFrom (message_octets l.message) l.cursor end → EndsFrom (message_octets l.fn.message) l.fn.cursor end;
 }
 
 abbrev pub decreases-loop-cursor : goal.decreases-loop-cursor
