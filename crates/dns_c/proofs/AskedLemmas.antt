@@ -7,11 +7,22 @@ use Rattle.dns_question.proofs.theory.QuestionEntryLemmas.{question_or_fault}
 use Rattle.dns_c.specs.Codes.{number_of}
 use Rattle.dns_c.specs.Made.{Asks, AsksNothing, AsksOne, HoldsQuery}
 use Rattle.dns_c.specs.declared.code.Fault.TheVariants as faults
+use Rattle.dns_c.proofs.FaultLemmas.{reported_small}
 
 module _ (b : List ℕ) where
   -- there is at most one such question
   same_asked : (x y : QuestionItem) → AsksOne b x → AsksOne b y → x ≡ y
   same_asked x y h k = ((question_or_fault b).one header_size h.after k.after x y h.reads k.reads).1
+
+  -- the buffer is no reason
+  pub room_unreported : (n : ℕ) → AsksNothing b n → n ≡ number_of faults.NoRoom → ⊥
+  room_unreported n (inl h) is = let e = h.1 in omega (arith, is, e)
+  room_unreported n (inr (inl h)) is = let e = h.2 in omega (arith, is, e)
+  room_unreported n (inr (inr (inl h))) is = let e = h.2 in omega (arith, is, e)
+  room_unreported n (inr (inr (inr (inl h)))) is = let e = h.2 in omega (arith, is, e)
+  room_unreported n (inr (inr (inr (inr (inl h))))) is = let small = reported_small h.2.2 in omega (arith, is, small)
+  room_unreported n (inr (inr (inr (inr (inr (inl h)))))) is = let e = h.1 in omega (arith, is, e)
+  room_unreported n (inr (inr (inr (inr (inr (inr h)))))) is = let e = h.1 in omega (arith, is, e)
 
   module _ (long : header_size ≤ length b) (is : (fields_in (take 4 b)).qr ≡ true) where
     pub response_reported : (n : ℕ) → AsksNothing b n → n ≡ number_of faults.IsResponse

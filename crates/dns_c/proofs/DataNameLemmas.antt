@@ -5,6 +5,7 @@ use Rattle.std.proofs.lemmas.List.{length-take-le, take-append-drop}
 use Rattle.std.specs.List.{find}
 use Rattle.std.specs.Prelude.{Option, Some, None, option_map, cond}
 use Rattle.dns_name.specs.Names.{Fault, FaultAt, Labels, NameAt, NameEndsAt}
+use Rattle.dns_octets.specs.declared.error.TheConstants.FormError.{TRAILING_DATA}
 use Rattle.dns_name.specs.Names.Fault.{Form}
 use Rattle.dns_name.specs.Names.NameAt.{root, label, pointer}
 use Rattle.dns_name.proofs.theory.ExtentLaws.{ends_after}
@@ -148,7 +149,7 @@ module _ (b seen : List ℕ) (rtype own start offset : ℕ) (same : seen ≡ b) 
   pub octets_left : (q left : ℕ) (parts : List Part) → DataAt seen (type_layout own) offset q parts → q + left ≡ length b → nat_eq left 0 ≡ false → IsNoRdata b rtype start
   octets_left q left parts there all some =
       let before : q < length b = grind (arith, nat_tests) in
-      (Form, left_over q parts (moved q parts there) before)
+      (Form TRAILING_DATA, left_over q parts (moved q parts there) before)
 
 module _ (b : List ℕ) (rtype start index : ℕ) (other : index ≡ 0 → ⊥) (has : HasName rtype index) (rdata : IsRdata b rtype start) where
   zone : (index ≡ 1) × (rtype ≡ 6)

@@ -8,6 +8,7 @@ use Rattle.std.specs.Borrow.{Bor}
 use Rattle.std.specs.Prelude.{◌==◌, ◌+◌, true, false, IfSome, IsNone, MatchOption, None, Option, Some, drop, take}
 use Rattle.std.specs.Cmp.Lexicographic.{pointwise}
 use Rattle.dns_name.specs.Names.{Fault}
+use Rattle.dns_octets.specs.declared.error.TheConstants.FormError.{TRAILING_DATA}
 use Rattle.dns_name.specs.Names.Fault.{Form}
 use Rattle.dns_wire.specs.Parts.{Part}
 use Rattle.dns_data.specs.Layout.{DataAt, DataFaultAt}
@@ -37,7 +38,7 @@ module _ (item : NewItem) (b : List ℕ) (p rtype : ℕ) where
 
   -- octets after the fields
   pub left_over : (q : ℕ) (parts : List Part) → b ≡ item.rdata.now → p ≡ 0 → rtype ≡ layout_type item → q < length b → DataAt b (type_layout rtype) p q parts → HasNoFields item
-  left_over q parts same start own some at = inl (Form, octets_left q parts (moved q parts same start own at) (subst (λ (x : List ℕ). q < length x) same some))
+  left_over q parts same start own some at = inl (Form TRAILING_DATA, octets_left q parts (moved q parts same start own at) (subst (λ (x : List ℕ). q < length x) same some))
 
   -- the fields take all octets
   pub all_fields : (q : ℕ) (parts : List Part) → b ≡ item.rdata.now → p ≡ 0 → rtype ≡ layout_type item → q ≡ length b → DataAt b (type_layout rtype) p q parts → AreFieldsOf item parts

@@ -7,7 +7,7 @@ use Rattle.dns_octets.specs.declared.error.ParseError.{ParseError}
 use Rattle.dns_octets.specs.declared.error.ParseError.TheVariants as errors
 use Rattle.dns_name.specs.Names.{Fault, FaultAt, EndsOrFaults, fault_of, head_of, head_at}
 use Rattle.dns_name.specs.Names.Faulty.{head}
-use Rattle.dns_name.specs.Names.Fault.{ShortInput, Form}
+use Rattle.dns_name.specs.Names.Fault.{ShortInput}
 use Rattle.dns_code.specs.HeaderSection.{header_size}
 use Rattle.dns_question.specs.Questions.{QuestionItem, SkipsQuestion, ReadsQuestion, QuestionSkipFaultAt, QuestionFaultAt}
 use Rattle.dns_item.specs.Items.{SkipsRecord, RecordEntry, ReadsRecord, RecordFaultAt}
@@ -31,7 +31,8 @@ use Rattle.dns_read.specs.SectionStarts.{found, records_of}
 use Rattle.dns_section.proofs.theory.SectionLemmas.{starts_after}
 use Rattle.dns_read.proofs.theory.SectionStartLemmas.{start_found, no_answers, no_authorities, no_additionals, no_reading}
 use Rattle.dns_question.specs.AfterNames.FieldsFaultAt.{name as in_name}
-use Rattle.dns_c.proofs.NameFaultLemmas.{form_in_name}
+use Rattle.dns_c.proofs.FaultLemmas.{reported_fields}
+use Rattle.dns_c.specs.Codes.{IsReported}
 use Rattle.dns_c.specs.Steps.{left_from, Ends, EndsFrom, IsHeader, IsOpen, Opens, ReturnsQuestion, ReturnsRecord, ReturnsEntry, SkipsEntry, Spans, Reports}
 use Rattle.dns_c.specs.Steps.Ends.{nothing, next_section, next_question, next_record}
 use Rattle.dns_c.specs.declared.walk.Cursor.{Cursor}
@@ -190,15 +191,15 @@ pub record_at_offset : (b : List ℕ) (cursor : Cursor) (r : Result (Item × ℕ
 record_at_offset b cursor (Ok found) h spans = (spans, h.3)
 record_at_offset b cursor (Err e) h spans = tt
 
--- If an entry is malformed (`Form`), its name is.
+-- The fault of an entry has a number.
 
-pub question_form : (b : List ℕ) (p : ℕ) (r : Result (Item × ℕ) ParseError) → ReturnsQuestion b p r → IfErr r (λ e. fault_of e ≡ Form → FaultAt b p Form)
-question_form b p (Ok found) h = tt
-question_form b p (Err e) h = form_in_name b _ p (fault_of e) h
+pub question_reported : (b : List ℕ) (p : ℕ) (r : Result (Item × ℕ) ParseError) → ReturnsQuestion b p r → IfErr r (λ e. IsReported (fault_of e))
+question_reported b p (Ok found) h = tt
+question_reported b p (Err e) h = reported_fields h
 
-pub record_form : (b : List ℕ) (section p : ℕ) (r : Result (Item × ℕ) ParseError) → ReturnsRecord b section p r → IfErr r (λ e. fault_of e ≡ Form → FaultAt b p Form)
-record_form b section p (Ok found) h = tt
-record_form b section p (Err e) h = form_in_name b _ p (fault_of e) h
+pub record_reported : (b : List ℕ) (section p : ℕ) (r : Result (Item × ℕ) ParseError) → ReturnsRecord b section p r → IfErr r (λ e. IsReported (fault_of e))
+record_reported b section p (Ok found) h = tt
+record_reported b section p (Err e) h = reported_fields h
 
 -- A cursor that moved past empty sections.
 

@@ -1,7 +1,8 @@
 -- The numbers by which C sees errors, as in dnsm.h.
-use Rattle.std.specs.Prelude.{◌≡◌, ℕ, ◌≤◌, Bool, true, false, Result, Ok, Err}
+use Rattle.std.specs.Prelude.{ℕ, Bool, true, false, Result, Ok, Err}
 use Rattle.dns_octets.specs.declared.error.AppendError.{AppendError}
 use Rattle.dns_octets.specs.declared.error.AppendError.TheVariants as appending
+use Rattle.dns_octets.specs.declared.error.TheConstants.FormError.{BAD_LABEL, BAD_POINTER, LONG_NAME}
 use Rattle.dns_name.specs.Names.{Fault as FaultThere}
 use Rattle.dns_name.specs.Names.Fault.{ShortInput, Form}
 use Rattle.dns_build.specs.declared.push_error.PushError.{PushError}
@@ -41,10 +42,16 @@ code_of (Ok true) = 0
 code_of (Ok false) = 1
 code_of (Err fault) = number_of fault
 
--- the number reports this fault of octets: 2 that an octet is missing, 3 to 5 that a name is malformed
-abbrev pub ReportsFault : FaultThere → ℕ → Type 0
-ReportsFault ShortInput n = n ≡ 2
-ReportsFault Form n = (3 ≤ n) × (n ≤ 5)
+-- The number reports this fault of octets: 2 that an octet is missing, 3 to 5 how a name is malformed.
+pub data ReportsFault : FaultThere → ℕ → Type 0 where
+  missing : ReportsFault ShortInput 2
+  label : ReportsFault (Form BAD_LABEL) 3
+  pointer : ReportsFault (Form BAD_POINTER) 4
+  name : ReportsFault (Form LONG_NAME) 5
+
+-- a number reports this fault
+abbrev pub IsReported : FaultThere → Type 0
+IsReported f = (n : ℕ) × ReportsFault f n
 
 -- the fault that reports an append error
 abbrev pub append_fault : AppendError → Fault

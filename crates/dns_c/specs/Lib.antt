@@ -1,7 +1,6 @@
 pub mod Walk
 pub mod Codes
 pub mod Statuses
-pub mod NameFaults
 pub mod Steps
 pub mod Made
 pub mod Texts

@@ -12,8 +12,7 @@ use Rattle.dns_section.specs.Sections.{question_count}
 use Rattle.dns_build.specs.State.{State, InQuestion, InAnswer}
 use Rattle.dns_build.specs.BuilderStates.{fresh}
 use Rattle.dns_build.specs.MessageOf.{IsMessageOf}
-use Rattle.dns_c.specs.Codes.{number_of}
-use Rattle.dns_c.specs.NameFaults.{ReportsAt}
+use Rattle.dns_c.specs.Codes.{number_of, ReportsFault}
 use Rattle.dns_c.specs.declared.code.Fault.TheVariants as faults
 
 -- a text spells no name
@@ -22,7 +21,7 @@ SpellsNoName text = (name : Labels) → SpellsName text name → ⊥
 
 -- no name can be read at offset p, and the number says why
 abbrev pub LacksName : List ℕ → ℕ → ℕ → Type 0
-LacksName b p n = (f : Fault) × FaultAt b p f × ReportsAt b p f n
+LacksName b p n = (f : Fault) × FaultAt b p f × ReportsFault f n
 
 -- some octets with this property are n, more than `capacity`
 abbrev pub IsLonger : (List ℕ → Type 0) → ℕ → ℕ → Type 0
@@ -80,7 +79,7 @@ AsksNothing b n =
     ⊎ ((header_size ≤ length b) × ((fields_in (take 4 b)).qr ≡ true) × (n ≡ number_of faults.IsResponse))
     ⊎ (HoldsQuery b × ((fields_in (take 4 b)).opcode ≢ 0) × (n ≡ number_of faults.OtherOpcode))
     ⊎ (HoldsStandardQuery b × (question_count b ≢ 1) × (n ≡ number_of faults.NoQuestion))
-    ⊎ (HoldsStandardQuery b × (question_count b ≡ 1) × ((f : Fault) × QuestionFaultAt b header_size f × ReportsAt b header_size f n))
+    ⊎ (HoldsStandardQuery b × (question_count b ≡ 1) × ((f : Fault) × QuestionFaultAt b header_size f × ReportsFault f n))
     ⊎ (((x : QuestionItem) × AsksOne b x × (x.class ≢ 1)) × (n ≡ number_of faults.OtherClass))
     ⊎ (((x : QuestionItem) × AsksOne b x × (x.class ≡ 1) × (x.rtype ≢ 1) × (x.rtype ≢ 255)) × (n ≡ number_of faults.OtherType))
 

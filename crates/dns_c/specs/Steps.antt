@@ -10,8 +10,7 @@ use Rattle.dns_code.specs.HeaderSection.{header_size}
 use Rattle.dns_question.specs.Questions.{QuestionItem, SkipsQuestion, ReadsQuestion, QuestionFaultAt}
 use Rattle.dns_item.specs.Items.{RecordEntry, SkipsRecord, ReadsRecord, RecordFaultAt}
 use Rattle.dns_section.specs.Sections.{question_count, answer_count, authority_count, additional_count}
-use Rattle.dns_c.specs.Codes.{code_of, number_of}
-use Rattle.dns_c.specs.NameFaults.{ReportsAt}
+use Rattle.dns_c.specs.Codes.{code_of, number_of, ReportsFault}
 use Rattle.dns_c.specs.Walk.{Entry, Asked, Stated, Given, count_at, left_at, section_at, walk_of}
 use Rattle.dns_c.specs.declared.code.Fault.{Fault as FaultGiven}
 use Rattle.dns_c.specs.declared.walk.Cursor.{Cursor}
@@ -121,7 +120,7 @@ abbrev pub Steps : List ℕ → Cursor → Cursor → Item → Result Bool Fault
 Steps b old new item (Ok true) = (x : Entry) × (left_from b old ≡ Ok x ∷ left_from b new) × Reports b item x × IsOpen b new
 Steps b old new item (Ok false) = (left_from b old ≡ []) × (left_from b new ≡ []) × IsOpen b new
 Steps b old new item (Err fault) =
-    (f : Fault) × (left_from b old ≡ Err f ∷ []) × ReportsAt b old.place f (number_of fault) × (new.status ≡ number_of fault)
+    (f : Fault) × (left_from b old ≡ Err f ∷ []) × ReportsFault f (number_of fault) × (new.status ≡ number_of fault)
 
 -- what C gets from a call of `dnsm_next`, as a number
 abbrev pub GivesNext : List ℕ → Cursor → Cursor → Item → ℕ → Type 0

@@ -15,7 +15,7 @@ use Rattle.dns_fields.specs.FieldParts.{named_parts}
 use Rattle.dns_fields.specs.Table.{definitions_of}
 use Rattle.dns_lines.specs.ZoneLines.{rdata_text}
 use Rattle.dns_tool.specs.Show.{data_parts}
-use Rattle.dns_c.specs.NameFaults.{ReportsAt}
+use Rattle.dns_c.specs.Codes.{ReportsFault}
 use Rattle.dns_c.specs.PlainFields.{are_plain}
 
 -- `end` is the length of the text, at most 2^64 - 1, and the buffer begins with the text if it is long enough
@@ -45,7 +45,7 @@ RecordAt b p x = (q : ℕ) × ReadsRecord b p q x
 
 -- no record can be read at p, and the number says why
 abbrev pub NoRecordAt : List ℕ → ℕ → ℕ → Type 0
-NoRecordAt b p n = (f : Fault) × RecordFaultAt b p f × ReportsAt b p f n
+NoRecordAt b p n = (f : Fault) × RecordFaultAt b p f × ReportsFault f n
 
 -- the octets of a record's RDATA
 abbrev pub data_octets : List ℕ → RecordEntry → List ℕ

@@ -10,8 +10,8 @@ ghost use Rattle.dns_c.specs.Codes.{number_of};
 ghost use Rattle.dns_c.specs.PlainFields.{are_plain};
 ghost use Rattle.dns_c.specs.Texts.{HasOtherField, Holds, NoRecordAt, RecordAt, data_octets, data_text};
 
+use crate::code;
 use crate::code::Fault;
-use crate::name_fault::fault_at;
 use crate::pieces::{End, START, append_after, append_hex, append_octets};
 use crate::plain_fields::write_plain;
 use crate::sink::write_value;
@@ -81,6 +81,7 @@ fn write_data(found: &ParsedRecord<'_>, opaque: &[u8], out: &mut [u8]) -> Result
 }
 
 /// Writes the RDATA of a record. A question has none.
+#[tactic(auto, using(crate::proofs::FaultLemmas::reported_fields))]
 pub(crate) fn data(octets: &[u8], item: &Item, out: &mut [u8]) -> Result<End, Fault>
     ensures question { item.now.section ≡ 0 → result ≡ Err Fault.BadSection }
     ensures text { IfOk result (λ end. (x : RecordEntry) × RecordAt octets.now item.now.place x
@@ -95,6 +96,6 @@ pub(crate) fn data(octets: &[u8], item: &Item, out: &mut [u8]) -> Result<End, Fa
     }
     match record_at(octets, item.place) {
         Ok((found, opaque)) => write_data(&found, opaque, out),
-        Err(error) => Err(fault_at(octets, item.place, error)),
+        Err(error) => Err(code::of_error(error)),
     }
 }

@@ -11,7 +11,6 @@ mod code;
 mod data_name;
 mod data_text;
 mod make;
-mod name_fault;
 mod new_data;
 mod opts;
 mod pieces;

@@ -1,7 +1,6 @@
 //! Iterates over a message with a cursor that the caller owns.
 ghost use Rattle.std.specs.Prelude.{◌≡◌, ◌≢◌, ◌+◌, ◌<◌, ◌≤◌, ℕ, length, true, Ok, Err, IfOk, IfErr};
 ghost use Rattle.dns_name.specs.Names.{FaultAt, Labels, NameAt, NameEndsAt, fault_of};
-ghost use Rattle.dns_name.specs.Names.Fault.{Form};
 ghost use Rattle.dns_name.specs.ParsedName.{labels};
 ghost use Rattle.dns_name.specs.Parsers as Parsers;
 ghost use Rattle.dns_name.specs.Parsers.{seen};
@@ -9,14 +8,13 @@ ghost use Rattle.dns_code.specs.HeaderSection.{header_size};
 ghost use Rattle.dns_question.specs.Questions.{QuestionFaultAt};
 ghost use Rattle.dns_item.specs.Items.{RecordFaultAt};
 ghost use Rattle.dns_read.specs.Message.{message_octets};
-ghost use Rattle.dns_c.specs.Codes.{number_of};
+ghost use Rattle.dns_c.specs.Codes.{number_of, IsReported};
 ghost use Rattle.dns_c.specs.Made.{LacksName};
 ghost use Rattle.dns_c.specs.Steps.{left_from, EndsFrom, IsHeader, IsOpen, Opens, SkipsEntry, Spans, ReturnsQuestion, ReturnsRecord, ReturnsEntry, Steps};
 ghost use Rattle.dns_c.specs.Walk.{count_at};
 
 use crate::code;
 use crate::code::Fault;
-use crate::name_fault::fault_at;
 use dns_item::{Question, RecordHeader};
 use dns_read::Message;
 use dns_wire::{ParseError, ParsedName, Parser};
@@ -204,8 +202,7 @@ fn read(octets: &[u8], cursor: &Cursor) -> Result<(Item, usize), ParseError>
         × (found.0.section ≡ cursor.now.section)) }
     ensures skips { IfOk result (λ found.
         SkipsEntry octets.now cursor.now.section cursor.now.place found.1) }
-    ensures form { IfErr result (λ error. fault_of error ≡ Form
-        → FaultAt octets.now cursor.now.place Form) }
+    ensures reported { IfErr result (λ error. IsReported (fault_of error)) }
 {
     if cursor.section == 0 {
         read_question(octets, cursor.place)
@@ -250,7 +247,7 @@ pub(crate) fn next(octets: &[u8], cursor: &mut Cursor, item: &mut Item) -> Resul
             Ok(true)
         }
         Err(error) => {
-            let fault = fault_at(octets, cursor.place, error);
+            let fault = code::of_error(error);
             cursor.status = code::of_fault(fault);
             Err(fault)
         }
@@ -269,17 +266,19 @@ fn parse_name(octets: &[u8], place: usize) -> Result<(ParsedName<'_>, usize), Pa
 }
 
 /// The name at offset `place`.
+#[tactic(auto, using(crate::proofs::FaultLemmas::reported_name))]
 pub(crate) fn name_at(octets: &[u8], place: usize) -> Result<ParsedName<'_>, Fault>
     ensures name { IfOk result (λ name. NameAt octets.now place (labels name)) }
     ensures none { IfErr result (λ fault. LacksName octets.now place (number_of fault)) }
 {
     match parse_name(octets, place) {
         Ok((name, _)) => Ok(name),
-        Err(error) => Err(fault_at(octets, place, error)),
+        Err(error) => Err(code::of_error(error)),
     }
 }
 
 /// The offset after the name at offset `place`.
+#[tactic(auto, using(crate::proofs::FaultLemmas::reported_name))]
 pub(crate) fn name_end(octets: &[u8], place: usize) -> Result<usize, Fault>
     ensures end { IfOk result (λ end. NameEndsAt octets.now place end) }
     ensures name { IfOk result (λ end. (name : Labels) × NameAt octets.now place name) }
@@ -287,6 +286,6 @@ pub(crate) fn name_end(octets: &[u8], place: usize) -> Result<usize, Fault>
 {
     match parse_name(octets, place) {
         Ok((_, end)) => Ok(end),
-        Err(error) => Err(fault_at(octets, place, error)),
+        Err(error) => Err(code::of_error(error)),
     }
 }

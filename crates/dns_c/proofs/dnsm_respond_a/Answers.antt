@@ -1,6 +1,9 @@
-use Rattle.std.proofs.Common.{◌∙◌}
-use Rattle.dns_c.proofs.AskedLemmas.{response_reported, response_unasked, opcode_reported, opcode_unasked, class_reported, class_unasked, type_reported, type_unasked}
+use Rattle.std.proofs.Common.{◌∙◌, sym}
+use Rattle.dns_c.proofs.AskedLemmas.{room_unreported, response_reported, response_unasked, opcode_reported, opcode_unasked, class_reported, class_unasked, type_reported, type_unasked}
 use Rattle.dns_c.proofs.dnsm_respond_a.Goals as goal
+
+pub returns-in-Err-clause-no_room : goal.returns-in-Err-clause-no_room
+returns-in-Err-clause-no_room c = λ room. absurd (room_unreported c.args.query.now _ c.in-Err.ensures.none (sym c.refuse.ensures.code ∙ room))
 
 pub returns-in-Ok-clause-is_response : goal.returns-in-Ok-clause-is_response
 returns-in-Ok-clause-is_response c = λ long is. absurd (response_unasked c.args.query.now long is c.in-Ok.ensures.made.asked c.in-Ok.ensures.made.asks)

@@ -18,7 +18,7 @@ returns-in-Err-clause-steps c =
       fault_of c.in-Err.error,
       at_the_fault c.args.octets.now (message_octets c.in_ok-message.message) c.args.cursor.now c.settle.new.cursor (fault_of c.in-Err.error) c.in_ok-message.ensures.octets s.same
           c.if-cursor-eq0.false c.in-Err.ensures.entry,
-      rw s.place at (c.fault_at-fault.ensures c.in-Err.ensures.form),
+      c.of_error-fault.ensures c.in-Err.ensures.reported,
       c.of_fault-cursor.ensures.number,
     )
 
