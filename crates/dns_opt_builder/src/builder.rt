@@ -146,7 +146,7 @@ impl OptBuilder {
 
     /// Replaces the fields and the options by those of an OPT record. The copy of the header stays.
     ///
-    /// The only error is `OutOfMemory`, and then nothing changes.
+    /// The only error is `OutOfMemory`, and then nothing changes. Without options it doesn't fail.
     pub fn clone_from<Octs: Octets>(&mut self, opt: &OptRecord<Octs>) -> Result<(), AppendError>
         ensures cloned { OnOk result (gathered self.new ≡ record (gathered self.old) {
           fields = (opt_item opt.now).fields;
@@ -154,6 +154,7 @@ impl OptBuilder {
         }) }
         ensures refused { OnErr result (gathered self.new ≡ gathered self.old) }
         ensures memory { IfErr result (λ error. error ≡ AppendError.OutOfMemory) }
+        ensures full { OnErr result (0 < length (opt_item opt.now).options) }
     {
         let record = opt.as_record();
         let mut cloned = OptBuilder::new(*self.octets.allocator(), self.header);
@@ -169,6 +170,8 @@ impl OptBuilder {
           options = (gathered self.old).options ++ options_left options.entry;
         }) }
         ensures short { result ≡ Err AppendError.ShortBuf → 65535 < length (encode_options
+            ((gathered self.old).options ++ options_left options.entry)) }
+        ensures full { OnErr result (0 < length
             ((gathered self.old).options ++ options_left options.entry)) }
     {
         for (code, octets) in options {

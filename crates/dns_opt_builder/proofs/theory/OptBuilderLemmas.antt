@@ -108,6 +108,13 @@ too_many x old new left after (Err ShortBuf) h e first =
 too_many x old new left after (Ok _) h e first = absurd (cc)
 too_many x old new left after (Err OutOfMemory) h e first = absurd (cc)
 
+-- an option remains
+pub some_left : (x : OptionItem) (builder : OptBuilder) (left after all : List OptionItem) → left ≡ x ∷ after → (with_left builder left).options ≡ all → 0 < length all
+some_left x builder left after all first same =
+    let count = ap length (sym same ∙ ap (λ (xs : List OptionItem). (gathered builder).options ++ xs) first) in
+    let sum = length-append (gathered builder).options (x ∷ after) in
+    omega (arith, count, sum)
+
 -- an error that isn't `ShortBuf` is `OutOfMemory`
 pub of_memory : (e : AppendError) → (e ≡ ShortBuf → ⊥) → e ≡ OutOfMemory
 of_memory ShortBuf never = absurd (never refl)

@@ -17,3 +17,11 @@ returns-in_err-append_all-clause-memory g c =
     let all = options_length (opt_octets opt) opt.options in
     let short = opt.short in
     rw (p.1, p.2) (of_memory _ (λ e. omega (arith, c.append_all.ensures.short (c.in_err-append_all.was ∙ ap Err e), fresh, same, all, short)))
+
+pub returns-in_err-append_all-clause-full : goal.returns-in_err-append_all-clause-full
+returns-in_err-append_all-clause-full g c =
+    let p = err_from_is_err_and c.from_residual.result c.from_residual.ensures.1 in
+    let some = c.in_err-append_all.ensures.full in
+    let fresh = ap (λ (all : Gathered). length (all.options ++ options_left c.iter.result)) c.new-cloned.ensures in
+    let same = ap (λ (xs : List OptionItem). length xs) c.iter.ensures in
+    rw p.1 (grind (arith, some, fresh, same))
