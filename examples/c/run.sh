@@ -72,12 +72,12 @@ messages() {
   "$build/ask" && "$build/build"
 }
 
-# A message of 65,537 octets, and one with an NSEC record of 27,136 types, in windows of 256 (RFC 4034 section 4.1.2).
+# A message of 65,537 octets, and one with an NSEC record of all 65,536 types, in windows of 256 (RFC 4034 section 4.1.2).
 long_messages() {
   local window
   printf '%0131074d\n' 0
-  printf '00008000000000010000000000''002f000100000000''0e15''00'
-  for ((window = 0; window < 106; window++)); do
+  printf '00008000000000010000000000''002f000100000000''2201''00'
+  for ((window = 0; window < 256; window++)); do
     printf '%02x20' "$window"
     printf 'ff%.0s' {1..32}
   done
@@ -93,8 +93,8 @@ odd_lines() {
 
 # What the programs that print messages make of long lines: the number of words of each line that they print.
 prints_long() {
-  long_messages | "$build/show" | awk 'NF { print $1, NF }' | diff <(printf '%s\n' 'header 6' 'counts 5' 'header 6' 'counts 5' 'answer 27142') - &&
-    long_messages | "$build/show_simply" | awk 'NF { print $1, NF }' | diff <(printf '%s\n' 'id 4' 'id 4' 'answer 27142') - &&
+  long_messages | "$build/show" | awk 'NF { print $1, NF }' | diff <(printf '%s\n' 'header 6' 'counts 5' 'header 6' 'counts 5' 'answer 65542') - &&
+    long_messages | "$build/show_simply" | awk 'NF { print $1, NF }' | diff <(printf '%s\n' 'id 4' 'id 4' 'answer 65542') - &&
     long_messages | "$build/serve" | diff <(printf 'ignored\n%.0s' 1 2) -
 }
 
