@@ -46,6 +46,43 @@ func TestReads(t *testing.T) {
 	}
 }
 
+func TestNamesInRDATAEndWithIt(t *testing.T) {
+	for _, octets := range []string{
+		// An NS record of one octet, which would be a label with octets after the RDATA.
+		"\x00\x00\x80\x00\x00\x00\x00\x01\x00\x00\x00\x00\x00\x00\x02\x00\x01\x00\x00\x00\x00\x00\x01\x01a\x00",
+		// And one of a pointer to such a label.
+		"\x00\x00\x80\x00\x00\x00\x00\x01\x00\x00\x00\x00\x00\x00\x02\x00\x01\x00\x00\x00\x06\x00\x02\xc0\x14aa\x00",
+	} {
+		message, err := Parse([]byte(octets))
+		if err != nil {
+			t.Fatal(err)
+		}
+		items, err := message.Section(Answer)
+		if err != nil || len(items) != 1 {
+			t.Fatal(items, err)
+		}
+		if name, err := items[0].DataName(0); !errors.Is(err, BadData) {
+			t.Error(name, err)
+		}
+		if got := items[0].DataText(); !strings.HasPrefix(got, "\\# ") {
+			t.Error(got)
+		}
+	}
+}
+
+func TestNumbersHaveTheirRegisteredNames(t *testing.T) {
+	for number, text := range map[Type]string{33: "SRV", 65: "HTTPS", 255: "ANY", 65280: "TYPE65280"} {
+		if got := number.String(); got != text {
+			t.Error(number, got)
+		}
+	}
+	for number, text := range map[Class]string{254: "NONE", 255: "ANY", 2: "CLASS2"} {
+		if got := number.String(); got != text {
+			t.Error(number, got)
+		}
+	}
+}
+
 func TestEveryPrefixEndsInAnError(t *testing.T) {
 	for length := range response {
 		message, err := Parse(response[:length])

@@ -2,7 +2,7 @@
 # shellcheck shell=bash disable=SC2154,SC2086
 
 library=$prefix/lib/libdnsm.so.$version
-strict='-std=c99 -Wall -Wextra -Wpedantic -Werror -O2'
+strict='-std=c99 -Wall -Wextra -Wconversion -Wpedantic -Werror -O2'
 programs='show write serve'
 
 # linked FOLDER OPTION..: the three programs with the static library.

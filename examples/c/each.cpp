@@ -15,7 +15,7 @@ static const std::string response_expected = std::string("\x12\x34\x85\0\0\1\0\1
 
 static std::string octets(const std::vector<uint8_t> &buffer, size_t len)
 {
-    return std::string(buffer.begin(), buffer.begin() + len);
+    return std::string(reinterpret_cast<const char *>(buffer.data()), len);
 }
 
 int main()

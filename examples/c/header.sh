@@ -1,7 +1,7 @@
 #!/usr/bin/env bash
 # Compares crates/dns_c/dnsm.h with the crate: each call and each struct by its C types and the names of its parameters and
-# fields, the numbers of the errors, and, if the crate is built and `nm` is installed, the names of the calls in the archive.
-# Prints the differences, and fails if there are any. Needs no C compiler.
+# fields, the numbers of the errors, and the names of the calls in the archive that `library` has built. Compiles the header alone.
+# Prints the differences, and fails if there are any, or if there is no C compiler, no `nm` or no archive.
 set -eu
 here=$(cd "$(dirname "$0")" && pwd)
 crate=$here/../../crates/dns_c
@@ -79,6 +79,15 @@ sed -E 's/^[a-z0-9_]+ ([a-z_]+)\(.*/\1/' "$folder/prototypes" | sort >"$folder/d
 while read -r name; do
   grep -q "\b$name(" "$here/edge.c" || { echo "edge.c calls no $name"; exit 1; }
 done <"$folder/declared"
-[ -e "$crate/out/libdns_c.a" ] && command -v nm >/dev/null || exit 0
+for file in "$crate/out/libdns_c.a" "$(command -v nm || echo nm)"; do
+  [ -e "$file" ] || { echo "no $file: the names in the archive can't be compared"; exit 1; }
+done
 nm --defined-only "$crate/out/libdns_c.a" 2>/dev/null | sed -nE 's/.* T (dnsm_[a-z_]+)$/\1/p' | sort >"$folder/defined"
 diff "$folder/defined" "$folder/declared"
+
+# the header alone, by each C compiler
+compilers=$(command -v gcc clang cc || true)
+[ "$compilers" ] || { echo 'no C compiler: the header is not compiled'; exit 1; }
+for compiler in $compilers; do
+  echo '#include "dnsm.h"' | "$compiler" -std=c99 -Wall -Wextra -Wconversion -pedantic -Werror "-I$crate" -x c -fsyntax-only -
+done

@@ -12,8 +12,8 @@ static size_t numbers_and_name(const uint16_t *numbers, size_t count, const char
 {
     size_t len;
     for (size_t i = 0; i < count; i++) {
-        data[2 * i] = numbers[i] >> 8;
-        data[2 * i + 1] = numbers[i] & 0xff;
+        data[2 * i] = (uint8_t)(numbers[i] >> 8);
+        data[2 * i + 1] = (uint8_t)numbers[i];
     }
     if (dnsm_name_from_text(name, strlen(name), data + 2 * count, room - 2 * count, &len) != DNSM_OK)
         return 0;

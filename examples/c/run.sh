@@ -1,9 +1,11 @@
 #!/usr/bin/env bash
 # Builds the static library of crates/dns_c (library), compares dnsm.h with its exports (header.sh), and compiles and runs the
-# examples in C and C++. These are compiled by gcc and by clang, as far as these are installed, with the address and undefined
-# behaviour sanitizers if the compiler has them; so is the example of bindings/ that answers queries. The packages of Debian are
-# gcc, g++ and clang.
-# Prints 'test c::NAME ... ok' or 'test c::NAME ... FAILED' for each step, and fails if one does.
+# examples in C and C++, also those of bindings/c. Each compiler of gcc and clang, and of g++ and clang++, that is installed
+# compiles them, with all warnings as errors, and with the address and undefined behaviour sanitizers if it has them, which it
+# says. The sanitizers check the examples and the calls of the C library, but not the reads and writes of libdns_c.a itself,
+# which are proved; show.c has a page after each message that can't be read. The packages of Debian are gcc, g++ and clang.
+# Prints 'test c::NAME ... ok' or 'test c::NAME ... FAILED' for each step, and fails if one does, or if there is no compiler for
+# C or for C++.
 set -u
 here=$(cd "$(dirname "$0")" && pwd)
 crate=$here/../../crates/dns_c
@@ -27,15 +29,17 @@ outcome() {
 }
 
 sanitizers='-fsanitize=address,undefined -fno-sanitize-recover=all'
+export ASAN_OPTIONS=exitcode=99 UBSAN_OPTIONS=exitcode=99
 
 has_sanitizers() {
   echo 'int main(void) { return 0; }' | $1 $sanitizers -x c - -o "$build/probe" && "$build/probe"
 } >/dev/null 2>&1
 
+# compile COMPILER STANDARD SOURCE [PROGRAM]
 compile() {
-  local compiler=$1 standard=$2 source=$3 flags="-O1 -g -Wall -Wextra -pedantic -Werror"
+  local compiler=$1 standard=$2 source=$3 program=${4:-$(basename "${3%.*}")} flags="-O1 -g -Wall -Wextra -Wconversion -pedantic -Werror"
   has_sanitizers "$compiler" && flags="$flags $sanitizers"
-  $compiler "-std=$standard" $flags "-I$crate" "$here/$source" "$crate/out/libdns_c.a" "$kit/c/liblibc_c.a" -o "$build/$(basename "${source%.*}")"
+  $compiler "-std=$standard" $flags "-I$crate" "$here/$source" "$crate/out/libdns_c.a" "$kit/c/liblibc_c.a" -o "$build/$program"
 }
 
 cat >"$build/expected" <<'EXPECTED'
@@ -60,7 +64,7 @@ EXPECTED
 
 cat >"$build/expected_data" <<'EXPECTED'
 MX 10 mail.example.com.
-TYPE33 0 5 5222 chat.example.com.
+SRV 0 5 5222 chat.example.com.
 EXPECTED
 
 # The messages that the examples write, in hexadecimal.
@@ -68,14 +72,64 @@ messages() {
   "$build/ask" && "$build/build"
 }
 
+# A message of 65,537 octets, and one with an NSEC record of all 65,536 types, in windows of 256 (RFC 4034 section 4.1.2).
+long_messages() {
+  local window
+  printf '%0131074d\n' 0
+  printf '00008000000000010000000000''002f000100000000''2201''00'
+  for ((window = 0; window < 256; window++)); do
+    printf '%02x20' "$window"
+    printf 'ff%.0s' {1..32}
+  done
+  printf '\n'
+}
+
+# Lines that are no message: an odd number of digits, other characters, a zero octet, fewer octets than a header, and random octets.
+odd_lines() {
+  printf '000\nxyz\n\n0102\n%024dz\n%024d\0%024d\n' 0 0 0
+  head -c 300000 /dev/urandom
+  printf '\n%025d' 0
+}
+
+# What the programs that print messages make of long lines: the number of words of each line that they print.
+prints_long() {
+  long_messages | "$build/show" | awk 'NF { print $1, NF }' | diff <(printf '%s\n' 'header 6' 'counts 5' 'header 6' 'counts 5' 'answer 65542') - &&
+    long_messages | "$build/show_simply" | awk 'NF { print $1, NF }' | diff <(printf '%s\n' 'id 4' 'id 4' 'answer 65542') - &&
+    long_messages | "$build/serve" | diff <(printf 'ignored\n%.0s' 1 2) -
+}
+
+# Whether a command ends by itself with this status: 1 for input that it refuses. A sanitizer ends it with 99.
+ends_with() {
+  local wanted=$1 status=0
+  shift
+  "$@" >"$build/odd" || status=$?
+  [ $status = "$wanted" ] || { echo "status $status of $*" && return 1; }
+}
+
+# No line stops the programs, and none that is no message is printed. A text that is no name gets no query.
+reads_all() {
+  local text
+  odd_lines >"$build/lines"
+  ends_with 0 "$build/show" <"$build/lines" && [ ! -s "$build/odd" ] && ends_with 1 "$build/show_simply" <"$build/lines" &&
+    ends_with 0 "$build/serve" <"$build/lines" || return
+  for text in '' a..b $'\377' '\' "$(printf 'a%.0s' {1..64})" "$(printf 'a.%.0s' {1..128})"; do
+    ends_with 1 "$build/ask" "$text" || return
+  done
+}
+
 examples() {
   local source
-  for source in ask.c build.c edge.c mx.c show.c ../../bindings/c/examples/serve.c; do
+  has_sanitizers "$1" || echo "$1 has no sanitizers: the examples in C run without" >&3
+  for source in ask.c build.c edge.c mx.c show.c ../../bindings/c/examples/serve.c ../../bindings/c/examples/write.c; do
     compile "$1" c11 "$source" || return
   done
+  compile "$1" c11 ../../bindings/c/examples/show.c show_simply || return
   "$build/edge" && "$build/mx" | diff "$build/expected_data" - && messages >"$build/messages" &&
     "$build/show" <"$build/messages" | diff "$build/expected" - &&
+    "$build/show_simply" <"$packages/messages.txt" | diff "$packages/shown.txt" - &&
+    "$build/write" | diff "$packages/written.txt" - &&
     "$build/serve" <"$packages/queries.txt" | diff "$packages/served.txt" - &&
+    prints_long && reads_all &&
     "$build/show" prefixes <"$build/messages" && "$build/show" changes <"$build/messages"
 }
 
@@ -83,13 +137,19 @@ examples_of_cpp() {
   compile "$1" c++17 each.cpp && "$build/each"
 }
 
+# each_compiler EXAMPLES COMPILER..: the examples by each compiler that is installed; without any, they fail.
+each_compiler() {
+  local function=$1 compiler installed=
+  shift
+  for compiler; do
+    command -v "$compiler" >/dev/null && installed=1 && outcome "$compiler" "$function" "$compiler"
+  done
+  [ "$installed" ] || { echo "no compiler: none of $*" && echo "test c::$function ... FAILED" && failed=1; }
+}
+
+exec 3>&1
 outcome library "$here/library"
 outcome header "$here/header.sh"
-command -v gcc clang >/dev/null || echo 'no C compiler: the examples in C are not run'
-for compiler in gcc clang; do
-  command -v $compiler >/dev/null && outcome $compiler examples $compiler
-done
-for compiler in g++ clang++; do
-  command -v $compiler >/dev/null && outcome $compiler examples_of_cpp $compiler
-done
+each_compiler examples gcc clang
+each_compiler examples_of_cpp g++ clang++
 exit $failed

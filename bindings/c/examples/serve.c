@@ -1,8 +1,9 @@
-/* Answers queries as a name server does over UDP: reads them from standard input, in hexadecimal, one a line, and prints the
- * responses. A question for AAAA gets 20 addresses. If these don't fit, the response has none of them, and TC is set. */
+/* Answers queries as a name server does over UDP: reads them from standard input, in hexadecimal, one a line, of any length, and
+ * prints the responses. A question for AAAA gets 20 addresses. If these don't fit, the response has none of them, and TC is set. */
 #include <dnsm.h>
 
 #include <stdio.h>
+#include <stdlib.h>
 
 enum { AAAA = 28, IN = 1, ADDRESSES = 20, TTL = 300 };
 /* The octets of an OPT record without options, of a message for a client without EDNS, and of the longest message sent. */
@@ -87,22 +88,52 @@ static dnsm_status respond(const query *to, uint8_t *out, size_t *len)
     return status == DNSM_OK ? dnsm_finish(&draft, out, MOST, len) : status;
 }
 
+/* Octets on the heap. */
+typedef struct octets {
+    uint8_t *at;
+    size_t len, room;
+} octets;
+
+static bool push(octets *to, uint8_t octet)
+{
+    if (to->len == to->room) {
+        const size_t room = to->room ? 2 * to->room : 512;
+        uint8_t *at = realloc(to->at, room);
+        if (!at)
+            return false;
+        to->at = at;
+        to->room = room;
+    }
+    to->at[to->len++] = octet;
+    return true;
+}
+
+/* Reads a line. Returns false at the end of the input, or if memory runs out. */
+static bool read_message(octets *to)
+{
+    char digits[3];
+    to->len = 0;
+    while (scanf("%2[0-9A-Fa-f]", digits) == 1)
+        if (!push(to, (uint8_t)strtoul(digits, NULL, 16)))
+            return false;
+    scanf("%*[^\n]");
+    return getchar() == '\n' || to->len > 0;
+}
+
 int main(void)
 {
-    static uint8_t message[65535], out[MOST];
-    static char line[2 * sizeof message + 2];
-    while (fgets(line, sizeof line, stdin)) {
+    static uint8_t out[MOST];
+    octets message = {NULL, 0, 0};
+    while (read_message(&message)) {
         query query;
-        size_t len = 0;
-        unsigned octet;
-        while (len < sizeof message && sscanf(line + 2 * len, "%2x", &octet) == 1)
-            message[len++] = (uint8_t)octet;
-        if (read_query(message, len, &query) && respond(&query, out, &len) == DNSM_OK)
+        size_t len;
+        if (read_query(message.at, message.len, &query) && respond(&query, out, &len) == DNSM_OK)
             for (size_t i = 0; i < len; i++)
                 printf("%02x", out[i]);
         else
             printf("ignored");
         printf("\n");
     }
+    free(message.at);
     return 0;
 }

@@ -78,7 +78,9 @@ class Record(Question):
         return _calls.text(_calls.library.dnsm_data_text, self._octets, len(self._octets), byref(self._item))
 
     def data_name(self, index: int = 0) -> str:
-        """A name in the RDATA of NS, CNAME, SOA, PTR, MX, SRV or DNAME; SOA has two. Raises `DataError` if there is none."""
+        """A name in the RDATA of NS, CNAME, SOA, PTR, MX, SRV or DNAME; SOA has two.
+
+        Raises `DataError` if there is none, or if the RDATA isn't that of its type. Octets after the RDATA aren't read."""
         offset, octets = c_size_t(), self._octets
         index = _calls.number(index, 64, "an index")
         _calls.check(_calls.library.dnsm_data_name(octets, len(octets), byref(self._item), index, byref(offset)))

@@ -196,14 +196,25 @@ class Other(unittest.TestCase):
         for type_ in Type:
             message = Message.from_wire(build(1, answer=[NewRecord(".", Type.NSEC, b"\0" + type_map(type_))]))
             self.assertEqual(next(message.answer).data_text(), f". {type_.name}")
+            self.assertEqual(dnsm.type_text(type_), type_.name)
         for class_ in (Class.IN, Class.CH, Class.HS, Class.NONE, Class.ANY):
-            self.assertIn(dnsm.class_text(class_), (class_.name, f"CLASS{class_}"))
+            self.assertEqual(dnsm.class_text(class_), class_.name)
 
     def test_names(self):
         octets = dnsm.name_from_text("a\\.b.c")
         self.assertEqual(octets, b"\3a.b\1c\0")
         self.assertEqual(dnsm.name_to_text(octets), "a\\.b.c.")
         self.assertEqual(dnsm.type_text(Type.MX) + dnsm.class_text(Class.IN), "MXIN")
+        self.assertEqual(dnsm.type_text(65280) + dnsm.class_text(2), "TYPE65280CLASS2")
+
+    def test_names_in_rdata_end_with_it(self):
+        # An NS record of one octet, which would be a label with octets after the RDATA; and one of a pointer to such a label.
+        for octets in ("0000800000000001000000000000020001000000000001016100", "0000800000000001000000000000020001000000060002c014616100"):
+            record = next(Message.from_wire(bytes.fromhex(octets)).answer)
+            with self.assertRaises(dnsm.DataError) as raised:
+                record.data_name()
+            self.assertEqual(raised.exception.status, dnsm.Status.BAD_DATA)
+            self.assertIn("\\#", record.data_text())
 
     def test_errors_are_copied(self):
         with self.assertRaises(dnsm.Error) as raised:

@@ -160,17 +160,16 @@ impl<'a> Item<'a> {
         (self.section() != Section::Question).then_some(DataText(*self))
     }
 
-    /// A name in the RDATA of NS, CNAME, SOA, PTR, MX, SRV or DNAME; SOA has two.
+    /// A name in the RDATA of NS, CNAME, SOA, PTR, MX, SRV or DNAME; SOA has two. No octet after the RDATA belongs to it.
     ///
     /// # Errors
     ///
-    /// `NoName` if there is no such name, or the error of reading it.
+    /// `NoName` if RDATA of this type has no such name, and `BadData` if the RDATA isn't that of its type.
     pub fn data_name(&self, index: usize) -> Result<Name<'a>, Error> {
         let mut offset = 0;
         // SAFETY: the pointer and the length are those of the octets, and the references are to live values.
         Error::check(unsafe { dnsm_data_name(self.octets.as_ptr(), self.octets.len(), &self.item, index, &mut offset) })?;
-        let name = Name { octets: self.octets, offset };
-        name.end().map(|_| name)
+        Ok(Name { octets: self.octets, offset })
     }
 
     /// The fields of an OPT record.

@@ -32,6 +32,24 @@ fn a_response_is_read() {
 }
 
 #[test]
+fn names_in_rdata_end_with_it() {
+    // An NS record of one octet, which would be a label with octets after the RDATA; and one of a pointer to such a label.
+    let label = b"\0\0\x80\0\0\0\0\x01\0\0\0\0\0\0\x02\0\x01\0\0\0\0\0\x01\x01a\0";
+    let pointer = b"\0\0\x80\0\0\0\0\x01\0\0\0\0\0\0\x02\0\x01\0\0\0\x06\0\x02\xc0\x14aa\0";
+    for octets in [&label[..], &pointer[..]] {
+        let record = Message::new(octets).unwrap().items().next().unwrap().unwrap();
+        assert_eq!(record.data_name(0).err(), Some(Error::BadData));
+        assert!(record.to_string().contains(" NS \\# "));
+    }
+}
+
+#[test]
+fn numbers_have_their_registered_names() {
+    assert_eq!(Rtype::SRV.to_string() + &Class(254).to_string(), "SRVNONE");
+    assert_eq!(Rtype(65280).to_string() + &Class(2).to_string(), "TYPE65280CLASS2");
+}
+
+#[test]
 fn every_prefix_ends_in_one_error() {
     for len in 0..RESPONSE.len() {
         match Message::new(&RESPONSE[..len]) {
