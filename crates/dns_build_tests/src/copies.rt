@@ -1,5 +1,6 @@
 //! Records that are copied from one message into another.
 use crate::asserts::{assert_holds, assert_octets};
+use arrayvec::ArrayVec;
 use dns_build::{
     AdditionalBuilder, AnswerBuilder, CopyRecords, CopyRecordsError, MessageBuilder, PushError,
     copy_records,
@@ -7,7 +8,7 @@ use dns_build::{
 use dns_data::{A, Cname, UnknownRecordData};
 use dns_item::{ParsedRecord, Record};
 use dns_read::Message;
-use dns_wire::{Composer, Name, ParseError, ParsedName};
+use dns_wire::{Composer, FlattenInto, Name, ParseError, ParsedName};
 use std::alloc::Global;
 use std::process::Abort;
 
@@ -31,6 +32,18 @@ type AnyRecord<'a> = Record<ParsedName<'a>, UnknownRecordData<&'a [u8]>>;
 /// The record with its RDATA, if it is a CNAME record.
 fn keep_cname(shown: ParsedRecord<'_>) -> Option<CnameRecord<'_>> {
     shown.into_record().ok().flatten()
+}
+
+/// A name of its own, which borrows nothing.
+type OwnName = Name<ArrayVec<u8, 255>>;
+
+/// The same, with names of its own.
+fn keep_own_cname(
+    alloc: Global,
+    shown: ParsedRecord<'_>,
+) -> Option<Record<OwnName, Cname<OwnName>>> {
+    let record = shown.into_record::<Cname<ParsedName<'_>>>().ok()?;
+    record?.try_flatten_into(alloc).ok()
 }
 
 /// The record with its RDATA, whatever its type.
@@ -68,6 +81,19 @@ fn assert_copies<T: Composer>(rt: &impl Abort, first: T, second: T) {
 fn copies_the_records_of_a_message(rt: HostRuntime) {
     let alloc = rt.alloc();
     assert_copies(&rt, Vec::new(alloc), Vec::new(alloc));
+}
+
+/// Copies the CNAME records by the trait's call, whose closure gives what borrows nothing from the
+/// message.
+fn assert_copies_own<T: Composer>(rt: &impl Abort, alloc: Global, target: T) {
+    let source = Message::from_slice(&SOURCE).expect(rt, "a message");
+    let copied = source.copy_records(answers(rt, target), |shown| keep_own_cname(alloc, shown));
+    assert_copied(rt, "Copy records: by the trait", copied, &ANSWER);
+}
+
+#[test]
+fn copies_records_with_names_of_their_own(rt: HostRuntime) {
+    assert_copies_own(&rt, rt.alloc(), Vec::new(rt.alloc()));
 }
 
 /// Pushes an address in place of each record of a message.
