@@ -1,7 +1,7 @@
 //! RDATA in presentation format (RFC 1035 section 5.1; opaque data: RFC 3597 section 5).
-ghost use Rattle.std.specs.Prelude.{Some};
-ghost use Rattle.std.specs.Fmt.{WritesOnOk};
+ghost use Rattle.std.specs.Prelude.{IfSome, Some};
 ghost use Rattle.std.specs.List.{flat_map};
+ghost use Rattle.dns_print.specs.Printing.{PrintsOnOk};
 ghost use Rattle.dns_data.specs.NameData.{nsdname_of, cname_of};
 ghost use Rattle.dns_data.specs.Printing.{address_text, absolute_text, soa_text, hex_octet, opaque_text};
 ghost use Rattle.dns_data.specs.UnknownData.{unknown_octets};
@@ -10,25 +10,45 @@ use crate::a::A;
 use crate::name_data::{Cname, Ns};
 use crate::soa::Soa;
 use crate::unknown::UnknownRecordData;
+use dns_print::{TextWriter, write_value};
 use dns_wire::Octets;
 use std::fmt;
+
+/// Prints four decimal numbers separated by dots.
+fn write_address<W: TextWriter>(f: &mut W, address: A) -> fmt::Result
+    ensures { PrintsOnOk W.takes f.old result (address_text address) f.new }
+{
+    let [a, b, c, d] = address.octets();
+    write_value(f, format_args!("{a}.{b}.{c}.{d}"))
+}
 
 /// Four decimal numbers separated by dots.
 impl fmt::Display for A {
     ghost output = { λ a. Some (address_text a) };
 
+    ghost styled_output = { λ a _. Some (address_text a) };
+
     fn fmt<W: fmt::Write>(&self, f: &mut fmt::Formatter<W>) -> fmt::Result {
-        let [a, b, c, d] = self.octets();
-        write!(f, "{a}.{b}.{c}.{d}")
+        write_address(f, *self)
     }
+}
+
+/// Prints a name and a dot.
+fn write_absolute<W: TextWriter, N: fmt::Display>(f: &mut W, name: &N) -> fmt::Result
+    ensures { IfSome (absolute_text (N.output name.now)) (λ text.
+        PrintsOnOk W.takes f.old result text f.new) }
+{
+    write_value(f, format_args!("{name}."))
 }
 
 /// The name and a dot.
 impl<N: fmt::Display> fmt::Display for Ns<N> {
     ghost output = { λ ns. absolute_text (N.output (nsdname_of ns)) };
 
+    ghost styled_output = { λ ns _. absolute_text (N.output (nsdname_of ns)) };
+
     fn fmt<W: fmt::Write>(&self, f: &mut fmt::Formatter<W>) -> fmt::Result {
-        write!(f, "{}.", self.nsdname())
+        write_absolute(f, self.nsdname())
     }
 }
 
@@ -36,8 +56,10 @@ impl<N: fmt::Display> fmt::Display for Ns<N> {
 impl<N: fmt::Display> fmt::Display for Cname<N> {
     ghost output = { λ cname. absolute_text (N.output (cname_of cname)) };
 
+    ghost styled_output = { λ cname _. absolute_text (N.output (cname_of cname)) };
+
     fn fmt<W: fmt::Write>(&self, f: &mut fmt::Formatter<W>) -> fmt::Result {
-        write!(f, "{}.", self.cname())
+        write_absolute(f, self.cname())
     }
 }
 
@@ -45,31 +67,36 @@ impl<N: fmt::Display> fmt::Display for Cname<N> {
 impl<N: fmt::Display> fmt::Display for Soa<N> {
     ghost output = { soa_text N.output };
 
+    ghost styled_output = { λ soa _. soa_text N.output soa };
+
     fn fmt<W: fmt::Write>(&self, f: &mut fmt::Formatter<W>) -> fmt::Result {
-        write!(
+        write_value(
             f,
-            "{}. {}. {} {} {} {} {}",
-            self.mname(),
-            self.rname(),
-            self.serial(),
-            self.refresh(),
-            self.retry(),
-            self.expire(),
-            self.minimum()
+            format_args!(
+                "{}. {}. {} {} {} {} {}",
+                self.mname(),
+                self.rname(),
+                self.serial(),
+                self.refresh(),
+                self.retry(),
+                self.expire(),
+                self.minimum()
+            ),
         )
     }
 }
 
 /// Prints an octet as two lowercase hexadecimal digits.
-fn write_octet<W: fmt::Write>(f: &mut fmt::Formatter<W>, octet: u8) -> fmt::Result
-    ensures { WritesOnOk W.write_str_gives f.old result (hex_octet octet) f.new }
+fn write_octet<W: TextWriter>(f: &mut W, octet: u8) -> fmt::Result
+    ensures { PrintsOnOk W.takes f.old result (hex_octet octet) f.new }
 {
-    write!(f, "{octet:02x}")
+    write_value(f, format_args!("{octet:02x}"))
 }
 
 /// Prints each octet as two lowercase hexadecimal digits.
-fn write_hex<W: fmt::Write>(f: &mut fmt::Formatter<W>, octets: &[u8]) -> fmt::Result
-    ensures { WritesOnOk W.write_str_gives f.old result (flat_map hex_octet octets.now) f.new }
+#[tactic(auto, using(dns_print::proofs::theory::Prints::prints, std::proofs::lemmas::Grind::common_steps))]
+fn write_hex<W: TextWriter>(f: &mut W, octets: &[u8]) -> fmt::Result
+    ensures { PrintsOnOk W.takes f.old result (flat_map hex_octet octets.now) f.new }
 {
     for octet in octets {
         write_octet(f, *octet)?;
@@ -77,18 +104,27 @@ fn write_hex<W: fmt::Write>(f: &mut fmt::Formatter<W>, octets: &[u8]) -> fmt::Re
     Ok(())
 }
 
+/// Prints opaque data.
+#[tactic(auto, using(dns_print::proofs::theory::Prints::prints, std::proofs::lemmas::Grind::common_steps))]
+fn write_opaque<W: TextWriter>(f: &mut W, octets: &[u8]) -> fmt::Result
+    ensures { PrintsOnOk W.takes f.old result (opaque_text octets.now) f.new }
+{
+    write_value(f, format_args!("\\# {}", octets.len()))?;
+    if octets.is_empty() {
+        return Ok(());
+    }
+    f.write_text(" ")?;
+    write_hex(f, octets)
+}
+
 /// `\#`, the number of octets and, if there are any, the octets in hexadecimal digits, separated by
 /// one space.
 impl<Octs: Octets> fmt::Display for UnknownRecordData<Octs> {
     ghost output = { λ unknown. Some (opaque_text (unknown_octets unknown)) };
 
+    ghost styled_output = { λ unknown _. Some (opaque_text (unknown_octets unknown)) };
+
     fn fmt<W: fmt::Write>(&self, f: &mut fmt::Formatter<W>) -> fmt::Result {
-        let octets = self.data().octets();
-        write!(f, "\\# {}", octets.len())?;
-        if octets.is_empty() {
-            return Ok(());
-        }
-        write!(f, " ")?;
-        write_hex(f, octets)
+        write_opaque(f, self.data().octets())
     }
 }

@@ -1,4 +1,5 @@
 //! Errors of parsing a record.
+use dns_print::{TextWriter, write_value};
 use dns_wire::ShortBuf;
 use std::error::Error;
 use std::fmt;
@@ -26,18 +27,34 @@ impl<N, D> From<ShortBuf> for RecordParseError<N, D> {
     }
 }
 
+impl<N: fmt::Display, D: fmt::Display> RecordParseError<N, D> {
+    ghost use Rattle.std.specs.Prelude.{IfSome};
+    ghost use Rattle.dns_print.specs.Printing.{PrintsOnOk};
+    ghost use Rattle.dns_item.specs.RecordPrinting.{parse_error_text};
+
+    /// Prints the text of the owner's or the RDATA's error, or that of missing octets.
+    fn write<W: TextWriter>(&self, f: &mut W) -> fmt::Result
+        ensures { IfSome (parse_error_text N.output D.output self.now) (λ text.
+            PrintsOnOk W.takes f.old result text f.new) }
+    {
+        match self {
+            RecordParseError::Name(error) => write_value(f, format_args!("{error}")),
+            RecordParseError::Data(error) => write_value(f, format_args!("{error}")),
+            RecordParseError::ShortBuf => f.write_text("unexpected end of buffer"),
+        }
+    }
+}
+
 /// The text of the owner's or the RDATA's error, or that of missing octets.
 impl<N: fmt::Display, D: fmt::Display> fmt::Display for RecordParseError<N, D> {
     ghost use Rattle.dns_item.specs.RecordPrinting.{parse_error_text};
 
     ghost output = { parse_error_text N.output D.output };
 
+    ghost styled_output = { λ error _. parse_error_text N.output D.output error };
+
     fn fmt<W: fmt::Write>(&self, f: &mut fmt::Formatter<W>) -> fmt::Result {
-        match self {
-            RecordParseError::Name(error) => error.fmt(f),
-            RecordParseError::Data(error) => error.fmt(f),
-            RecordParseError::ShortBuf => f.write_str("unexpected end of buffer"),
-        }
+        self.write(f)
     }
 }
 
