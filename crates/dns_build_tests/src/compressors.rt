@@ -1,5 +1,7 @@
 //! Messages over compressors: which name becomes a pointer, what a rewind or a refused push removes
 //! from the compression table, and capacities that are exceeded.
+ghost use Rattle.std.specs.Prelude.{◌<◌};
+
 use crate::asserts::{EXAMPLE_COM, LETTER_A, ROOT, assert_holds, assert_octets};
 use crate::steps::Answer::{Done, ShortBuf};
 use crate::steps::{ADDRESS, Ask, Call, Case, EMPTY, push_question, run};
@@ -477,65 +479,63 @@ static CAPACITY_FOR_ALL: Case = Case {
     ..POSITIVE_RESPONSE
 };
 
-/// A static compressor over an array.
-fn over_array<const N: usize>() -> StaticCompressor<ArrayVec<u8, N>> {
-    StaticCompressor::new(ArrayVec::new())
-}
-
-#[test]
-fn refuses_what_exceeds_the_capacity(rt: HostRuntime) {
-    let alloc = rt.alloc();
-    run(
-        &rt,
-        alloc,
-        "No room for the question, 12 octets",
-        over_array::<12>(),
-        &NO_QUESTION,
-    );
-    run(
-        &rt,
-        alloc,
-        "No room for the question, 28 octets",
-        over_array::<28>(),
-        &NO_QUESTION,
-    );
-    run(
-        &rt,
-        alloc,
-        "No room for the answer, 29 octets",
-        over_array::<29>(),
-        &NO_ANSWER,
-    );
-    run(
-        &rt,
-        alloc,
-        "No room for the answer, 44 octets",
-        over_array::<44>(),
-        &NO_ANSWER,
-    );
-    run(
-        &rt,
-        alloc,
-        "Room for all, 45 octets",
-        over_array::<45>(),
-        &CAPACITY_FOR_ALL,
-    );
-}
-
 /// Fails unless the header exceeds the capacity of the target.
 fn assert_no_header<T: Composer>(rt: &impl Abort, row: &str, target: T) {
     let refused = MessageBuilder::from_target(target).err();
     assert_holds(rt, row, refused == Some(AppendError::ShortBuf));
 }
 
+/// Makes the pushes of a positive response on a static compressor over an array of N octets.
+fn assert_within<const N: usize>(rt: &impl Abort, alloc: Global)
+    requires { N < 64 }
+{
+    let target = StaticCompressor::new(ArrayVec::<u8, N>::new());
+    let row = format!(in alloc; "an array of {N} octets").expect(rt, "memory");
+    match N {
+        0..12 => assert_no_header(rt, &row, target),
+        12..29 => run(rt, alloc, &row, target, &NO_QUESTION),
+        29..45 => run(rt, alloc, &row, target, &NO_ANSWER),
+        _ => run(rt, alloc, &row, target, &CAPACITY_FOR_ALL),
+    }
+}
+
+/// The same for each of four numbers: a generic function is proved once.
+fn assert_within_four<const A: usize, const B: usize, const C: usize, const D: usize>(
+    rt: &impl Abort,
+    alloc: Global,
+)
+    requires a { A < 64 }
+    requires b { B < 64 }
+    requires c { C < 64 }
+    requires d { D < 64 }
+{
+    assert_within::<A>(rt, alloc);
+    assert_within::<B>(rt, alloc);
+    assert_within::<C>(rt, alloc);
+    assert_within::<D>(rt, alloc);
+}
+
+/// No room for the header, No room for the question, No room for the answer, Room for all: for
+/// each N up to 47.
+#[test]
+fn refuses_what_exceeds_the_capacity(rt: HostRuntime) {
+    let alloc = rt.alloc();
+    assert_within_four::<0, 1, 2, 3>(&rt, alloc);
+    assert_within_four::<4, 5, 6, 7>(&rt, alloc);
+    assert_within_four::<8, 9, 10, 11>(&rt, alloc);
+    assert_within_four::<12, 13, 14, 15>(&rt, alloc);
+    assert_within_four::<16, 17, 18, 19>(&rt, alloc);
+    assert_within_four::<20, 21, 22, 23>(&rt, alloc);
+    assert_within_four::<24, 25, 26, 27>(&rt, alloc);
+    assert_within_four::<28, 29, 30, 31>(&rt, alloc);
+    assert_within_four::<32, 33, 34, 35>(&rt, alloc);
+    assert_within_four::<36, 37, 38, 39>(&rt, alloc);
+    assert_within_four::<40, 41, 42, 43>(&rt, alloc);
+    assert_within_four::<44, 45, 46, 47>(&rt, alloc);
+}
+
 #[test]
 fn has_no_capacity_for_the_header(rt: HostRuntime) {
-    assert_no_header(&rt, "No room for the header, no octet", over_array::<0>());
-    assert_no_header(
-        &rt,
-        "No room for the header, eleven octets",
-        over_array::<11>(),
-    );
     let target = StreamTarget::new(ArrayVec::<u8, 13>::new());
     let target = target.expect(&rt, "a capacity for the length");
     assert_no_header(
