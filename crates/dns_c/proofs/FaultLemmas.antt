@@ -1,11 +1,8 @@
 -- Which faults have a number.
-use Rattle.std.proofs.Common.{◌≡◌, ◌+◌, ◌≤◌, ℕ, arith, Bool, true, false, List, Option, Some, None, ap, sym, subst}
+use Rattle.std.proofs.Common.{◌≡◌, ◌+◌, ◌≤◌, ℕ, arith, Bool, true, false, List, Option, Some, None, ap, subst}
 use Rattle.std.specs.Prelude.{Result, Ok, Err, if◌then◌else◌, nat_lt, slice_get}
-use Rattle.dns_octets.specs.declared.error.FormError.{FormError}
-use Rattle.dns_octets.specs.declared.error.ParseError.{ParseError}
-use Rattle.dns_octets.specs.declared.error.ParseError.TheVariants as errors
-use Rattle.dns_octets.specs.declared.error.TheConstants.FormError.{BAD_LABEL, BAD_POINTER, LONG_NAME}
-use Rattle.dns_name.specs.Names.{Fault, Faulty, fault_of, head_at, head_of, pointer_of}
+use Rattle.dns_octets.specs.declared.error.TheConstants.FormError.{BAD_LABEL}
+use Rattle.dns_name.specs.Names.{Fault, Faulty, head_at, head_of, pointer_of}
 use Rattle.dns_name.specs.Names.Fault.{ShortInput, Form}
 use Rattle.dns_name.specs.declared.head.Head.{Head}
 use Rattle.dns_name.specs.declared.head.Head.TheVariants.{Root, Label}
@@ -65,31 +62,3 @@ never_unformatted fault is h =
     let small = reported_small h in
     let n : number_of fault ≡ 22 = ap number_of is in
     omega (arith, small, n)
-
--- The number of each error.
-
-pub number_of_missing : (e : ParseError) → e ≡ errors.ShortInput → ReportsFault (fault_of e) 2
-number_of_missing e is = let same : ShortInput ≡ fault_of e = sym (ap fault_of is) in subst (λ (f : Fault). ReportsFault f 2) same ReportsFault.missing
-
-module _ (e : ParseError) (cause : FormError) (is : e ≡ errors.Form cause) where
-  same_cause : (other : FormError) → cause ≡ other → Form other ≡ fault_of e
-  same_cause other h = let there : fault_of e ≡ Form cause = ap fault_of is in cc (h, there)
-
-  pub number_of_label : cause ≡ BAD_LABEL → ReportsFault (fault_of e) 3
-  number_of_label h = subst (λ (f : Fault). ReportsFault f 3) (same_cause BAD_LABEL h) ReportsFault.label
-
-  pub number_of_pointer : cause ≡ BAD_POINTER → ReportsFault (fault_of e) 4
-  number_of_pointer h = subst (λ (f : Fault). ReportsFault f 4) (same_cause BAD_POINTER h) ReportsFault.pointer
-
-  pub number_of_name : cause ≡ LONG_NAME → ReportsFault (fault_of e) 5
-  number_of_name h = subst (λ (f : Fault). ReportsFault f 5) (same_cause LONG_NAME h) ReportsFault.name
-
-  none_of : (cause ≡ BAD_LABEL → ⊥) → (cause ≡ BAD_POINTER → ⊥) → (cause ≡ LONG_NAME → ⊥) → {f : Fault} {n : ℕ} → ReportsFault f n → f ≡ Form cause → ⊥
-  none_of label pointer name ReportsFault.missing same = cc same
-  none_of label pointer name ReportsFault.label same = label (cc same)
-  none_of label pointer name ReportsFault.pointer same = pointer (cc same)
-  none_of label pointer name ReportsFault.name same = name (cc same)
-
-  -- no other error has a number
-  pub number_of_none : (cause ≡ BAD_LABEL → ⊥) → (cause ≡ BAD_POINTER → ⊥) → (cause ≡ LONG_NAME → ⊥) → IsReported (fault_of e) → ⊥
-  number_of_none label pointer name h = none_of label pointer name h.1 (ap fault_of is)
