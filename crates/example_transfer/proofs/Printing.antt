@@ -3,7 +3,7 @@ use Rattle.std.proofs.Common.{◌≡◌, ◌∙◌, ℕ, ◌+◌, ◌<◌, inl, 
 use Rattle.std.specs.Fmt.{◌++?◌, decimal}
 use Rattle.std.specs.Io.KnownBytes.{Appends}
 use Rattle.std.specs.List.{concat, list_all, AllZip}
-use Rattle.std.specs.Prelude.{is_ok, if◌then◌else◌}
+use Rattle.std.specs.Prelude.{is_ok, if◌then◌else◌, ◌==◌, ◌&&◌}
 use Rattle.std.proofs.lemmas.List.{map-append, take_more}
 use Rattle.std.proofs.lemmas.Bool.{cases_lt}
 use Rattle.std.proofs.lemmas.List.Folds.{concat-append}
@@ -20,7 +20,7 @@ use Rattle.dns_message.specs.declared.record.ParsedRecord.{ParsedRecord}
 use Rattle.dns_message.specs.declared.record.Record.{Record}
 use Rattle.dns_message.specs.declared.wire.ParseError.{ParseError}
 use Rattle.dns_message.proofs.CallerLemmas.{appends_both, appends_none}
-use Rattle.example_transfer.specs.Printed.{ending, HasNoOctets, IsItemText, IsItemsText, IsTransferText, octets_line, Prints}
+use Rattle.example_transfer.specs.Printed.{ending, HasNoOctets, IsItemText, IsItemsText, IsTransferText, IsWhole, octets_line, Prints}
 use Rattle.example_transfer.specs.Printed.IsRecordLine.{as_fields, as_octets}
 use Rattle.example_transfer.specs.Transfer.{AreMessagesOf, AreTransferred, Taken, is_whole}
 
@@ -98,6 +98,18 @@ transfer_printed (Ok x) stream {messages = messages} {rest = rest} {items = item
       appends_both a b c printed.0 (ending items rest) printed.2 ended,
     )
 transfer_printed (Err e) stream a b c are given transferred first p second h = h
+
+-- whether the stream can be read to its end
+pub whole_told : (stream : List ℕ) {messages given : List (List ℕ)} {rest : List ℕ} {items last : List Taken} (whole : Bool)
+    → AreMessagesOf stream messages rest → given ≡ messages → AreTransferred given items → last ≡ items → whole ≡ ((length rest == 0) && is_whole last) → IsWhole stream whole
+whole_told stream {messages = messages} {rest = rest} {items = items} whole are given transferred second told = record {
+  messages = messages;
+  rest = rest;
+  are_messages = are;
+  items = items;
+  transferred = subst (λ (ms : List (List ℕ)). AreTransferred ms items) given transferred;
+  is = told ∙ ap (λ (xs : List Taken). (length rest == 0) && is_whole xs) second;
+}
 
 -- if the result is Ok, a text of this form is printed
 pub on_printed : {X E : Type 0} (r : Result X E) (a b : Option (List ℕ)) (IsText : List ℕ → Type 0) (text : List ℕ) → IsText text → OnOk r (Appends a b text) → OnOk r (Prints IsText a b)

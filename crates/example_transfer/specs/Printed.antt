@@ -1,5 +1,5 @@
 -- What is printed for a zone transfer: a line of a zone file for each record, and comments for what can't be read. RFC 1035 section 5.1, RFC 3597 section 5, RFC 5936 section 2.2.
-use Rattle.std.specs.Prelude.{◌≡◌, ℕ, ◌⊎◌, List, [], ◌∷◌, ◌++◌, if◌then◌else◌, Option, Some, None, Ok, Err, codes}
+use Rattle.std.specs.Prelude.{◌≡◌, ℕ, ◌⊎◌, ◌==◌, ◌&&◌, Bool, length, List, [], ◌∷◌, ◌++◌, if◌then◌else◌, Option, Some, None, Ok, Err, codes}
 use Rattle.std.specs.Io.KnownBytes.{Appends}
 use Rattle.std.specs.List.{concat, AllZip}
 use Rattle.dns_message.specs.Names.{Fault, labels}
@@ -45,6 +45,15 @@ pub record IsTransferText (stream text : List ℕ) : Type 0 where
   pub lines : List ℕ
   pub are_lines : IsItemsText items lines
   pub is : text ≡ lines ++ ending items rest
+
+-- Whether a stream can be read to its end: no item of its messages is a fault, and no octets are left over after them.
+pub record IsWhole (stream : List ℕ) (whole : Bool) : Type 0 where
+  pub messages : List (List ℕ)
+  pub rest : List ℕ
+  pub are_messages : AreMessagesOf stream messages rest
+  pub items : List Taken
+  pub transferred : AreTransferred messages items
+  pub is : whole ≡ (length rest == 0) && is_whole items
 
 -- a text of this form is appended
 abbrev pub Prints : (List ℕ → Type 0) → Option (List ℕ) → Option (List ℕ) → Type 0

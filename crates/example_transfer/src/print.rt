@@ -1,11 +1,12 @@
 //! Prints the records of a transfer as lines of a zone file, and why it ends early.
-ghost use Rattle.std.specs.Prelude.{◌≡◌, map, is_ok, Ok, OnOk};
+ghost use Rattle.std.specs.Prelude.{◌≡◌, ◌==◌, ◌&&◌, length, map, is_ok, IfOk, Ok, OnOk};
 ghost use Rattle.std.specs.Io.KnownBytes.{Appends};
 ghost use Rattle.std.specs.List.{list_all};
 ghost use Rattle.dns_message.specs.Data.{unknown_octets, unknown_rtype_of};
 ghost use Rattle.dns_message.specs.Records.{encoded_record};
 ghost use Rattle.dns_message.specs.Sections.RecordSection.{record_result};
-ghost use Rattle.example_transfer.specs.Printed.{ending, octets_line, IsItemText, IsItemsText, IsTransferText, Prints};
+ghost use Rattle.example_transfer.specs.Printed.{ending, octets_line, IsItemText, IsItemsText, IsTransferText, IsWhole, Prints};
+ghost use Rattle.example_transfer.specs.Transfer.{is_whole};
 
 use crate::transfer::{Item, items, messages};
 use dns_message::data::UnknownRecordData;
@@ -16,19 +17,22 @@ use std::alloc::Global;
 use std::io;
 use std::io::Write;
 
-/// Prints the records of the messages in a stream, and why they end early if they do.
+/// Prints the records of the messages in a stream, and why they end early if they do. Returns
+/// whether they don't: all records can be read, and no octets are left over.
 pub(crate) fn print_transfer<W: Write>(
     alloc: Global,
     stream: &[u8],
     writer: &mut W,
-) -> io::Result<()>
-    ensures { OnOk result (Prints (IsTransferText stream.now)
+) -> io::Result<bool>
+    ensures printed { OnOk result (Prints (IsTransferText stream.now)
         (W.contents writer.old) (W.contents writer.new)) }
+    ensures whole { IfOk result (IsWhole stream.now) }
 {
     let (messages, rest) = messages(alloc, stream)?;
     let items = items(alloc, &messages)?;
     print_items(writer, &items)?;
-    print_ending(writer, &items, rest)
+    print_ending(writer, &items, rest)?;
+    Ok(is_read(&items, rest))
 }
 
 /// Prints a line for each item.
@@ -92,6 +96,13 @@ fn print_ending<W: Write>(writer: &mut W, items: &[Item<'_>], rest: &[u8]) -> io
         return Ok(());
     }
     writer.write_all(b"; unreadable message\n")
+}
+
+/// Whether all items are records, and no octets are left over.
+fn is_read(items: &[Item<'_>], rest: &[u8]) -> bool
+    ensures { result ≡ ((length rest.now == 0) && is_whole (map record_result items.now)) }
+{
+    rest.is_empty() && is_whole(items)
 }
 
 /// Whether all items are records.
