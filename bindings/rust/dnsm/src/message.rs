@@ -213,13 +213,6 @@ impl Name<'_> {
     pub fn offset(&self) -> usize {
         self.offset
     }
-
-    /// The offset after the name.
-    fn end(&self) -> Result<usize, Error> {
-        let mut end = 0;
-        // SAFETY: the pointer and the length are those of the octets, and the reference is to a live value.
-        Error::check(unsafe { dnsm_name_end(self.octets.as_ptr(), self.octets.len(), self.offset, &mut end) }).map(|()| end)
-    }
 }
 
 impl fmt::Display for Name<'_> {
