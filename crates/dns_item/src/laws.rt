@@ -25,7 +25,7 @@ pub use dns_question::laws::{
     question_clones, question_equality, question_hash, question_orders, text_error_clones,
     text_error_equality,
 };
-pub use dns_ttl::laws::ttl_units;
+pub use dns_ttl::laws::{ttl_clone, ttl_default, ttl_equality, ttl_hash, ttl_order, ttl_units};
 use dns_wire::Octets;
 use std::hash::Hash;
 
