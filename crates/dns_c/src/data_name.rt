@@ -1,5 +1,5 @@
 //! The names in RDATA.
-ghost use Rattle.std.specs.Prelude.{◌≡◌, ◌+◌, ◌<◌, ◌≤◌, Some, length, true, false, IfErr, IfOk};
+ghost use Rattle.std.specs.Prelude.{◌≡◌, ◌<◌, ◌≤◌, Some, length, true, false, IfErr, IfOk};
 ghost use Rattle.dns_name.specs.Names.{Labels, NameAt};
 ghost use Rattle.dns_c.specs.Codes.{number_of};
 ghost use Rattle.dns_c.specs.DataNames.{HasName, IsDataName, IsNoRdata, IsPlaceOf, IsRdata, LacksDataName, before_name, data_end, first_names};

@@ -1,5 +1,5 @@
 //! OPT records (RFC 6891 section 6.1).
-ghost use Rattle.std.specs.Prelude.{◌≡◌, ◌≢◌, ◌+◌, ◌<◌, ◌≤◌, ℕ, List, [], ◌∷◌, ◌++◌, drop, length, true, IfErr, IfNone, IfOk, IfSome, Ok};
+ghost use Rattle.std.specs.Prelude.{◌≡◌, ◌≢◌, ◌+◌, ◌<◌, ◌≤◌, length, true, IfErr, IfNone, IfOk, IfSome, Ok};
 ghost use Rattle.dns_code.specs.Bits.{number_in};
 ghost use Rattle.dns_opt.specs.Options.{OptionBegins, encode_option};
 ghost use Rattle.dns_c.specs.Codes.{number_of};

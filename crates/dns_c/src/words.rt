@@ -1,5 +1,5 @@
 //! The text of record types, classes and statuses.
-ghost use Rattle.std.specs.Prelude.{◌≡◌, ◌++◌, ℕ, List, [], ◌∷◌, decimal, option_map, unwrap_or};
+ghost use Rattle.std.specs.Prelude.{◌≡◌, ◌++◌, decimal, option_map, unwrap_or};
 ghost use Rattle.dns_number.specs.Mnemonics.{mnemonic};
 ghost use Rattle.dns_c.specs.Statuses.{status_sentences, status_text};
 ghost use Rattle.dns_c.specs.Texts.{Holds, class_text, type_text};
