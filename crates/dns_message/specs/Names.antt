@@ -2,6 +2,8 @@
 unfoldable pub use Rattle.dns_name.specs.Names.{head_at}
 pub use Rattle.dns_name.specs.Names.{Labels, IsName, name_size, max_size, with_root, uncompressed, lowered_label, lowered, head_of, NameAt, NameEndsAt, NameContinues, Reads, Fault, fault_of, FaultAt, Faulty}
 pub use Rattle.dns_name.specs.Names.Fault.{ShortInput, Form}
+-- the causes of `Form`
+pub use Rattle.dns_octets.specs.declared.error.TheConstants.FormError.{BAD_LABEL, BAD_POINTER, LONG_NAME, TRAILING_DATA, NO_QUESTION, MULTIPLE_QUESTIONS}
 pub use Rattle.dns_name.specs.Names.NameContinues.{root, label, pointer}
 pub use Rattle.dns_name.specs.Names.Faulty.{head, long, cut, ahead, label, pointer}
 -- the name at an offset, of which there is one
