@@ -86,10 +86,10 @@ impl<'a> Run<'a> {
         let (program, words) = self.words.split_once(' ').unwrap_or((self.words, ""));
         let words = words_of(alloc, words)?;
         let (mut output, mut errors) = (Vec::new(alloc), Vec::new(alloc));
-        let input = self.input.as_slice();
+        let mut input = self.input.as_slice();
         let status = match program {
             "dnsmsg" => dns_tool::tool(alloc, &words, input, &mut output),
-            "dnsview" => dns_view::tool(alloc, &words, input, &mut output, &mut errors),
+            "dnsview" => dns_view::tool(alloc, &words, &mut input, &mut output, &mut errors),
             _ => u8::MAX,
         };
         Ok(Ended {

@@ -30,8 +30,8 @@ within_limit limit text some =
     let cut = nat_lt (length front) (length text) in
     omega (arith, length-append (escaped front) (ellipsis_text cut), front_small limit text some, ellipsis_small cut)
 
-pub words_bounded : (message : List ℕ) (row : Row) (words : List ℕ) → limits_words message row ≡ true → length (words_text message row words) ≤ words_limit (row_octets message row)
-words_bounded message row words limited =
+pub words_bounded : (brief : Bool) (message : List ℕ) (row : Row) (words : List ℕ) → limits_words brief row ≡ true → length (words_text brief message row words) ≤ words_limit (row_octets message row)
+words_bounded brief message row words limited =
     let limit = words_limit (row_octets message row) in
-    let text : words_text message row words ≡ escaped_within limit words = ap (λ (b : Bool). if b then escaped_within limit words else escaped words) limited in
+    let text : words_text brief message row words ≡ escaped_within limit words = ap (λ (b : Bool). if b then escaped_within limit words else escaped words) limited in
     omega (arith, within_limit limit words (omega arith), ap length text)

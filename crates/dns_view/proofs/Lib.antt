@@ -1,6 +1,7 @@
 mod Appended
 mod Fronts
 mod JoinedOctets
+mod PageForms
 mod PageIds
 mod PageLines
 mod PageTexts

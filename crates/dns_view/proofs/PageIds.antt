@@ -15,7 +15,7 @@ use Rattle.dns_rows.specs.declared.row.Row.{Row}
 use Rattle.dns_rows.specs.declared.row.Kind.TheVariants as kinds
 use Rattle.dns_rows.specs.declared.row.Field.TheVariants as fields
 use Rattle.dns_view.specs.Digits.{hexadecimal}
-use Rattle.dns_view.specs.Joined.{is_large, joined, line_row, line_rows, lines, shares_line, with_row, PageLine}
+use Rattle.dns_view.specs.Joined.{joined, line_row, line_rows, lines, shares_line, with_row, PageLine}
 use Rattle.dns_view.specs.Links.{has_octets, linked_rows, page_ids}
 use Rattle.dns_view.specs.Pages.{cell_id, field_letter, letter_of, row_id}
 use Rattle.dns_view.proofs.PageLines.{line_with}
@@ -153,11 +153,11 @@ module _ (message : List ℕ) (text_of : Row → List ℕ) (others : List (List 
         | false ↦ λ e. after
       ] refl
 
-pub ids_differ : (message : List ℕ) (rows : List Row) → length message < 2 ^ 64 → Tiles rows 0 (length message) → AreDifferent (page_ids message rows)
-ids_differ message rows small h =
-    let lines = joined (is_large message) rows in
-    let tiles = joined_tiles (is_large message) rows 0 (length message) h in
-    let kept = linked_rows message rows in
+pub ids_differ : (brief : Bool) (message : List ℕ) (rows : List Row) → length message < 2 ^ 64 → Tiles rows 0 (length message) → AreDifferent (page_ids brief message rows)
+ids_differ brief message rows small h =
+    let lines = joined brief rows in
+    let tiles = joined_tiles brief rows 0 (length message) h in
+    let kept = linked_rows brief message rows in
     let in_list : AreDifferent (map row_id kept) =
     subst AreDifferent (append-nil (map row_id kept)) (texts_differ message row_id [] same_rows (λ row bound. All-nil _) none_differ lines 0 (length message) small tiles) in
     let apart : (row : Row) → row.start < 2 ^ 64 → All (λ other. cell_id row ≢ other) (map row_id kept) =

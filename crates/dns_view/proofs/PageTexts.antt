@@ -12,8 +12,8 @@ use Rattle.dns_rows.specs.declared.row.Row.{Row}
 use Rattle.dns_view.proofs.Appended.{appends_both, appends_none, appends_same, on_ok, printed_both, printed_same}
 use Rattle.dns_rows.specs.Rows.{row_octets}
 use Rattle.dns_view.specs.declared.joined.Line.{Line}
-use Rattle.dns_view.specs.Joined.{is_large, joined, line_of, line_row, line_rows, lines, PageLine}
-use Rattle.dns_view.specs.Pages.{arrow_text, cell_text, line_cells, octet_cells, opening_text, part_start, row_cells, row_text, top_text, IsListRow, IsPage}
+use Rattle.dns_view.specs.Joined.{joined, line_of, line_row, line_rows, lines, PageLine}
+use Rattle.dns_view.specs.Pages.{arrow_text, cell_text, line_cells, octet_cells, opening_text, part_start, row_cells, row_text, top_text, IsListRow, IsPageOf}
 
 -- one element more, with its index
 enumerated_more : (start : ℕ) (xs : List ℕ) (x : ℕ) → enumerate_from start (xs ++ x ∷ []) ≡ enumerate_from start xs ++ (start + length xs, x) ∷ []
@@ -69,10 +69,10 @@ pub arrow_pieces : (from target : ℕ) → codes " style=--p:" ++ (decimal from 
 arrow_pieces from target = four (codes " style=--p:") (decimal from) (codes ",") (decimal target)
 
 -- a line of the list, as one row, is printed after what precedes it
-pub list_row_printed : {X E : Type 0} (r : Result X E) (a b c : Option (List ℕ)) (message : List ℕ) (line row : Row) (words : List ℕ)
-    → row ≡ line → Appends a b (part_start row) → OnOk r (Appends b c (row_text message row words)) → OnOk r (Prints (IsListRow message line) a c)
-list_row_printed r a b c message line row words is before printed =
-    subst (λ (shown : Row). OnOk r (Prints (IsListRow message shown) a c)) is (on_ok r (λ ends. (_, (words, refl), appends_both a b c _ _ before ends)) printed)
+pub list_row_printed : {X E : Type 0} (r : Result X E) (a b c : Option (List ℕ)) (brief : Bool) (message : List ℕ) (line row : Row) (words : List ℕ)
+    → row ≡ line → Appends a b (part_start row) → OnOk r (Appends b c (row_text brief message row words)) → OnOk r (Prints (IsListRow brief message line) a c)
+list_row_printed r a b c brief message line row words is before printed =
+    subst (λ (shown : Row). OnOk r (Prints (IsListRow brief message shown) a c)) is (on_ok r (λ ends. (_, (words, refl), appends_both a b c _ _ before ends)) printed)
 
 -- texts for items are texts for what they stand for
 zip_mapped : {X Y : Type 0} (IsText : Y → List ℕ → Type 0) (f : X → Y) (xs : List X) (texts : List (List ℕ)) → AllZip (λ x. IsText (f x)) xs texts → AllZip IsText (map f xs) texts
@@ -82,16 +82,16 @@ zip_mapped IsText f (x ∷ xs) [] h = h
 zip_mapped IsText f (x ∷ xs) (text ∷ texts) h = (h.0, zip_mapped IsText f xs texts h.1)
 
 module _ {X E : Type 0} (r : Result X E) (a b c d e f g : Option (List ℕ)) where
-  pub page_printed : (message : List ℕ) (rows : List Row) (made : List Line) (title : List ℕ) → map line_of made ≡ lines (is_large message) rows → Appends a b (top_text title) → Appends b c (opening_text rows)
-      → Appends c d (flat_map (λ line. line_cells message (line_of line)) made) → Appends d e (codes "\n</div>\n<div class=list>\n<p>") → PrintsEach (λ line. IsListRow message (line_row (line_of line))) made e f
-      → OnOk r (Appends f g (codes "\n</div>\n</main>\n</body>\n</html>\n")) → OnOk r (Prints (IsPage message rows) a g)
-  page_printed message rows made title are top opened printed closed listed ended =
-      let grid : flat_map (λ line. line_cells message (line_of line)) made ≡ flat_map (line_cells message) (lines (is_large message) rows) =
+  pub page_printed : (brief : Bool) (message : List ℕ) (rows : List Row) (made : List Line) (title : List ℕ) → map line_of made ≡ lines brief rows → Appends a b (top_text title) → Appends b c (opening_text rows)
+      → Appends c d (flat_map (λ line. line_cells message (line_of line)) made) → Appends d e (codes "\n</div>\n<div class=list>\n<p>") → PrintsEach (λ line. IsListRow brief message (line_row (line_of line))) made e f
+      → OnOk r (Appends f g (codes "\n</div>\n</main>\n</body>\n</html>\n")) → OnOk r (Prints (IsPageOf brief message rows) a g)
+  page_printed brief message rows made title are top opened printed closed listed ended =
+      let grid : flat_map (λ line. line_cells message (line_of line)) made ≡ flat_map (line_cells message) (lines brief rows) =
       sym (flat_map-map (line_cells message) line_of made) ∙ ap (flat_map (line_cells message)) are in
-      let cells : Appends c d (flat_map (line_cells message) (lines (is_large message) rows)) = appends_same c d _ _ grid printed in
-      let zipped : AllZip (IsListRow message) (map line_row (map line_of made)) listed.0 =
-      zip_mapped (IsListRow message) line_row (map line_of made) listed.0 (zip_mapped (λ line. IsListRow message (line_row line)) line_of made listed.0 listed.1) in
-      let shown : AllZip (IsListRow message) (joined (is_large message) rows) listed.0 = subst (λ (l : List PageLine). AllZip (IsListRow message) (map line_row l) listed.0) are zipped in
+      let cells : Appends c d (flat_map (line_cells message) (lines brief rows)) = appends_same c d _ _ grid printed in
+      let zipped : AllZip (IsListRow brief message) (map line_row (map line_of made)) listed.0 =
+      zip_mapped (IsListRow brief message) line_row (map line_of made) listed.0 (zip_mapped (λ line. IsListRow brief message (line_row line)) line_of made listed.0 listed.1) in
+      let shown : AllZip (IsListRow brief message) (joined brief rows) listed.0 = subst (λ (l : List PageLine). AllZip (IsListRow brief message) (map line_row l) listed.0) are zipped in
       on_ok r
       (λ ends. (
         _,

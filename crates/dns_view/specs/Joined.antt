@@ -1,4 +1,4 @@
--- Which rows share a line of a page's list, and a link of its grid.
+-- Which rows share a line of a page's list, and a link of its grid. On a brief page more do.
 use Rattle.std.specs.Prelude.{ℕ, ◌+◌, ◌/◌, ◌==◌, ◌&&◌, ◌||◌, not, Bool, true, false, nat_le, nat_lt, if◌then◌else◌, List, [], ◌∷◌, length, map}
 use Rattle.dns_rows.specs.declared.row.Row.{Row}
 use Rattle.dns_rows.specs.declared.row.Field.{Field}
@@ -6,10 +6,6 @@ use Rattle.dns_rows.specs.declared.row.Kind.{Kind}
 use Rattle.dns_view.specs.declared.joined.Line.{Line}
 use Rattle.dns_rows.specs.declared.row.Kind.TheVariants as kinds
 use Rattle.dns_rows.specs.declared.row.Field.TheVariants as fields
-
--- whether a message is large: more rows share a line on its page
-abbrev pub is_large : List ℕ → Bool
-is_large message = nat_lt 16384 (length message)
 
 -- whether a row has octets, and another begins where it ends
 abbrev pub are_consecutive : Row → Row → Bool
@@ -48,13 +44,13 @@ abbrev pub begins_line : Kind → Bool
 begins_line (kinds.Field field) = field_begins_line field
 begins_line _ = true
 
--- whether a row shares a line of a large message's page: with all fields that begin no line; of labels, or character strings, those that begin on the same line of the grid
+-- whether a row shares a line of a brief page: with all fields that begin no line; of labels, or character strings, those that begin on the same line of the grid
 abbrev pub shares_long_line : Row → Row → Bool
 shares_long_line before row = not (begins_line row.kind) && (not (are_alike before.kind row.kind) || begin_on_one_line before row)
 
--- whether a row shares the line of the row before it on the page of a message, which may be large
+-- whether a row shares the line of the row before it on a page, which may be brief
 abbrev pub shares_line : Bool → Row → Row → Bool
-shares_line large before row = are_consecutive before row && (if large then shares_long_line before row else shares_tiny_line before row)
+shares_line brief before row = are_consecutive before row && (if brief then shares_long_line before row else shares_tiny_line before row)
 
 -- a line of a page: its first row, and the others that share it, in order
 pub record PageLine : Type 0 where
@@ -80,14 +76,14 @@ line_row line = record line.first { end = last_end line.first line.others }
 
 -- a row before lines: it begins the first of them if that line's first row shares a line with it, else a line of its own
 abbrev pub with_row : Bool → Row → List PageLine → List PageLine
-with_row large row [] = record { first = row; others = [] } ∷ []
-with_row large row (line ∷ lines) = if shares_line large row line.first then record { first = row; others = line_rows line } ∷ lines else record { first = row; others = [] } ∷ line ∷ lines
+with_row brief row [] = record { first = row; others = [] } ∷ []
+with_row brief row (line ∷ lines) = if shares_line brief row line.first then record { first = row; others = line_rows line } ∷ lines else record { first = row; others = [] } ∷ line ∷ lines
 
 -- the lines of rows
 abbrev pub lines : Bool → List Row → List PageLine
-lines large [] = []
-lines large (row ∷ rows) = with_row large row (lines large rows)
+lines brief [] = []
+lines brief (row ∷ rows) = with_row brief row (lines brief rows)
 
 -- rows, where those that share a line are one row
 abbrev pub joined : Bool → List Row → List Row
-joined large rows = map line_row (lines large rows)
+joined brief rows = map line_row (lines brief rows)

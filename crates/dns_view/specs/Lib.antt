@@ -1,4 +1,5 @@
 pub mod Digits
+pub mod Heads
 pub mod Joined
 pub mod Links
 pub mod Pages

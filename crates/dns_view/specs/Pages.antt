@@ -1,10 +1,10 @@
 -- What `print_page` prints for rows. The words for their meanings, and those of the title, are left open.
-use Rattle.std.specs.Prelude.{◌≡◌, ℕ, ◌+◌, ◌-◌, ◌*◌, ◌/◌, ◌%◌, ◌==◌, ◌&&◌, nat_le, nat_lt, max, take, Bool, if◌then◌else◌, List, [], ◌∷◌, ◌++◌, length, count_by, codes, decimal}
+use Rattle.std.specs.Prelude.{◌≡◌, ℕ, ◌<◌, ◌≤◌, true, false, ◌+◌, ◌-◌, ◌*◌, ◌/◌, ◌%◌, ◌==◌, ◌&&◌, nat_le, nat_lt, max, take, Bool, if◌then◌else◌, List, [], ◌∷◌, ◌++◌, length, count_by, codes, decimal}
 use Rattle.std.specs.List.{concat, enumerate_from, flat_map, AllZip}
 use Rattle.dns_code.specs.HeaderSection.{header_size}
 use Rattle.dns_rows.specs.Rows.{is_item, is_pointer, row_octets, target_in}
 use Rattle.dns_view.specs.Digits.{hexadecimal, octet_text}
-use Rattle.dns_view.specs.Joined.{is_large, joined, line_row, line_rows, lines, PageLine}
+use Rattle.dns_view.specs.Joined.{joined, line_row, line_rows, lines, PageLine}
 use Rattle.dns_rows.specs.declared.row.Row.{Row}
 use Rattle.dns_rows.specs.declared.row.Kind.{Kind}
 use Rattle.dns_rows.specs.declared.row.Field.{Field}
@@ -138,45 +138,54 @@ digits octets = flat_map octet_text octets
 abbrev pub heading_row_text : Row → List ℕ → List ℕ
 heading_row_text row words = (if is_item row.kind then codes "<b>" else codes "<b class=f>") ++ escaped words ++ codes "</b>"
 
--- the attribute of a row of the list, which draws the same arrow as its cells: none on the page of a large message
-abbrev pub row_mark_text : List ℕ → Row → List ℕ
-row_mark_text message row = if is_large message then [] else mark_text message row
+-- the attribute of a row of the list, which draws the same arrow as its cells: none on a brief page
+abbrev pub row_mark_text : Bool → List ℕ → Row → List ℕ
+row_mark_text brief message row = if brief then [] else mark_text message row
 
 -- the start of a row's link to its cells, with its own `id`
-abbrev pub field_link_text : List ℕ → Row → List ℕ
-field_link_text message row = codes "<a id=" ++ row_id row ++ codes " href=#" ++ cell_id row ++ row_mark_text message row ++ codes ">"
+abbrev pub field_link_text : Bool → List ℕ → Row → List ℕ
+field_link_text brief message row = codes "<a id=" ++ row_id row ++ codes " href=#" ++ cell_id row ++ row_mark_text brief message row ++ codes ">"
 
--- whether the words for a row are cut off if they are long: after the header section of a large message
-abbrev pub limits_words : List ℕ → Row → Bool
-limits_words message row = is_large message && nat_le header_size row.start
+-- whether the words for a row are cut off if they are long: after the header section on a brief page
+abbrev pub limits_words : Bool → Row → Bool
+limits_words brief row = brief && nat_le header_size row.start
 
 -- how many octets the words for some octets may take: 27, and nine for each octet, but at least 60
 abbrev pub words_limit : List ℕ → ℕ
 words_limit octets = max 60 (9 * length octets + 27)
 
 -- the words for a row of the list
-abbrev pub words_text : List ℕ → Row → List ℕ → List ℕ
-words_text message row words = if limits_words message row then escaped_within (words_limit (row_octets message row)) words else escaped words
+abbrev pub words_text : Bool → List ℕ → Row → List ℕ → List ℕ
+words_text brief message row words = if limits_words brief row then escaped_within (words_limit (row_octets message row)) words else escaped words
 
 -- any other row of the list: the link, with its octets and words
-abbrev pub field_row_text : List ℕ → Row → List ℕ → List ℕ
-field_row_text message row words = field_link_text message row ++ digits (row_octets message row) ++ codes "\t" ++ words_text message row words ++ codes "</a>"
+abbrev pub field_row_text : Bool → List ℕ → Row → List ℕ → List ℕ
+field_row_text brief message row words = field_link_text brief message row ++ digits (row_octets message row) ++ codes "\t" ++ words_text brief message row words ++ codes "</a>"
 
 -- what precedes a row of the list: the start of a part, if a multiple of 64 is past the row's start and up to its end; else nothing
 abbrev pub part_start : Row → List ℕ
 part_start row = if row.start / 64 == row.end / 64 then [] else codes "\n<p>"
 
 -- a row with some words
-abbrev pub row_text : List ℕ → Row → List ℕ → List ℕ
-row_text message row words = if length (row_octets message row) == 0 then heading_row_text row words else field_row_text message row words
+abbrev pub row_text : Bool → List ℕ → Row → List ℕ → List ℕ
+row_text brief message row words = if length (row_octets message row) == 0 then heading_row_text row words else field_row_text brief message row words
 
 -- a row of the list, with some words, and what precedes it
-abbrev pub IsListRow : List ℕ → Row → List ℕ → Type 0
-IsListRow message row text = (words : List ℕ) × (text ≡ part_start row ++ row_text message row words)
+abbrev pub IsListRow : Bool → List ℕ → Row → List ℕ → Type 0
+IsListRow brief message row text = (words : List ℕ) × (text ≡ part_start row ++ row_text brief message row words)
 
--- the text of a page: a title of some words, the grid with the cells of all lines, and the list of the lines, each as one row
-pub record IsPage (message : List ℕ) (rows : List Row) (text : List ℕ) : Type 0 where
+-- the text of a page, which may be brief: a title of some words, the grid with the cells of all lines, and the list of the lines, each as one row
+pub record IsPageOf (brief : Bool) (message : List ℕ) (rows : List Row) (text : List ℕ) : Type 0 where
   pub title : List ℕ
   pub list : List (List ℕ)
-  pub are_rows : AllZip (IsListRow message) (joined (is_large message) rows) list
-  pub is : text ≡ top_text title ++ opening_text rows ++ flat_map (line_cells message) (lines (is_large message) rows) ++ codes "\n</div>\n<div class=list>\n<p>" ++ concat list ++ codes "\n</div>\n</main>\n</body>\n</html>\n"
+  pub are_rows : AllZip (IsListRow brief message) (joined brief rows) list
+  pub is : text ≡ top_text title ++ opening_text rows ++ flat_map (line_cells message) (lines brief rows) ++ codes "\n</div>\n<div class=list>\n<p>" ++ concat list ++ codes "\n</div>\n</main>\n</body>\n</html>\n"
+
+-- The octets of a page that isn't brief, at most: forty for each octet of the message, but 65,536 for a small one, as the style alone takes some.
+abbrev pub page_limit : List ℕ → ℕ
+page_limit message = max 65536 (40 * length message)
+
+-- The page of a message: the full one if it is within the limit, else the brief one.
+pub data IsPage (message : List ℕ) (rows : List Row) (text : List ℕ) : Type 0 where
+  full : IsPageOf false message rows text → length text ≤ page_limit message → IsPage message rows text
+  brief : (other : List ℕ) → IsPageOf false message rows other → page_limit message < length other → IsPageOf true message rows text → IsPage message rows text

@@ -2,7 +2,6 @@
 ghost use Rattle.std.specs.Prelude.{◌≡◌, ◌≤◌, length};
 ghost use Rattle.dns_view.specs.Pages.{escaped_octet, front_within, limits_words, words_limit};
 
-use crate::joined::is_large;
 use dns_rows::Row;
 
 /// The octets of `...`, which stands for what is left out.
@@ -20,12 +19,12 @@ const LIMIT: u128 = 27;
 /// The octets that they may take for each octet of the row.
 const LIMIT_PER_OCTET: u128 = 9;
 
-/// Whether the words for a row are cut off if they are long: after the header section of a large
-/// message.
-pub(crate) fn limits_words(message: &[u8], row: &Row) -> bool
-    ensures { result ≡ limits_words message.now row.now }
+/// Whether the words for a row are cut off if they are long: after the header section on a brief
+/// page.
+pub(crate) fn limits_words(is_brief: bool, row: &Row) -> bool
+    ensures { result ≡ limits_words is_brief row.now }
 {
-    is_large(message) && row.start >= HEADER_SECTION_LEN
+    is_brief && row.start >= HEADER_SECTION_LEN
 }
 
 /// How many octets the words for some octets may take.

@@ -1,14 +1,14 @@
 //! Rows printed as a page of HTML: the octets in a grid, and the rows as a list. A field's cell and
 //! its row lead to each other. The cell of a pointer draws its arrow, and so may its row.
-ghost use Rattle.std.specs.Prelude.{◌≡◌, ◌+◌, ◌^◌, ◌<◌, ◌≤◌, length, take, OnOk};
+ghost use Rattle.std.specs.Prelude.{◌≡◌, ◌+◌, ◌^◌, ◌<◌, ◌≤◌, length, take, IfOk, OnOk};
 ghost use Rattle.std.specs.Io.KnownBytes.{Appends};
 ghost use Rattle.std.specs.List.{flat_map};
 ghost use Rattle.dns_view.specs.Joined.{line_of, line_row};
-ghost use Rattle.dns_view.specs.Pages.{arrow_text, cell_end, cell_id, cell_start, cell_text, digits, ellipsis_text, escaped, escaped_octet, escaped_within, field_letter, field_link_text, field_row_text, first_link, heading_row_text, letter_of, line_start, line_cells, link_text, mark_text, next_link, opening_text, part_start, pointer_count, row_cells, row_mark_text, row_text, top_text, words_text, IsListRow, IsPage};
+ghost use Rattle.dns_view.specs.Pages.{arrow_text, cell_end, cell_id, cell_start, cell_text, digits, ellipsis_text, escaped, escaped_octet, escaped_within, field_letter, field_link_text, field_row_text, first_link, heading_row_text, letter_of, line_start, line_cells, link_text, mark_text, next_link, opening_text, part_start, pointer_count, row_cells, row_mark_text, row_text, top_text, words_text, page_limit, IsListRow, IsPage, IsPageOf};
 ghost use Rattle.dns_view.specs.Printed.{Prints, PrintsEach};
 
 use crate::brief::{front_within, limits_words, words_limit};
-use crate::joined::{Line, OCTETS, is_large, lines};
+use crate::joined::{Line, OCTETS, lines};
 use crate::summary::Summary;
 use crate::text::print_octet;
 use crate::words::words_of;
@@ -25,6 +25,12 @@ const LIST_PART: usize = 64;
 
 /// A page with fewer pointers draws all their arrows.
 const FEW: usize = 20;
+
+/// The octets of a page for each octet of its message, at most, unless it is brief.
+const PAGE_FACTOR: u128 = 40;
+
+/// The octets that the page of a small message may have.
+const LEAST_LIMIT: u128 = 65_536;
 
 /// The text before the title. The page needs no other file.
 const HEAD: &str = "<!DOCTYPE html>
@@ -106,11 +112,11 @@ const LEGEND: &str = "</h1>
 ///
 /// Consecutive labels, or character strings, of at most one octet share a link of the grid and a
 /// line of the list, if they begin on one line of the grid. In the grid a bar is between them. If
-/// the message has more than 16,384 octets, most fields of an item share them, and words that are
-/// long for their octets are cut off: by a reckoning, which isn't proved, the page of a message of
-/// 64 KiB has at most forty times its octets.
+/// the page then has more than forty times the message's octets, and more than 64 KiB, a brief one
+/// is printed: most fields of an item share a link and a line, and words that are long for their
+/// octets are cut off.
 ///
-/// Returns an error if `writer` or an allocation fails.
+/// The page is made before it is printed. Returns an error if `writer` or an allocation fails.
 pub fn print_page<W: Write>(
     alloc: Global,
     writer: &mut W,
@@ -120,15 +126,49 @@ pub fn print_page<W: Write>(
     ensures { OnOk result (Prints (IsPage message.now rows.now)
         (W.contents writer.old) (W.contents writer.new)) }
 {
+    let full = page(alloc, false, message, rows)?;
+    if full.len() as u128 <= page_limit(message) {
+        return writer.write_all(&full);
+    }
+    print_page_of(alloc, true, writer, message, rows)
+}
+
+/// The page of a message, which may be brief.
+fn page(alloc: Global, is_brief: bool, message: &[u8], rows: &[Row]) -> io::Result<Vec<u8>>
+    ensures { IfOk result (λ page. IsPageOf is_brief message.now rows.now page.items) }
+{
+    let mut page = Vec::new(alloc);
+    print_page_of(alloc, is_brief, &mut page, message, rows)?;
+    Ok(page)
+}
+
+/// How many octets the page of a message may have, unless it is brief.
+fn page_limit(message: &[u8]) -> u128
+    ensures { result ≡ page_limit message.now }
+{
+    LEAST_LIMIT.max(PAGE_FACTOR * message.len() as u128)
+}
+
+/// Prints rows of a message as a page, which may be brief.
+fn print_page_of<W: Write>(
+    alloc: Global,
+    is_brief: bool,
+    writer: &mut W,
+    message: &[u8],
+    rows: &[Row],
+) -> io::Result<()>
+    ensures { OnOk result (Prints (IsPageOf is_brief message.now rows.now)
+        (W.contents writer.old) (W.contents writer.new)) }
+{
     let summary = Summary { message, rows };
     let words = format!(in alloc; "{summary}")?;
-    let lines = lines(alloc, is_large(message), rows)?;
+    let lines = lines(alloc, is_brief, rows)?;
     let lines = lines.as_slice();
     print_top(writer, words.as_bytes())?;
     print_opening(writer, rows)?;
     print_cells(writer, message, lines)?;
     writer.write_all(b"\n</div>\n<div class=list>\n<p>")?;
-    print_list(alloc, writer, message, lines)?;
+    print_list(alloc, is_brief, writer, message, lines)?;
     writer.write_all(b"\n</div>\n</main>\n</body>\n</html>\n")
 }
 
@@ -435,15 +475,16 @@ fn print_line_start<W: Write>(writer: &mut W, offset: usize) -> io::Result<()>
 /// Prints the lines of the list.
 fn print_list<W: Write>(
     alloc: Global,
+    is_brief: bool,
     writer: &mut W,
     message: &[u8],
     lines: &[Line<'_>],
 ) -> io::Result<()>
-    ensures { OnOk result (PrintsEach (λ line. IsListRow message.now (line_row (line_of line)))
+    ensures { OnOk result (PrintsEach (λ line. IsListRow is_brief message.now (line_row (line_of line)))
         lines.now (W.contents writer.old) (W.contents writer.new)) }
 {
     for line in lines {
-        print_list_row(alloc, writer, message, line)?;
+        print_list_row(alloc, is_brief, writer, message, line)?;
     }
     Ok(())
 }
@@ -451,17 +492,18 @@ fn print_list<W: Write>(
 /// Prints a line of the list, as one row, and what precedes it.
 fn print_list_row<W: Write>(
     alloc: Global,
+    is_brief: bool,
     writer: &mut W,
     message: &[u8],
     line: &Line<'_>,
 ) -> io::Result<()>
-    ensures { OnOk result (Prints (IsListRow message.now (line_row (line_of line.now)))
+    ensures { OnOk result (Prints (IsListRow is_brief message.now (line_row (line_of line.now)))
         (W.contents writer.old) (W.contents writer.new)) }
 {
     let row = line.row();
-    let words = words_of(alloc, message, line)?;
+    let words = words_of(alloc, is_brief, message, line)?;
     print_part_start(writer, &row)?;
-    print_row(writer, message, &row, words.as_slice())
+    print_row(is_brief, writer, message, &row, words.as_slice())
 }
 
 /// Prints the start of a part of the list, if a row is the first in one.
@@ -476,14 +518,20 @@ fn print_part_start<W: Write>(writer: &mut W, row: &Row) -> io::Result<()>
 }
 
 /// Prints a row with some words.
-fn print_row<W: Write>(writer: &mut W, message: &[u8], row: &Row, words: &[u8]) -> io::Result<()>
+fn print_row<W: Write>(
+    is_brief: bool,
+    writer: &mut W,
+    message: &[u8],
+    row: &Row,
+    words: &[u8],
+) -> io::Result<()>
     ensures { OnOk result (Appends (W.contents writer.old) (W.contents writer.new)
-        (row_text message.now row.now words.now)) }
+        (row_text is_brief message.now row.now words.now)) }
 {
     if octets_of(message, row).is_empty() {
         print_heading_row(writer, row, words)
     } else {
-        print_field_row(writer, message, row, words)
+        print_field_row(is_brief, writer, message, row, words)
     }
 }
 
@@ -504,51 +552,68 @@ fn print_heading_row<W: Write>(writer: &mut W, row: &Row, words: &[u8]) -> io::R
 /// Prints any other row, as a link to its cells: its octets and what they mean. Its offset is its
 /// `id`, which the style shows.
 fn print_field_row<W: Write>(
+    is_brief: bool,
     writer: &mut W,
     message: &[u8],
     row: &Row,
     words: &[u8],
 ) -> io::Result<()>
     ensures { OnOk result (Appends (W.contents writer.old) (W.contents writer.new)
-        (field_row_text message.now row.now words.now)) }
+        (field_row_text is_brief message.now row.now words.now)) }
 {
-    print_field_link(writer, message, row)?;
+    print_field_link(is_brief, writer, message, row)?;
     print_digits(writer, octets_of(message, row))?;
     writer.write_all(b"\t")?;
-    print_words(writer, message, row, words)?;
+    print_words(is_brief, writer, message, row, words)?;
     writer.write_all(b"</a>")
 }
 
 /// Prints the words for a row, which are cut off if they are long and limited.
-fn print_words<W: Write>(writer: &mut W, message: &[u8], row: &Row, words: &[u8]) -> io::Result<()>
+fn print_words<W: Write>(
+    is_brief: bool,
+    writer: &mut W,
+    message: &[u8],
+    row: &Row,
+    words: &[u8],
+) -> io::Result<()>
     ensures { OnOk result (Appends (W.contents writer.old) (W.contents writer.new)
-        (words_text message.now row.now words.now)) }
+        (words_text is_brief message.now row.now words.now)) }
 {
-    if limits_words(message, row) {
+    if limits_words(is_brief, row) {
         return print_within(writer, words, words_limit(octets_of(message, row)));
     }
     print_escaped(writer, words)
 }
 
 /// Prints the start of a row's link to its cells.
-fn print_field_link<W: Write>(writer: &mut W, message: &[u8], row: &Row) -> io::Result<()>
+fn print_field_link<W: Write>(
+    is_brief: bool,
+    writer: &mut W,
+    message: &[u8],
+    row: &Row,
+) -> io::Result<()>
     ensures { OnOk result (Appends (W.contents writer.old) (W.contents writer.new)
-        (field_link_text message.now row.now)) }
+        (field_link_text is_brief message.now row.now)) }
 {
     let start = row.start;
     write!(writer, "<a id={start} href=#")?;
     print_cell_id(writer, row)?;
-    print_row_mark(writer, message, row)?;
+    print_row_mark(is_brief, writer, message, row)?;
     writer.write_all(b">")
 }
 
-/// Prints the attribute of a row of the list, which draws the same arrow as its cells. The page of
-/// a large message has none, as it has to stay small.
-fn print_row_mark<W: Write>(writer: &mut W, message: &[u8], row: &Row) -> io::Result<()>
+/// Prints the attribute of a row of the list, which draws the same arrow as its cells. A brief
+/// page has none.
+fn print_row_mark<W: Write>(
+    is_brief: bool,
+    writer: &mut W,
+    message: &[u8],
+    row: &Row,
+) -> io::Result<()>
     ensures { OnOk result (Appends (W.contents writer.old) (W.contents writer.new)
-        (row_mark_text message.now row.now)) }
+        (row_mark_text is_brief message.now row.now)) }
 {
-    if is_large(message) {
+    if is_brief {
         return Ok(());
     }
     print_mark(writer, message, row)

@@ -1,6 +1,6 @@
 //! Rows of a page that share a line of the list, and a link of the grid.
 ghost use Rattle.std.specs.Prelude.{◌≡◌, ◌≤◌, ◌∷◌, drop, length, map, take, IfOk};
-ghost use Rattle.dns_view.specs.Joined.{are_alike, are_consecutive, begin_on_one_line, begins_line, field_begins_line, is_large, is_tiny, last_end, line_of, line_row, lines, shares_line, shares_long_line, shares_tiny_line};
+ghost use Rattle.dns_view.specs.Joined.{are_alike, are_consecutive, begin_on_one_line, begins_line, field_begins_line, is_tiny, last_end, line_of, line_row, lines, shares_line, shares_long_line, shares_tiny_line};
 
 use dns_rows::{Field, Kind, Row};
 use std::alloc::{AllocError, Global};
@@ -8,18 +8,8 @@ use std::alloc::{AllocError, Global};
 /// The octets on a line of the grid.
 pub(crate) const OCTETS: usize = 16;
 
-/// The maximum size of a message that isn't large, in octets.
-const LARGE: usize = 16_384;
-
 /// The maximum size of a row that shares a line of any page, in octets.
 const TINY: usize = 2;
-
-/// Whether more rows of a message share a line of its page, as the page has to stay small.
-pub(crate) fn is_large(message: &[u8]) -> bool
-    ensures { result ≡ is_large message.now }
-{
-    message.len() > LARGE
-}
 
 /// The rows that share a line of a page: the first, and the others in order.
 #[derive(Clone, Copy)]
@@ -48,18 +38,18 @@ fn last_end(first: &Row, others: &[Row]) -> usize
     }
 }
 
-/// The lines of rows.
+/// The lines of rows, of which more share a line on a brief page.
 pub(crate) fn lines<'a>(
     alloc: Global,
-    is_large: bool,
+    is_brief: bool,
     rows: &'a [Row],
 ) -> Result<Vec<Line<'a>>, AllocError>
-    ensures { IfOk result (λ list. map line_of list.items ≡ lines is_large rows.now) }
+    ensures { IfOk result (λ list. map line_of list.items ≡ lines is_brief rows.now) }
 {
     let mut lines = Vec::new(alloc);
     let mut left = rows;
     'lines: while let Some((first, others)) = left.split_first() {
-        let (sharing, after) = others.split_at(count_sharing(is_large, first, others));
+        let (sharing, after) = others.split_at(count_sharing(is_brief, first, others));
         lines.push(Line {
             first: *first,
             others: sharing,
@@ -70,15 +60,15 @@ pub(crate) fn lines<'a>(
 }
 
 /// How many of `others` share the line of the row `first`, which precedes them.
-fn count_sharing(is_large: bool, first: &Row, others: &[Row]) -> usize
+fn count_sharing(is_brief: bool, first: &Row, others: &[Row]) -> usize
     ensures within { result ≤ length others.now }
-    ensures line { lines is_large (first.now ∷ others.now)
+    ensures line { lines is_brief (first.now ∷ others.now)
         ≡ record { first = first.now; others = take result others.now }
-        ∷ lines is_large (drop result others.now) }
+        ∷ lines is_brief (drop result others.now) }
 {
     let mut last = *first;
     for (index, row) in others.iter().enumerate() {
-        if !shares_line(is_large, &last, row) {
+        if !shares_line(is_brief, &last, row) {
             return index;
         }
         last = *row;
@@ -87,11 +77,11 @@ fn count_sharing(is_large: bool, first: &Row, others: &[Row]) -> usize
 }
 
 /// Whether a row shares the line of the row before it.
-fn shares_line(is_large: bool, before: &Row, row: &Row) -> bool
-    ensures { result ≡ shares_line is_large before.now row.now }
+fn shares_line(is_brief: bool, before: &Row, row: &Row) -> bool
+    ensures { result ≡ shares_line is_brief before.now row.now }
 {
     are_consecutive(before, row)
-        && if is_large {
+        && if is_brief {
             shares_long_line(before, row)
         } else {
             shares_tiny_line(before, row)
@@ -140,7 +130,7 @@ fn shares_tiny_line(before: &Row, row: &Row) -> bool
         && begin_on_one_line(before, row)
 }
 
-/// Whether a row shares a line of a large message's page. It does if it begins no line; a label or
+/// Whether a row shares a line of a brief page. It does if it begins no line; a label or
 /// character string after another also if both begin on the same line of the grid.
 fn shares_long_line(before: &Row, row: &Row) -> bool
     ensures { result ≡ shares_long_line before.now row.now }

@@ -1,4 +1,5 @@
 //! Theorems on pages. The functions do nothing: the contract of each is a theorem.
+ghost use Rattle.dns_view.specs.Heads.{HeadsAreSelfContained};
 ghost use Rattle.dns_view.specs.Links.{IdsAreUnique, JoinedRowsKeepOctets, JoinedRowsTile, LinesHaveRows, WordsAreBounded};
 
 /// The `id`s of a page of consecutive rows are all different: a row's cells and its line in the
@@ -15,8 +16,14 @@ pub fn joined_rows_are_all()
     ensures tiles { JoinedRowsTile }
 {}
 
-/// The words for a row of a large message, after its header section, take at most 27 octets and
+/// The words for a row of a brief page, after the header section, take at most 27 octets and
 /// nine for each octet of the row, or 60.
 pub fn words_are_bounded()
     ensures { WordsAreBounded }
+{}
+
+/// The fixed texts of a page, with its style, have no script and refer to no other file. All other
+/// texts of a page are escaped, so they are never markup.
+pub fn page_heads_are_self_contained()
+    ensures { HeadsAreSelfContained }
 {}

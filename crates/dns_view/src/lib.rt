@@ -12,13 +12,13 @@
 
 mod brief;
 mod codes;
+mod counts;
 mod html;
 mod joined;
 pub mod laws;
 mod meaning;
 mod option;
 mod program;
-mod quoted;
 mod rdata;
 mod request;
 mod summary;

@@ -1,16 +1,20 @@
 //! What rows mean, in words.
 use crate::codes::{Mnemonic, OptionName};
+use crate::counts::{octet_count, second_count};
 use crate::option::OptionData;
-use crate::quoted::{Quoted, octet_count, second_count};
-use crate::rdata::{RdataField, Words};
+use crate::rdata::{RdataField, Words, lacks_last_field};
 use dns_code::{Class, Header, OptRcode, Rtype};
 use dns_fields_text::Strings;
 use dns_rows::{Fault, Field, Kind, NameOf, Part, Row, octets_of, target_of};
+use dns_value_text::Quoted;
 use dns_wire::{ParsedName, Parser};
 use std::fmt;
 
 /// DO, the highest bit of the flags of an OPT record (RFC 3225).
 const DNSSEC_OK: u32 = 0x8000;
+
+/// The octets of type, class and TTL, which precede RDLENGTH (RFC 1035 section 4.1.3).
+const NUMBERS_LEN: usize = 8;
 
 /// The octets of a header, which is a header section without the counts.
 const HEADER_LEN: usize = 4;
@@ -114,12 +118,38 @@ impl<'a> Meaning<'a> {
                 write!(f, "{field}")
             }
             Field::Text => write_strings(f, "text", octets),
+            Field::RdLength => self.write_length(f),
             Field::ExtendedRcode => write_extended(f, self.message, octets),
             Field::OptionCode | Field::OptionLength(_) | Field::OptionData(_) => {
                 write_option(f, field, octets)
             }
             _ => write_number(f, field, octets),
         }
+    }
+
+    /// Prints RDLENGTH, and whether RDATA of this length is malformed but has no row that says so:
+    /// its last field lacks octets.
+    fn write_length<W: fmt::Write>(&self, f: &mut fmt::Formatter<W>) -> fmt::Result {
+        let len = short_of(self.octets());
+        write!(f, "data length {len}")?;
+        if lacks_last_field(self.layout_type(len).to_int(), usize::from(len)) {
+            f.write_str(", malformed")?;
+        }
+        Ok(())
+    }
+
+    /// The record type by whose fields the RDATA after this RDLENGTH is shown. It is NULL for RDATA
+    /// of no octets in class NONE or ANY, as in `rows` (RFC 2136 section 2.4).
+    fn layout_type(&self, len: u16) -> Rtype {
+        let numbers = self.row.start.saturating_sub(NUMBERS_LEN);
+        let [a, b, c, d, ..] = self.message.get(numbers..).unwrap_or(&[]) else {
+            return Rtype::NULL;
+        };
+        let class = Class::from_int(u16::from_be_bytes([*c, *d]));
+        if len == 0 && (class == Class::NONE || class == Class::ANY) {
+            return Rtype::NULL;
+        }
+        Rtype::from_int(u16::from_be_bytes([*a, *b]))
     }
 
     /// Prints where a pointer leads, and the whole name that it ends.
@@ -326,7 +356,6 @@ fn write_option<W: fmt::Write>(
 fn number_word(field: Field) -> Option<&'static str> {
     match field {
         Field::Id => Some("identifier"),
-        Field::RdLength => Some("data length"),
         Field::PayloadSize => Some("UDP payload size"),
         Field::Version => Some("EDNS version"),
         _ => None,

@@ -1,6 +1,7 @@
 //! What the data of options means, in words.
 use crate::codes::OptionName;
-use crate::quoted::{Quoted, octet_count, second_count, write_address};
+use crate::counts::{octet_count, second_count, write_address};
+use dns_value_text::Quoted;
 use dns_wire::{ParsedName, Parser};
 use std::fmt;
 

@@ -76,20 +76,20 @@ impl fmt::Display for Failure {
 /// `file_of` returns. If the input is hexadecimal digits and ASCII white space alone, it is read as
 /// digits. The exit status is 0; 1 if the number of digits is odd; 2 for a wrong argument; 3 if
 /// reading, writing or an allocation fails; and 4 if the input has no octets.
-pub fn tool<R: Read + Drop, W: Write + Drop, E: Write + Drop>(
+pub fn tool<R: Read, W: Write, E: Write>(
     alloc: Global,
     args: &[String],
-    reader: R,
-    writer: W,
-    errors: E,
+    reader: &mut R,
+    writer: &mut W,
+    errors: &mut E,
 ) -> u8
     ensures status { (result ≡ 3) ⊎ CanEnd (asked args.now) result }
-    ensures reports { IfSome (R.remaining reader) (λ input. Reports args.now input result) }
+    ensures views { (result ≡ 3) ⊎ IfSome (R.remaining reader.old)
+        (λ input. IsViewed args.now input (W.contents writer.old) (W.contents writer.new)
+        (E.contents errors.old) (E.contents errors.new) result) }
+    ensures reports { IfSome (R.remaining reader.old) (λ input. Reports args.now input result) }
 {
-    let mut reader = reader;
-    let mut writer = writer;
-    let mut errors = errors;
-    match view(alloc, args, &mut reader, &mut writer, &mut errors) {
+    match view(alloc, args, reader, writer, errors) {
         Ok(status) => status,
         Err(failure) => {
             let _ = writeln!(errors, "dnsview: {failure}");

@@ -1,15 +1,15 @@
 //! Fields of RDATA in words: their names in `dns_fields::TABLE`, and their values.
 use crate::codes::Mnemonic;
+use crate::counts::{octet_count, second_count, write_address};
 use crate::meaning::number_of;
-use crate::quoted::{Quoted, octet_count, second_count, write_address};
 use base64::display::Base64Display;
 use base64::engine::general_purpose::STANDARD;
 use dns_code::Rtype;
-use dns_fields::Kind;
+use dns_fields::{Kind, Shape, fields_of};
 use dns_fields_text::{
     AddressPrefixes, ParameterText, Parameters, PrefixText, SmallTypeMap, TypeMap,
 };
-use dns_value_text::{Base32, Eui, Hex, Location, Locator64, Timestamp};
+use dns_value_text::{Base32, Eui, Hex, Location, Locator64, Quoted, Timestamp};
 use std::fmt;
 
 /// The name of a field of RDATA, printed in words: each hyphen is printed as a space. Names in
@@ -120,12 +120,9 @@ impl RdataField<'_> {
             return self.write_count(f);
         }
         match self.kind {
-            Kind::TypeBitMap => {
-                let types = TypeMap(self.octets);
-                write!(f, ":{types}")
-            }
+            Kind::TypeBitMap => write_types(f, self.octets),
             Kind::SmallTypeBitMap => match SmallTypeMap::from_octets(self.octets) {
-                Some(types) => write!(f, ":{types}"),
+                Some(_) => write_small_types(f, self.octets),
                 None => self.write_count(f),
             },
             Kind::ServiceParameters => write_parameters(f, self.octets),
@@ -155,6 +152,20 @@ impl RdataField<'_> {
         }
         write!(f, ", {count}")
     }
+}
+
+/// Whether RDATA of `len` octets ends where a field begins that needs octets, but takes all that
+/// are left. Such a field has no row.
+pub(crate) fn lacks_last_field(rtype: u16, len: usize) -> bool {
+    let mut left = len;
+    for (_, kind) in fields_of(rtype) {
+        match kind.shape() {
+            Shape::Octets(count) if count <= left => left -= count,
+            Shape::Rest => return left == 0 && !kind.accepts(&[]),
+            _ => return false,
+        }
+    }
+    false
 }
 
 /// Prints a value after a space.
@@ -205,6 +216,28 @@ fn write_octets<W: fmt::Write>(
             write!(f, "{text}")
         }
     }
+}
+
+/// Prints the types of a bit map, each after a space.
+fn write_types<W: fmt::Write>(f: &mut fmt::Formatter<W>, octets: &[u8]) -> fmt::Result {
+    f.write_str(":")?;
+    for rtype in TypeMap(octets).types() {
+        write_value(f, &Mnemonic::of_type(rtype))?;
+    }
+    Ok(())
+}
+
+/// Prints the types of a bit map with a bit for each type from 0 on, each after a space.
+fn write_small_types<W: fmt::Write>(f: &mut fmt::Formatter<W>, octets: &[u8]) -> fmt::Result {
+    f.write_str(":")?;
+    for rtype in 0..128u8 {
+        let octet = octets.get(usize::from(rtype / 8)).copied().unwrap_or(0);
+        if octet & (0x80 >> (rtype % 8)) != 0 {
+            let rtype = Rtype::from_int(u16::from(rtype));
+            write_value(f, &Mnemonic::of_type(rtype))?;
+        }
+    }
+    Ok(())
 }
 
 /// Prints service parameters, each after a space.

@@ -1,7 +1,7 @@
 //! What a message is, in one line.
 use crate::codes::Mnemonic;
+use crate::counts::octet_count;
 use crate::meaning::{FaultWords, number_of, write_name};
-use crate::quoted::octet_count;
 use dns_code::{Class, Header, Opcode, OptRcode, Rtype};
 use dns_rows::{Field, Kind, NameOf, Part, Row, octets_of};
 use std::fmt;

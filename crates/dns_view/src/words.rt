@@ -11,11 +11,12 @@ const SHORTEST: u128 = 40;
 /// The words for a line of a page's list.
 pub(crate) fn words_of(
     alloc: Global,
+    is_brief: bool,
     message: &[u8],
     line: &Line<'_>,
 ) -> Result<Vec<u8>, AllocError> {
     let row = line.row();
-    if limits_words(message, &row) {
+    if limits_words(is_brief, &row) {
         return line_words(alloc, message, line);
     }
     meaning_of(alloc, message, &row)

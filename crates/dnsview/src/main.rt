@@ -20,8 +20,11 @@ const FAILED: u8 = 3;
 
 /// Prints what the arguments ask for of the reader's octets, and returns the exit status.
 fn view<R: Read + Drop>(rt: &HostRuntime, words: &[String], reader: R) -> io::Result<u8> {
-    let writer = BufWriter::new(rt.alloc(), rt.stdout())?;
-    Ok(tool(rt.alloc(), words, reader, writer, rt.stderr()))
+    let mut reader = reader;
+    let mut writer = BufWriter::new(rt.alloc(), rt.stdout())?;
+    let mut errors = rt.stderr();
+    let status = tool(rt.alloc(), words, &mut reader, &mut writer, &mut errors);
+    Ok(status)
 }
 
 fn view_file(rt: &HostRuntime, words: &[String], file: &str) -> io::Result<u8> {

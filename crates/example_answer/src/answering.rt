@@ -18,13 +18,16 @@ use dns_message::name::{ParsedName, ToName, ToNameExt};
 use dns_message::question::Question;
 use dns_message::record::Record;
 use std::alloc::Global;
+use thiserror::Error;
 
 /// Why there is no answer.
-#[derive(Clone, Copy, Debug)]
+#[derive(Clone, Copy, Debug, Error)]
 pub enum NoAnswer {
     /// The query has fewer than 12 octets, so it has no ID to answer to.
+    #[error("the query has fewer than 12 octets")]
     ShortQuery,
     /// The questions alone exceed what the client accepts, or an allocation failed.
+    #[error("no answer: {0}")]
     Refused(PushError),
 }
 

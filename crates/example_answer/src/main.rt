@@ -3,39 +3,29 @@
 //!     example_answer < DIGITS
 //!
 //! It reads the query from standard input as hexadecimal digits, and prints the answer in the same
-//! form. The contract of `answering::answer` says what the answer is, and that it is never longer
+//! form. If there is no answer, or reading or printing fails, it says why on standard error, and
+//! exits with status 1. The contract of `answering::answer` says what the answer is, and that it is never longer
 //! than the client accepts.
 #![tactic(auto)]
 
 mod answering;
 
-use answering::answer;
+use crate::answering::answer;
+use anyhow::Result;
 use dns_message::data::A;
 use dns_message::name::Name;
 use dns_message::record::Record;
 use std::io;
-use std::io::Read;
 
-fn main(rt: HostRuntime) -> io::Result<()> {
-    let mut digits = Vec::new(rt.alloc());
-    rt.stdin().read_to_end(&mut digits)?;
-    let Ok(query) = hex::decode(rt.alloc(), digits.trim_ascii()) else {
-        return println!(rt; "bad digits");
-    };
-    let Ok(name) = Name::from_octets(*b"\x07example\x03com\x00") else {
-        return println!(rt; "bad table");
-    };
+fn main(rt: HostRuntime) -> Result<()> {
+    let digits = io::read_to_string(rt.alloc(), rt.stdin())?;
+    let query = hex::decode(rt.alloc(), digits.trim_ascii())?;
+    let name = Name::from_octets(*b"\x07example\x03com\x00")?;
     let mut table = Vec::new(rt.alloc());
     for host in 1..=40 {
         table.push(Record::from((name, 3600u32, A::from_octets(192, 0, 2, host))))?;
     }
-    match answer(rt.alloc(), &query, &table) {
-        Ok(answer) => {
-            for octet in &answer {
-                print!(rt; "{octet:02x}")?;
-            }
-            println!(rt; "")
-        }
-        Err(_) => println!(rt; "no answer"),
-    }
+    let answer = answer(rt.alloc(), &query, &table)?;
+    println!(rt; "{}", hex::encode(rt.alloc(), &answer)?)?;
+    Ok(())
 }

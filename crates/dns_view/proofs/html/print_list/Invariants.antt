@@ -5,4 +5,4 @@ use Rattle.dns_view.specs.Printed.{PrintsEach}
 use Rattle.dns_view.proofs.html.print_list.Given as goal
 
 abbrev pub invariant-loop-line : goal.invariant-loop-line
-invariant-loop-line g l = PrintsEach (λ line. IsListRow l.fn.message (line_row (line_of line))) (take l.line-index l.lines) (g.W.Write.contents l.fn.writer) (g.W.Write.contents l.writer)
+invariant-loop-line g l = PrintsEach (λ line. IsListRow l.fn.is_brief l.fn.message (line_row (line_of line))) (take l.line-index l.lines) (g.W.Write.contents l.fn.writer) (g.W.Write.contents l.writer)

@@ -4,5 +4,5 @@ use Rattle.dns_view.proofs.html.print_list_row.Goals as goal
 
 pub returns : goal.returns
 returns g c =
-    list_row_printed c.print_row.result _ _ _ c.args.message.now (line_row (line_of c.args.line.now)) c.row-row.result c.as_slice.result.now c.row-row.ensures c.in_ok-print_part_start.ensures
+    list_row_printed c.print_row.result _ _ _ c.args.is_brief c.args.message.now (line_row (line_of c.args.line.now)) c.row-row.result c.as_slice.result.now c.row-row.ensures c.in_ok-print_part_start.ensures
     c.print_row.ensures

@@ -1,11 +1,17 @@
-use Rattle.std.proofs.Common.{◌∙◌, Bool, List, ap, map}
-use Rattle.dns_view.specs.Joined.{line_of, lines}
-use Rattle.dns_view.specs.declared.joined.Line.{Line}
-use Rattle.dns_view.proofs.PageTexts.{page_printed}
+use Rattle.std.proofs.Common.{◌<◌, ◌≤◌, length, arith}
+use Rattle.dns_view.specs.Pages.{page_limit}
+use Rattle.dns_view.proofs.Appended.{printed_same}
+use Rattle.dns_view.proofs.PageForms.{brief_printed, full_printed}
 use Rattle.dns_view.proofs.html.print_page.Goals as goal
+
+pub returns-then-len-page_limit : goal.returns-then-len-page_limit
+returns-then-len-page_limit g c =
+    let made = c.in_ok-full.full in
+    let within : length made.items ≤ page_limit c.args.message.now = first_of (omega (arith, made.ok.0), grind (arith, c.len.ensures, c.page_limit.ensures)) in
+    full_printed c.write_all.result _ _ c.args.message.now c.args.rows.now made.items c.in_ok-full.ensures within (printed_same _ _ _ _ c.write_all.result c.deref.ensures.value c.write_all.ensures.bytes)
 
 pub returns : goal.returns
 returns g c =
-    let made = ap (λ (list : List Line). map line_of list) c.as_slice-lines.ensures.value ∙ c.in_ok-lines.ensures ∙ ap (λ (large : Bool). lines large c.args.rows.now) c.is_large.ensures in
-    page_printed c.write_all-2.result _ _ _ _ _ _ _ c.args.message.now c.args.rows.now c.as_slice-lines.result.now c.as_bytes.result.now made
-    c.in_ok-print_top.ensures c.in_ok-print_opening.ensures c.in_ok-print_cells.ensures c.in_ok-write_all.ensures.bytes c.in_ok-print_list.ensures c.write_all-2.ensures.bytes
+    let made = c.in_ok-full.full in
+    let exceeds : page_limit c.args.message.now < length made.items = first_of (omega (arith, made.ok.0), grind (arith, c.len.ensures, c.page_limit.ensures)) in
+    brief_printed c.print_page_of.result _ _ c.args.message.now c.args.rows.now made.items c.in_ok-full.ensures exceeds c.print_page_of.ensures

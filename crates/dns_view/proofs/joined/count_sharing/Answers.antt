@@ -5,13 +5,13 @@ use Rattle.dns_view.proofs.joined.count_sharing.Goals as goal
 pub returns-then-not-shares_line-clause-line : goal.returns-then-not-shares_line-clause-line
 returns-then-not-shares_line-clause-line c =
     let others = c.args.others.now in
-    let none = sharing_none c.args.is_large c.loop-index.last others c.loop-index.index _ c.loop-index-test.true (sym c.shares_line.ensures ∙ c.if-not-shares_line.true) in
-    let found : c.loop-index.index ≡ sharing c.args.is_large c.args.first.now others = omega (arith, none, c.loop-index.invariant) in
-    first_line_of c.args.is_large c.args.first.now others _ found
+    let none = sharing_none c.args.is_brief c.loop-index.last others c.loop-index.index _ c.loop-index-test.true (sym c.shares_line.ensures ∙ c.if-not-shares_line.true) in
+    let found : c.loop-index.index ≡ sharing c.args.is_brief c.args.first.now others = omega (arith, none, c.loop-index.invariant) in
+    first_line_of c.args.is_brief c.args.first.now others _ found
 
 pub returns-clause-line : goal.returns-clause-line
 returns-clause-line c =
     let others = c.args.others.now in
-    let whole : length others ≡ sharing c.args.is_large c.args.first.now others =
-    omega (arith, sharing_all c.args.is_large c.loop-index.last others c.loop-index.index c.loop-index-test.false, c.loop-index.invariant) in
-    first_line_of c.args.is_large c.args.first.now others _ whole
+    let whole : length others ≡ sharing c.args.is_brief c.args.first.now others =
+    omega (arith, sharing_all c.args.is_brief c.loop-index.last others c.loop-index.index c.loop-index-test.false, c.loop-index.invariant) in
+    first_line_of c.args.is_brief c.args.first.now others _ whole

@@ -3,4 +3,4 @@ use Rattle.dns_view.proofs.PageLines.{sharing}
 use Rattle.dns_view.proofs.joined.count_sharing.Given as goal
 
 abbrev pub invariant-loop-index : goal.invariant-loop-index
-invariant-loop-index l = l.index + sharing l.is_large l.last (drop l.index l.others) ≡ sharing l.fn.is_large l.fn.first l.fn.others
+invariant-loop-index l = l.index + sharing l.is_brief l.last (drop l.index l.others) ≡ sharing l.fn.is_brief l.fn.first l.fn.others

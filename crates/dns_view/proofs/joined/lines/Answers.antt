@@ -6,11 +6,11 @@ use Rattle.dns_view.proofs.joined.lines.Goals as goal
 
 pub lines-preserved : goal.lines-preserved
 lines-preserved c =
-    let large = c.args.is_large in
+    let brief = c.args.is_brief in
     let first = c.in-Some.first.now in
-    let cut = ap₂ (λ (sharing after : List Row). line_with first sharing ∷ lines large after) (sym c.split_at.ensures.front) (sym c.split_at.ensures.back) in
-    let left = ap (λ (rows : List Row). lines large rows) c.in-Some.ensures.cases.0 ∙ c.count_sharing.ensures.line ∙ cut in
-    lines_more large c.lines.lines.items c.push.new.self.items _ c.lines.left.now c.split_at.result.1.now _ c.in_ok-push.ensures.items left c.lines.invariant
+    let cut = ap₂ (λ (sharing after : List Row). line_with first sharing ∷ lines brief after) (sym c.split_at.ensures.front) (sym c.split_at.ensures.back) in
+    let left = ap (λ (rows : List Row). lines brief rows) c.in-Some.ensures.cases.0 ∙ c.count_sharing.ensures.line ∙ cut in
+    lines_more brief c.lines.lines.items c.push.new.self.items _ c.lines.left.now c.split_at.result.1.now _ c.in_ok-push.ensures.items left c.lines.invariant
 
 pub returns : goal.returns
-returns c = lines_done c.args.is_large c.lines.lines.items c.lines.left.now _ c.in_default.ensures.cases c.lines.invariant
+returns c = lines_done c.args.is_brief c.lines.lines.items c.lines.left.now _ c.in_default.ensures.cases c.lines.invariant

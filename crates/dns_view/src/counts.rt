@@ -1,11 +1,6 @@
-//! Octets printed as quoted texts and as addresses, and counts of things.
+//! Octets printed as addresses, and counts of things.
 use std::fmt;
 use std::net::{Ipv4Addr, Ipv6Addr};
-
-/// Octets printed in quotation marks. Those that aren't printable ASCII become a backslash and
-/// three decimal digits; a backslash precedes quotation marks and backslashes.
-#[derive(Clone, Copy)]
-pub(crate) struct Quoted<'a>(pub(crate) &'a [u8]);
 
 /// A count of things, printed as in `1 octet` or `2 octets`.
 #[derive(Clone, Copy)]
@@ -25,20 +20,6 @@ pub(crate) fn second_count(number: u32) -> Count {
     let number = number as usize;
     let word = "second";
     Count { number, word }
-}
-
-impl fmt::Display for Quoted<'_> {
-    fn fmt<W: fmt::Write>(&self, f: &mut fmt::Formatter<W>) -> fmt::Result {
-        f.write_str("\"")?;
-        for octet in self.0 {
-            match *octet {
-                b'"' | b'\\' => write!(f, "\\{}", char::from(*octet))?,
-                b' '..=b'~' => write!(f, "{}", char::from(*octet))?,
-                _ => write!(f, "\\{octet:03}")?,
-            }
-        }
-        f.write_str("\"")
-    }
 }
 
 impl fmt::Display for Count {
