@@ -30,4 +30,4 @@ pub use strings::Strings;
 pub use type_map::{SmallTypeMap, TypeMap};
 pub use type_name::TypeName;
 pub use types::Types;
-pub use zone_name::ZoneName;
+pub use zone_name::{ZoneName, write_zone_name};

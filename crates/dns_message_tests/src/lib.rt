@@ -4,8 +4,8 @@
 //!
 //! Nothing is exported. `callers`, `tour` and `typed` have proved callers, `ptr`, `fields`, `made`
 //! and `own` the examples of three modules. `input_output` tests `dnsmsg`, `script` lists of calls,
-//! and `memory` calls that allocate. `asserts` and `runs` have what many tests use. The rows of a
-//! table have names, which failures print.
+//! `memory` calls that allocate, and `options` values that are printed. `asserts` and `runs` have
+//! what many tests use. The rows of a table have names, which failures print.
 #![tactic(auto)]
 
 #[cfg(test)]
@@ -20,6 +20,8 @@ mod input_output;
 mod made;
 #[cfg(test)]
 mod memory;
+#[cfg(test)]
+mod options;
 #[cfg(test)]
 mod own;
 #[cfg(test)]
