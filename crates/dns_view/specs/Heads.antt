@@ -1,5 +1,5 @@
 -- That the fixed texts of a page have no script and refer to no other file. HTML Living Standard sections 4.12.1 and 8.1.8.1, CSS Cascading 4 section 2, CSS Values 4 section 4.5.
-use Rattle.std.specs.Prelude.{ℕ, ◌||◌, not, nat_eq, Bool, false, IsTrue, List, [], ◌∷◌, ◌++◌, map, codes}
+use Rattle.std.specs.Prelude.{ℕ, ◌||◌, not, nat_eq, Bool, false, IsTrue, List, [], ◌∷◌, map, codes}
 use Rattle.std.specs.Char.{to_ascii_lowercase}
 use Rattle.std.specs.List.{list_all, starts_with}
 use Rattle.dns_view.specs.declared.html.TheConstants.{HEAD, LEGEND, STYLE}
