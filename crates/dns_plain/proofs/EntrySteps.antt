@@ -1,8 +1,6 @@
 -- A record after its header. RFC 1035 section 4.1.3.
-use Rattle.std.proofs.Common.{◌≡◌, ℕ, ◌+◌, ◌<◌, ◌≤◌, List, length, arith, refl, sym, ◌∙◌, ap}
-use Rattle.std.specs.Int.{w16}
+use Rattle.std.proofs.Common.{◌≡◌, ℕ, ◌+◌, ◌<◌, ◌≤◌, List, length, arith, refl}
 use Rattle.dns_name.specs.Names.{Fault}
-use Rattle.dns_name.specs.Parsers.{number_at}
 use Rattle.dns_question.specs.AfterNames.{FieldsFaultAt}
 use Rattle.dns_item.specs.Items.{HeaderEntry, ReadsHeader, HeaderFaultAt, RecordEntry, ReadsRecord, RecordFaultAt, LacksRecord}
 

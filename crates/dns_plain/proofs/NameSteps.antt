@@ -1,10 +1,9 @@
 -- What begins at an offset, and what is read after it. RFC 1035 section 4.1.4.
-use Rattle.std.proofs.Common.{◌≡◌, ℕ, ◌+◌, ◌<◌, ◌≤◌, List, [], ◌∷◌, ◌++◌, length, arith, refl, ap, sym, ◌∙◌, subst, append_assoc, length-append, slice_range}
+use Rattle.std.proofs.Common.{◌≡◌, ℕ, ◌+◌, ◌<◌, ◌≤◌, List, [], ◌∷◌, ◌++◌, length, arith, ap, sym, ◌∙◌, subst, append_assoc, length-append, slice_range}
 use Rattle.std.specs.Prelude.{Result, Ok, Err, MatchResult}
 use Rattle.dns_octets.specs.declared.error.ParseError.{ParseError}
-use Rattle.dns_name.specs.Names.{Labels, head_at, fault_of, name_size, max_size, framed, label_at, uncompressed, Fault, Faulty, NameAt, NameContinues, SkipFaulty}
+use Rattle.dns_name.specs.Names.{head_at, fault_of, max_size, label_at, uncompressed, Fault, Faulty, NameAt, NameContinues, SkipFaulty}
 use Rattle.dns_name.specs.declared.head.Head.TheVariants.{Root, Label, Pointer}
-use Rattle.dns_name.proofs.theory.HeadLemmas.{root_within}
 use Rattle.dns_name.specs.Unique.{length_label}
 use Rattle.dns_plain.specs.Plain.{NameAfter}
 

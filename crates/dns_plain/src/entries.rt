@@ -107,7 +107,8 @@ pub fn record_at(octets: &[u8], offset: usize) -> Result<Record, ParseError>
 
 /// Returns the offset after the question at an offset, or why it can't be skipped.
 pub fn question_end(octets: &[u8], offset: usize) -> Result<usize, ParseError>
-    ensures { Gives result (SkipsQuestion octets.now offset) (QuestionSkipFaultAt octets.now offset) }
+    ensures { Gives result (SkipsQuestion octets.now offset)
+        (QuestionSkipFaultAt octets.now offset) }
 {
     let after = name_end(octets, offset)?;
     if octets.len() - after < 4 {

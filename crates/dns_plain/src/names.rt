@@ -64,7 +64,8 @@ fn name_after(octets: &[u8], offset: usize, mut labels: PlainName) -> Result<Pla
 
 /// Returns the uncompressed name that is encoded at an offset, or its leftmost error.
 pub fn name_at(octets: &[u8], offset: usize) -> Result<PlainName, ParseError>
-    ensures { Gives result (λ name. NameIs octets.now offset name.items) (FaultAt octets.now offset) }
+    ensures { Gives result (λ name. NameIs octets.now offset name.items)
+        (FaultAt octets.now offset) }
 {
     name_after(octets, offset, ArrayVec::new())
 }

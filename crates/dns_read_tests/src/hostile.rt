@@ -1,10 +1,10 @@
 //! Untrusted input: messages with replaced octets, messages that are cut, and random octets. What
-//! is read, skipped, searched, copied and shown is compared with the results of a plain reader,
-//! which is written from RFC 1035 and RFC 6891 alone.
+//! is read, skipped, searched, copied and shown is compared with what `dns_plain` reads, and with
+//! RDATA and searches that are written here from RFC 1035 and RFC 6891 alone.
 //!
 //! The tests are here, over `messages`. `data`, `searches`, `sections` and `walks` compare what
-//! they are named after, by `asserts`; `plain`, `plain_data` and `plain_searches` are the plain
-//! reader. A failure prints the name of the message.
+//! they are named after, by `asserts`. `plain` has what `dns_plain` reads; `plain_data` and
+//! `plain_searches` are the RDATA and the searches. A failure prints the name of the message.
 
 mod asserts;
 mod buffer;
@@ -22,6 +22,7 @@ use crate::hostile::asserts::assert_same;
 use crate::hostile::messages::{
     BOUNDS, NAME_IN_DATA, OPT, POSITIVE_RESPONSE, REPLACEMENTS, long_question, random_message,
 };
+use crate::hostile::plain::Plain;
 use crate::hostile::plain_searches::line_count;
 use crate::hostile::searches::{
     assert_copies, assert_distinguished, assert_question_searches, assert_record_searches,
@@ -49,9 +50,9 @@ fn digits_of(octets: &[u8]) -> ArrayVec<u8, 1024> {
 }
 
 /// Fails unless `dnsmsg show` prints the expected number of lines.
-fn assert_shows(rt: &impl Abort, alloc: Global, row: &str, octets: &[u8]) {
+fn assert_shows(rt: &impl Abort, alloc: Global, row: &str, plain: &Plain<'_>) {
     let word = String::from_str(alloc, "show").expect(rt, row);
-    let digits = digits_of(octets);
+    let digits = digits_of(plain.octets);
     let mut output = Vec::new(alloc);
     let status = tool(
         alloc,
@@ -65,22 +66,23 @@ fn assert_shows(rt: &impl Abort, alloc: Global, row: &str, octets: &[u8]) {
         row,
         "status and lines",
         (status, lines),
-        (0, line_count(octets)),
+        (0, line_count(plain)),
     );
 }
 
 /// Fails unless each result of the library is that of the plain reader.
 fn assert_all(rt: &impl Abort, alloc: Global, row: &str, octets: &[u8]) {
     let message = Message::from_octets(octets).expect(rt, row);
-    assert_questions(rt, row, &message);
-    assert_sections(rt, row, &message);
-    assert_iter(rt, row, &message);
-    assert_question_searches(rt, row, &message);
-    assert_record_searches(rt, row, &message);
-    assert_distinguished(rt, row, &message);
-    assert_copies(rt, alloc, row, &message);
+    let plain = Plain::of(rt, alloc, octets);
+    assert_questions(rt, row, &message, &plain);
+    assert_sections(rt, row, &message, &plain);
+    assert_iter(rt, row, &message, &plain);
+    assert_question_searches(rt, row, &message, &plain);
+    assert_record_searches(rt, row, &message, &plain);
+    assert_distinguished(rt, alloc, row, &message);
+    assert_copies(rt, alloc, row, &message, &plain);
     assert_walks(rt, alloc, row, octets);
-    assert_shows(rt, alloc, row, octets);
+    assert_shows(rt, alloc, row, &plain);
 }
 
 /// Replaces each octet of a message in turn.

@@ -1,6 +1,7 @@
 //! Assertions. The `row` of an assertion is the name of the message, and `what` says what is
 //! compared.
-use crate::hostile::plain::{Fault, Located};
+use crate::hostile::plain::Located;
+use dns_wire::ParseError;
 use std::fmt::Debug;
 use std::process::Abort;
 
@@ -22,7 +23,7 @@ pub(crate) fn assert_read<T: Copy + Debug + PartialEq>(
     row: &str,
     what: &str,
     offset: usize,
-    (value, here): (Result<T, Fault>, usize),
+    (value, here): (Result<T, ParseError>, usize),
     expected: Located<T>,
 ) {
     let expected = match expected {

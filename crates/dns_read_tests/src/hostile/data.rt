@@ -1,8 +1,8 @@
 //! RDATA that is read at an offset, beside plain RDATA.
 use crate::hostile::asserts::{assert_read, assert_same};
 use crate::hostile::buffer::Buffer;
-use crate::hostile::given::{Given, Opaque, expanded, fault_of};
-use crate::hostile::plain::{Entry, Fault, Located, entry_at};
+use crate::hostile::given::{Given, Opaque, expanded};
+use crate::hostile::plain::{Entry, Located, entry_at};
 use crate::hostile::plain_data::{data_at, has_options, typed_of};
 use dns_code::Rtype;
 use dns_data::{A, Cname, ComposeRecordData, Ns, Opt, ParseRecordData, Soa};
@@ -13,11 +13,11 @@ use std::process::Abort;
 /// The RDATA that is read, its names uncompressed. Its type has to be the one that was asked for.
 fn data_of<D: ComposeRecordData + Drop>(
     data: Result<Option<D>, ParseError>,
-) -> Result<Buffer, Fault> {
+) -> Result<Buffer, ParseError> {
     match data {
         Ok(Some(data)) => Ok(expanded(&data)),
         Ok(None) => Ok(Buffer::of(b"another type")),
-        Err(error) => Err(fault_of(error)),
+        Err(error) => Err(error),
     }
 }
 

@@ -1,6 +1,6 @@
 //! Converts what the library returns to plain values, which the plain reader returns too.
 use crate::hostile::buffer::{Buffer, CAPACITY};
-use crate::hostile::plain::{Entry, Fault, Header};
+use crate::hostile::plain::{Entry, Header};
 use arrayvec::ArrayVec;
 use dns_code::HeaderSection;
 use dns_data::{ComposeRecordData, UnknownRecordData};
@@ -31,21 +31,13 @@ impl<T: Given> Given for Option<T> {
     }
 }
 
-/// The kind of an error.
-pub(crate) fn fault_of(error: ParseError) -> Fault {
-    match error {
-        ParseError::ShortInput => Fault::Short,
-        ParseError::Form(_) => Fault::Form,
-    }
-}
-
 impl<T: Given> Given for Result<T, ParseError> {
-    type Plain = Result<T::Plain, Fault>;
+    type Plain = Result<T::Plain, ParseError>;
 
     fn plain(&self) -> Self::Plain {
         match self {
             Ok(given) => Ok(given.plain()),
-            Err(error) => Err(fault_of(*error)),
+            Err(error) => Err(*error),
         }
     }
 }

@@ -1,123 +1,24 @@
-//! A plain reader of names and entries, as in RFC 1035 section 4.1. It is recursive, and shares no
-//! code with the library.
-ghost use Rattle.std.specs.Prelude.{◌≤◌};
-
+//! What `dns_plain` reads of a message: names, entries and sections, as values that are copied and
+//! compared.
 use crate::hostile::buffer::Buffer;
-
-/// Why something can't be read.
-#[derive(Clone, Copy, Debug, PartialEq, Eq)]
-pub(crate) enum Fault {
-    /// An octet is missing.
-    Short,
-    /// An octet is malformed.
-    Form,
-}
+use dns_plain::{Question, Record};
+use dns_section::Section;
+use dns_wire::ParseError;
+use std::alloc::Global;
+use std::process::Abort;
 
 /// What is encoded at an offset and the offset after it, or why it can't be read.
-pub(crate) type Located<T> = Result<(T, usize), Fault>;
-
-/// Appends the labels of the name at this offset, each after its length, to the labels before it,
-/// which take `size` octets (RFC 1035 section 4.1.4).
-fn add_labels(octets: &[u8], offset: usize, size: usize, labels: Buffer) -> Result<Buffer, Fault>
-    requires { size ≤ 254 }
-{
-    let Some(first) = octets.get(offset).copied() else {
-        return Err(Fault::Short);
-    };
-    let len = usize::from(first);
-    match first {
-        0 => Ok(labels.with(&[0])),
-        1..=63 => {
-            if size + len + 1 > 254 {
-                return Err(Fault::Form);
-            }
-            if octets.len() - offset <= len {
-                return Err(Fault::Short);
-            }
-            let after = offset + 1 + len;
-            let labels = labels.with(&octets[offset..after]);
-            add_labels(octets, after, size + len + 1, labels)
-        }
-        64..=191 => Err(Fault::Form),
-        _ => {
-            let target = pointer_target(octets, offset)?;
-            if target >= offset {
-                return Err(Fault::Form);
-            }
-            add_labels(octets, target, size, labels)
-        }
-    }
-}
-
-/// The offset that the pointer at this offset leads to.
-fn pointer_target(octets: &[u8], offset: usize) -> Result<usize, Fault> {
-    match octets.get(offset..) {
-        Some([high, low, ..]) => Ok(usize::from(u16::from_be_bytes([high & 0x3f, *low]))),
-        _ => Err(Fault::Short),
-    }
-}
-
-/// The offset after the name at this offset, for a name whose labels so far take `size` octets.
-/// Pointers are not followed.
-fn end_of_labels(octets: &[u8], offset: usize, size: usize) -> Result<usize, Fault>
-    requires { size ≤ 254 }
-{
-    let Some(first) = octets.get(offset).copied() else {
-        return Err(Fault::Short);
-    };
-    let len = usize::from(first);
-    match first {
-        0 => Ok(offset + 1),
-        1..=63 => {
-            if size + len + 1 > 254 {
-                return Err(Fault::Form);
-            }
-            if octets.len() - offset <= len {
-                return Err(Fault::Short);
-            }
-            end_of_labels(octets, offset + 1 + len, size + len + 1)
-        }
-        64..=191 => Err(Fault::Form),
-        _ => {
-            if octets.len() - offset < 2 {
-                return Err(Fault::Short);
-            }
-            Ok(offset + 2)
-        }
-    }
-}
+pub(crate) type Located<T> = Result<(T, usize), ParseError>;
 
 /// The offset after the name at this offset, which may be malformed where its pointer leads.
-pub(crate) fn name_end(octets: &[u8], offset: usize) -> Result<usize, Fault> {
-    end_of_labels(octets, offset, 0)
+pub(crate) fn name_end(octets: &[u8], offset: usize) -> Result<usize, ParseError> {
+    dns_plain::name_end(octets, offset)
 }
 
 /// The uncompressed name that is encoded at this offset, or its leftmost error.
 pub(crate) fn name_at(octets: &[u8], offset: usize) -> Located<Buffer> {
-    let name = add_labels(octets, offset, 0, Buffer::new())?;
-    Ok((name, name_end(octets, offset)?))
-}
-
-/// Checks that all the octets are one uncompressed name whose labels so far take `size` octets
-/// (RFC 1035 section 3.1).
-pub(crate) fn check_name(octets: &[u8], size: usize) -> Result<(), Fault>
-    requires { size ≤ 254 }
-{
-    match octets {
-        [] | [192..=255] => Err(Fault::Short),
-        [0] => Ok(()),
-        [first @ 1..=63, after @ ..] => {
-            let len = usize::from(*first);
-            if size + len + 1 > 254 {
-                return Err(Fault::Form);
-            }
-            match after.get(len..) {
-                Some(rest) => check_name(rest, size + len + 1),
-                None => Err(Fault::Short),
-            }
-        }
-        _ => Err(Fault::Form),
-    }
+    let name = dns_plain::name_at(octets, offset)?;
+    Ok((Buffer::of(&name), name_end(octets, offset)?))
 }
 
 /// A question or a record. A question has no TTL and no RDATA.
@@ -131,74 +32,56 @@ pub(crate) struct Entry {
     pub(crate) data: Buffer,
 }
 
-/// The question with this name, whose type begins at this offset (RFC 1035 section 4.1.2).
-fn question_of(name: Buffer, octets: &[u8], offset: usize) -> Option<(Entry, usize)> {
-    let [type_high, type_low, class_high, class_low, ..] = octets.get(offset..)? else {
-        return None;
-    };
-    let question = Entry {
-        name,
-        rtype: u16::from_be_bytes([*type_high, *type_low]),
-        class: u16::from_be_bytes([*class_high, *class_low]),
+/// The header of a record: all but the RDATA, and its length in octets.
+pub(crate) type Header = (Entry, u16);
+
+fn question_of(question: &Question) -> (Entry, usize) {
+    let entry = Entry {
+        name: Buffer::of(&question.name),
+        rtype: question.rtype,
+        class: question.class,
         ttl: 0,
         data: Buffer::new(),
     };
-    Some((question, offset + 4))
+    (entry, question.end)
 }
 
-/// The header of a record: all but the RDATA, and its length in octets (RFC 1035 section 4.1.3).
-pub(crate) type Header = (Entry, u16);
-
-/// The record header with this owner, whose type begins at this offset. The RDATA may be missing.
-fn header_of(owner: Buffer, octets: &[u8], offset: usize) -> Option<(Header, usize)> {
-    let (question, offset) = question_of(owner, octets, offset)?;
-    let [first, second, third, fourth, high, low, ..] = octets.get(offset..)? else {
-        return None;
-    };
-    let ttl = u32::from_be_bytes([*first, *second, *third, *fourth]);
-    let rdlen = u16::from_be_bytes([*high, *low]);
-    Some(((Entry { ttl, ..question }, rdlen), offset + 6))
-}
-
-/// The record with this owner, whose type begins at this offset.
-fn record_of(owner: Buffer, octets: &[u8], offset: usize) -> Option<(Entry, usize)> {
-    let ((header, rdlen), offset) = header_of(owner, octets, offset)?;
-    let len = usize::from(rdlen);
-    let data = Buffer::of(octets.get(offset..)?.get(..len)?);
-    Some((Entry { data, ..header }, offset + len))
-}
-
-/// The entry of a section: a question in section 0, a record in sections 1 to 3.
-fn entry_of(
-    name: Buffer,
-    octets: &[u8],
-    section: u8,
-    offset: usize,
-) -> Result<(Entry, usize), Fault> {
-    match section {
-        0 => question_of(name, octets, offset),
-        _ => record_of(name, octets, offset),
+fn header_of(header: &dns_plain::Header, data: &[u8]) -> Entry {
+    Entry {
+        name: Buffer::of(&header.owner),
+        rtype: header.rtype,
+        class: header.class,
+        ttl: header.ttl,
+        data: Buffer::of(data),
     }
-    .ok_or(Fault::Short)
+}
+
+fn record_of(octets: &[u8], record: &Record) -> (Entry, usize) {
+    let data = octets.get(record.header.end..record.end).unwrap_or(b"");
+    (header_of(&record.header, data), record.end)
+}
+
+/// The entry at this offset: a question in section 0, a record in sections 1 to 3.
+pub(crate) fn entry_at(octets: &[u8], section: u8, offset: usize) -> Located<Entry> {
+    match section {
+        0 => Ok(question_of(&dns_plain::question_at(octets, offset)?)),
+        _ => Ok(record_of(octets, &dns_plain::record_at(octets, offset)?)),
+    }
 }
 
 /// The offset after the entry of a section at this offset. Its name may be malformed where its
 /// pointer leads.
-pub(crate) fn skip_entry(octets: &[u8], section: u8, offset: usize) -> Result<usize, Fault> {
-    let after = name_end(octets, offset)?;
-    Ok(entry_of(Buffer::new(), octets, section, after)?.1)
-}
-
-/// The entry of a section at this offset.
-pub(crate) fn entry_at(octets: &[u8], section: u8, offset: usize) -> Located<Entry> {
-    let (name, after) = name_at(octets, offset)?;
-    entry_of(name, octets, section, after)
+pub(crate) fn skip_entry(octets: &[u8], section: u8, offset: usize) -> Result<usize, ParseError> {
+    match section {
+        0 => dns_plain::question_end(octets, offset),
+        _ => dns_plain::record_end(octets, offset),
+    }
 }
 
 /// The record header at this offset.
 pub(crate) fn header_at(octets: &[u8], offset: usize) -> Located<Header> {
-    let (owner, after) = name_at(octets, offset)?;
-    header_of(owner, octets, after).ok_or(Fault::Short)
+    let header = dns_plain::header_at(octets, offset)?;
+    Ok(((header_of(&header, b""), header.rdlen), header.end))
 }
 
 /// The number of entries of a section by the header section.
@@ -209,69 +92,133 @@ pub(crate) fn count(octets: &[u8], section: u8) -> u16 {
     }
 }
 
-/// Where a section begins: after the header section, or after all entries of the section before.
-pub(crate) fn start(octets: &[u8], section: u8) -> Result<usize, Fault> {
-    if section == 0 {
-        return Ok(12);
-    }
-    let mut offset = start(octets, section - 1)?;
-    for _ in 0..count(octets, section - 1) {
-        offset = skip_entry(octets, section - 1, offset)?;
-    }
-    Ok(offset)
-}
-
-/// Reads the entries of a section in order, up to the first that can't be read.
+/// The entries of a section in order, up to the first that can't be read.
 #[derive(Clone, Copy)]
 pub(crate) struct Reading<'a> {
-    octets: &'a [u8],
     pub(crate) section: u8,
     /// The offset after the entries that were read.
     pub(crate) offset: usize,
-    left: u16,
-    /// Why no more entries can be read.
-    fault: Option<Fault>,
+    items: &'a [Located<Entry>],
+    /// Where the next section starts, or why it doesn't: once an entry was met that can't be read,
+    /// its error.
+    pub(crate) start_after: Result<usize, ParseError>,
 }
 
-impl<'a> Reading<'a> {
-    /// The reading of a section that begins at this offset.
-    pub(crate) fn at(octets: &'a [u8], section: u8, offset: usize) -> Self {
-        Reading {
-            octets,
-            section,
-            offset,
-            left: count(octets, section),
-            fault: None,
-        }
-    }
-
-    /// The reading of a section, or the error of the entry for which it has no start.
-    pub(crate) fn of(octets: &'a [u8], section: u8) -> Result<Self, Fault> {
-        Ok(Reading::at(octets, section, start(octets, section)?))
-    }
-
+impl Reading<'_> {
     /// The next entry, or the error of the first that can't be read, after which there are no more.
-    pub(crate) fn next(&mut self) -> Option<Result<Entry, Fault>> {
-        self.left = self.left.checked_sub(1)?;
-        match entry_at(self.octets, self.section, self.offset) {
+    pub(crate) fn next(&mut self) -> Option<Result<Entry, ParseError>> {
+        let (first, items) = self.items.split_first()?;
+        self.items = items;
+        match first {
             Ok((entry, end)) => {
-                self.offset = end;
-                Some(Ok(entry))
+                self.offset = *end;
+                Some(Ok(*entry))
             }
-            Err(fault) => {
-                self.left = 0;
-                self.fault = Some(fault);
-                Some(Err(fault))
+            Err(error) => {
+                self.start_after = Err(*error);
+                Some(Err(*error))
             }
         }
     }
+}
 
-    /// Where the next section begins, or why it doesn't: the error that was met, or else that of
-    /// the entry for which the section has no start.
-    pub(crate) fn start_after(&self) -> Result<usize, Fault> {
-        match self.fault {
-            Some(fault) => Err(fault),
-            None => start(self.octets, self.section.saturating_add(1)),
+/// A section: where it starts, or why it doesn't; and what reading it from there gives.
+#[derive(Drop)]
+struct Part {
+    start: Result<usize, ParseError>,
+    items: Vec<Located<Entry>>,
+}
+
+/// What is read of a message.
+#[derive(Drop)]
+pub(crate) struct Plain<'a> {
+    pub(crate) octets: &'a [u8],
+    parts: Vec<Part>,
+}
+
+/// The questions of a message.
+pub(crate) fn questions_of(rt: &impl Abort, alloc: Global, octets: &[u8]) -> Vec<Located<Entry>> {
+    let mut items = Vec::new(alloc);
+    let questions = dns_plain::read_questions(alloc, octets, count(octets, 0), 12);
+    for question in &questions.expect(rt, "memory") {
+        let item = match question {
+            Ok(question) => Ok(question_of(question)),
+            Err(error) => Err(*error),
+        };
+        items.push(item).expect(rt, "memory");
+    }
+    items
+}
+
+/// The records of a section, the first of which begins at this offset.
+fn records_of(
+    rt: &impl Abort,
+    alloc: Global,
+    octets: &[u8],
+    section: u8,
+    offset: usize,
+) -> Vec<Located<Entry>> {
+    let mut items = Vec::new(alloc);
+    let records = dns_plain::read_records(alloc, octets, count(octets, section), offset);
+    for record in &records.expect(rt, "memory") {
+        let item = match record {
+            Ok(record) => Ok(record_of(octets, record)),
+            Err(error) => Err(*error),
+        };
+        items.push(item).expect(rt, "memory");
+    }
+    items
+}
+
+/// A section of records.
+fn part_of(rt: &impl Abort, alloc: Global, octets: &[u8], section: u8) -> Part {
+    assert!(rt; octets.len() >= 12);
+    let start = match section {
+        1 => dns_plain::section_start(octets, Section::Answer),
+        2 => dns_plain::section_start(octets, Section::Authority),
+        _ => dns_plain::section_start(octets, Section::Additional),
+    };
+    let items = match start {
+        Ok(offset) => records_of(rt, alloc, octets, section, offset),
+        Err(_) => Vec::new(alloc),
+    };
+    Part { start, items }
+}
+
+impl<'a> Plain<'a> {
+    pub(crate) fn of(rt: &impl Abort, alloc: Global, octets: &'a [u8]) -> Self {
+        let mut parts = Vec::new(alloc);
+        let questions = Part {
+            start: Ok(12),
+            items: questions_of(rt, alloc, octets),
+        };
+        parts.push(questions).expect(rt, "memory");
+        for section in 1..=3 {
+            let part = part_of(rt, alloc, octets, section);
+            parts.push(part).expect(rt, "memory");
         }
+        Plain { octets, parts }
+    }
+
+    /// Where a section starts, or why it doesn't. There is no section 4.
+    pub(crate) fn start(&self, section: u8) -> Result<usize, ParseError> {
+        match self.parts.get(usize::from(section)) {
+            Some(part) => part.start,
+            None => Err(ParseError::ShortInput),
+        }
+    }
+
+    /// What reading a section gives, or why it has no start.
+    pub(crate) fn reading(&self, section: u8) -> Result<Reading<'_>, ParseError> {
+        let part = self
+            .parts
+            .get(usize::from(section))
+            .ok_or(ParseError::ShortInput)?;
+        Ok(Reading {
+            section,
+            offset: part.start?,
+            items: part.items.as_slice(),
+            start_after: self.start(section.saturating_add(1)),
+        })
     }
 }

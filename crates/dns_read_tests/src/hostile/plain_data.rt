@@ -1,8 +1,9 @@
 //! Plain RDATA, as in RFC 1035 sections 3.3 and 3.4 and RFC 6891 section 6.1.2.
+ghost use Rattle.std.specs.Prelude.{◌≤◌};
+
 use crate::hostile::buffer::Buffer;
-use crate::hostile::plain::{
-    Entry, Fault, Header, Located, check_name, entry_at, header_at, name_at,
-};
+use crate::hostile::plain::{Entry, Header, Located, entry_at, header_at, name_at};
+use dns_wire::{FormError, ParseError};
 
 /// Whether the octets are a list of options, each with a code, a length and that many octets
 /// (RFC 6891 section 6.1.2).
@@ -20,7 +21,7 @@ pub(crate) fn has_options(octets: &[u8]) -> bool {
 pub(crate) fn octets_at(octets: &[u8], offset: usize, len: usize) -> Located<Buffer> {
     match octets.get(offset..).and_then(|after| after.get(..len)) {
         Some(octets) => Ok((Buffer::of(octets), offset.saturating_add(len))),
-        None => Err(Fault::Short),
+        None => Err(ParseError::ShortInput),
     }
 }
 
@@ -37,7 +38,7 @@ fn soa_at(seen: &[u8], offset: usize) -> Located<Buffer> {
 fn options_at(seen: &[u8], offset: usize) -> Located<Buffer> {
     match seen.get(offset..) {
         Some(options) if has_options(options) => Ok((Buffer::of(options), seen.len())),
-        _ => Err(Fault::Short),
+        _ => Err(ParseError::ShortInput),
     }
 }
 
@@ -58,18 +59,18 @@ pub(crate) fn typed_of(
     octets: &[u8],
     record: Located<Entry>,
     rtype: u16,
-) -> Result<Option<Entry>, Fault> {
+) -> Result<Option<Entry>, ParseError> {
     let (entry, end) = record?;
     if entry.rtype != rtype {
         return Ok(None);
     }
     let start = end.saturating_sub(entry.data.as_slice().len());
-    let seen = octets.get(..end).ok_or(Fault::Short)?;
+    let seen = octets.get(..end).ok_or(ParseError::ShortInput)?;
     let (data, after) = data_at(seen, start, rtype)?;
     if after == end {
         Ok(Some(Entry { data, ..entry }))
     } else {
-        Err(Fault::Form)
+        Err(ParseError::Form(FormError::TRAILING_DATA))
     }
 }
 
@@ -81,8 +82,32 @@ pub(crate) fn header_skipped(octets: &[u8], offset: usize) -> Located<Header> {
     Ok((header, end))
 }
 
+/// Checks that all the octets are one uncompressed name whose labels so far take `size` octets
+/// (RFC 1035 section 3.1).
+fn check_name(octets: &[u8], size: usize) -> Result<(), ParseError>
+    requires { size ≤ 254 }
+{
+    match octets {
+        [] | [192..=255] => Err(ParseError::ShortInput),
+        [0] => Ok(()),
+        [first @ 1..=63, after @ ..] => {
+            let len = usize::from(*first);
+            if size + len + 1 > 254 {
+                return Err(ParseError::Form(FormError::LONG_NAME));
+            }
+            match after.get(len..) {
+                Some(rest) => check_name(rest, size + len + 1),
+                None => Err(ParseError::ShortInput),
+            }
+        }
+        [0, ..] => Err(ParseError::Form(FormError::LONG_NAME)),
+        [64..=191, ..] => Err(ParseError::Form(FormError::BAD_LABEL)),
+        _ => Err(ParseError::Form(FormError::BAD_POINTER)),
+    }
+}
+
 /// The name that all of these octets are: its labels, and the octets themselves.
-pub(crate) fn whole_name(octets: &[u8]) -> Result<[Buffer; 2], Fault> {
+pub(crate) fn whole_name(octets: &[u8]) -> Result<[Buffer; 2], ParseError> {
     check_name(octets, 0)?;
     Ok([Buffer::of(octets); 2])
 }

@@ -1,24 +1,28 @@
 //! Plain searches in messages, over the readings of their sections.
 use crate::hostile::buffer::Buffer;
-use crate::hostile::plain::{Entry, Fault, Reading, count, start};
+use crate::hostile::plain::{Entry, Located, Plain, Reading, count, questions_of};
 use crate::hostile::plain_data::{has_options, typed_of};
+use dns_wire::{FormError, ParseError};
+use std::alloc::Global;
+use std::process::Abort;
 
 /// The first question, if it can be read.
-pub(crate) fn first_question(octets: &[u8]) -> Option<Entry> {
-    Reading::of(octets, 0).ok()?.next()?.ok()
+pub(crate) fn first_question(message: &Plain<'_>) -> Option<Entry> {
+    message.reading(0).ok()?.next()?.ok()
 }
 
 /// The question of a message that has exactly one.
-pub(crate) fn sole_question(octets: &[u8]) -> Result<Entry, Fault> {
-    match Reading::of(octets, 0)?.next() {
-        Some(question) if count(octets, 0) == 1 => question,
-        _ => Err(Fault::Form),
+pub(crate) fn sole_question(message: &Plain<'_>) -> Result<Entry, ParseError> {
+    match (count(message.octets, 0), message.reading(0)?.next()) {
+        (0, _) => Err(ParseError::Form(FormError::NO_QUESTION)),
+        (1, Some(question)) => question,
+        _ => Err(ParseError::Form(FormError::MULTIPLE_QUESTIONS)),
     }
 }
 
 /// The first OPT record of the additional section, unless there is an error before or in it.
-pub(crate) fn opt(octets: &[u8]) -> Option<Entry> {
-    let mut reading = Reading::of(octets, 3).ok()?;
+pub(crate) fn opt(message: &Plain<'_>) -> Option<Entry> {
+    let mut reading = message.reading(3).ok()?;
     for _ in 0..u16::MAX {
         let entry = reading.next()?.ok()?;
         if entry.rtype == 41 {
@@ -35,7 +39,7 @@ pub(crate) fn next_typed(
     reading: &mut Reading<'_>,
     rtype: u16,
     in_only: bool,
-) -> Option<Result<Entry, Fault>> {
+) -> Option<Result<Entry, ParseError>> {
     for _ in 0..=u16::MAX {
         match reading.next()? {
             Ok(entry) if entry.rtype != rtype || in_only && entry.class != 1 => {}
@@ -47,12 +51,12 @@ pub(crate) fn next_typed(
 }
 
 /// The target of the first alias of a name in the answer section.
-fn next_name(octets: &[u8], name: &Buffer) -> Option<Buffer> {
-    let mut reading = Reading::of(octets, 1).ok()?;
+fn next_name(message: &Plain<'_>, name: &Buffer) -> Option<Buffer> {
+    let mut reading = message.reading(1).ok()?;
     for _ in 0..u16::MAX {
         let entry = reading.next()?.ok()?;
         if entry.name.as_slice().eq_ignore_ascii_case(name.as_slice()) {
-            if let Ok(Some(alias)) = typed_of(octets, Ok((entry, reading.offset)), 5) {
+            if let Ok(Some(alias)) = typed_of(message.octets, Ok((entry, reading.offset)), 5) {
                 return Some(alias.data);
             }
         }
@@ -61,11 +65,11 @@ fn next_name(octets: &[u8], name: &Buffer) -> Option<Buffer> {
 }
 
 /// The name that the aliases from the question's name lead to, in fewer than twenty steps.
-pub(crate) fn canonical_name(octets: &[u8]) -> Option<Buffer> {
-    let mut name = first_question(octets)?.name;
-    start(octets, 1).ok()?;
+pub(crate) fn canonical_name(message: &Plain<'_>) -> Option<Buffer> {
+    let mut name = first_question(message)?.name;
+    message.start(1).ok()?;
     for _ in 0..20 {
-        match next_name(octets, &name) {
+        match next_name(message, &name) {
             Some(alias) => name = alias,
             None => return Some(name),
         }
@@ -74,8 +78,8 @@ pub(crate) fn canonical_name(octets: &[u8]) -> Option<Buffer> {
 }
 
 /// Whether the answer section has a record of this type, or an error.
-pub(crate) fn contains_answer(octets: &[u8], rtype: u16) -> bool {
-    let Ok(mut reading) = Reading::of(octets, 1) else {
+pub(crate) fn contains_answer(message: &Plain<'_>, rtype: u16) -> bool {
+    let Ok(mut reading) = message.reading(1) else {
         return false;
     };
     for _ in 0..u16::MAX {
@@ -89,22 +93,22 @@ pub(crate) fn contains_answer(octets: &[u8], rtype: u16) -> bool {
 }
 
 /// The last additional record with its RDATA, if all of them can be read and it has this type.
-pub(crate) fn last_additional(octets: &[u8], rtype: u16) -> Option<Entry> {
-    let mut reading = Reading::of(octets, 3).ok()?;
-    let mut last = Err(Fault::Short);
+pub(crate) fn last_additional(message: &Plain<'_>, rtype: u16) -> Option<Entry> {
+    let mut reading = message.reading(3).ok()?;
+    let mut last = Err(ParseError::ShortInput);
     for _ in 0..u16::MAX {
         match reading.next() {
             Some(entry) => last = Ok((entry.ok()?, reading.offset)),
             None => break,
         }
     }
-    typed_of(octets, last, rtype).ok()?
+    typed_of(message.octets, last, rtype).ok()?
 }
 
 /// The number of readable entries of a section, and the error after them or at the start of the
 /// section.
-pub(crate) fn readable(octets: &[u8], section: u8) -> (usize, Option<Fault>) {
-    let mut reading = match Reading::of(octets, section) {
+pub(crate) fn readable(message: &Plain<'_>, section: u8) -> (usize, Option<ParseError>) {
+    let mut reading = match message.reading(section) {
         Ok(reading) => reading,
         Err(fault) => return (0, Some(fault)),
     };
@@ -121,10 +125,10 @@ pub(crate) fn readable(octets: &[u8], section: u8) -> (usize, Option<Fault>) {
 
 /// The number of records of the three sections before the first error, and that error. It may be
 /// that of a section without a start.
-pub(crate) fn readable_records(octets: &[u8]) -> (usize, Option<Fault>) {
+pub(crate) fn readable_records(message: &Plain<'_>) -> (usize, Option<ParseError>) {
     let mut records = 0_usize;
     for section in 1..=3 {
-        let (more, fault) = readable(octets, section);
+        let (more, fault) = readable(message, section);
         records = records.saturating_add(more);
         if fault.is_some() {
             return (records, fault);
@@ -135,15 +139,15 @@ pub(crate) fn readable_records(octets: &[u8]) -> (usize, Option<Fault>) {
 
 /// The number of lines that are printed for a message: two, one for each entry, one for each error,
 /// and one for the first section without a start.
-pub(crate) fn line_count(octets: &[u8]) -> usize {
+pub(crate) fn line_count(message: &Plain<'_>) -> usize {
     let mut lines = 2_usize;
     for section in 0..=3 {
-        let (entries, fault) = readable(octets, section);
+        let (entries, fault) = readable(message, section);
         lines = lines.saturating_add(entries);
         if fault.is_some() {
             lines = lines.saturating_add(1);
         }
-        if start(octets, section).is_err() {
+        if message.start(section).is_err() {
             break;
         }
     }
@@ -151,7 +155,7 @@ pub(crate) fn line_count(octets: &[u8]) -> usize {
 }
 
 /// Whether the questions are the same, ignoring the ASCII case of names.
-fn is_same_question(question: Entry, other: Entry) -> bool {
+fn is_same_question(question: &Entry, other: &Entry) -> bool {
     question
         .name
         .as_slice()
@@ -160,30 +164,23 @@ fn is_same_question(question: Entry, other: Entry) -> bool {
         && question.class == other.class
 }
 
-/// Whether the questions of two messages can all be read, and are the same in order.
-fn same_questions(octets: &[u8], others: &[u8]) -> bool {
-    let (Ok(mut reading), Ok(mut other)) = (Reading::of(octets, 0), Reading::of(others, 0)) else {
-        return false;
-    };
-    for _ in 0..=u16::MAX {
-        match (reading.next(), other.next()) {
-            (Some(Ok(question)), Some(Ok(another))) => {
-                if !is_same_question(question, another) {
-                    return false;
-                }
-            }
-            (None, None) => return true,
-            _ => return false,
-        }
-    }
-    false
+/// Whether all questions can be read, and are the same in order.
+fn same_questions(questions: &[Located<Entry>], others: &[Located<Entry>]) -> bool {
+    questions.len() == others.len()
+        && questions.iter().zip(others).all(|pair| match pair {
+            (Ok((question, _)), Ok((other, _))) => is_same_question(question, other),
+            _ => false,
+        })
 }
 
 /// Whether a message is a response to a query: QR is set, and the IDs, the numbers of questions and
 /// the questions are the same.
-pub(crate) fn is_answer(octets: &[u8], query: &[u8]) -> bool {
+pub(crate) fn is_answer(rt: &impl Abort, alloc: Global, octets: &[u8], query: &[u8]) -> bool {
     octets.get(2).is_some_and(|flags| *flags & 0x80 != 0)
         && octets.get(..2) == query.get(..2)
         && count(octets, 0) == count(query, 0)
-        && same_questions(octets, query)
+        && same_questions(
+            questions_of(rt, alloc, octets).as_slice(),
+            questions_of(rt, alloc, query).as_slice(),
+        )
 }

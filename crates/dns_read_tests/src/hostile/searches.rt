@@ -1,9 +1,9 @@
 //! Searches in messages, and copies of messages, beside plain searches.
 use crate::hostile::asserts::assert_same;
 use crate::hostile::buffer::Buffer;
-use crate::hostile::given::{Given, Opaque, fault_of};
+use crate::hostile::given::{Given, Opaque};
 use crate::hostile::messages::BOUNDS;
-use crate::hostile::plain::{Entry, Reading};
+use crate::hostile::plain::{Entry, Plain};
 use crate::hostile::plain_searches::{
     canonical_name, contains_answer, first_question, is_answer, last_additional, opt,
     readable_records, sole_question,
@@ -15,9 +15,13 @@ use std::alloc::Global;
 use std::process::Abort;
 
 /// Checks the searches for questions and names.
-pub(crate) fn assert_question_searches(rt: &impl Abort, row: &str, message: &Message<&[u8]>) {
-    let octets = message.as_slice();
-    let first = first_question(octets);
+pub(crate) fn assert_question_searches(
+    rt: &impl Abort,
+    row: &str,
+    message: &Message<&[u8]>,
+    plain: &Plain<'_>,
+) {
+    let first = first_question(plain);
     assert_same(
         rt,
         row,
@@ -25,7 +29,7 @@ pub(crate) fn assert_question_searches(rt: &impl Abort, row: &str, message: &Mes
         message.first_question().plain(),
         first,
     );
-    let sole = sole_question(octets);
+    let sole = sole_question(plain);
     assert_same(
         rt,
         row,
@@ -38,7 +42,7 @@ pub(crate) fn assert_question_searches(rt: &impl Abort, row: &str, message: &Mes
     assert_same(rt, row, "type of the question", found, rtype);
     let is_xfr = matches!(rtype, Some(251 | 252));
     assert_same(rt, row, "transfer", message.is_xfr(), is_xfr);
-    let name = canonical_name(octets);
+    let name = canonical_name(plain);
     assert_same(
         rt,
         row,
@@ -66,9 +70,13 @@ fn rcode_of(octets: &[u8], opt: Option<Entry>) -> u16 {
 }
 
 /// Checks the searches for records.
-pub(crate) fn assert_record_searches(rt: &impl Abort, row: &str, message: &Message<&[u8]>) {
-    let octets = message.as_slice();
-    let has_address = contains_answer(octets, 1);
+pub(crate) fn assert_record_searches(
+    rt: &impl Abort,
+    row: &str,
+    message: &Message<&[u8]>,
+    plain: &Plain<'_>,
+) {
+    let has_address = contains_answer(plain, 1);
     assert_same(
         rt,
         row,
@@ -77,39 +85,51 @@ pub(crate) fn assert_record_searches(rt: &impl Abort, row: &str, message: &Messa
         has_address,
     );
     let last = message.get_last_additional::<A>().plain();
-    assert_same(rt, row, "last address", last, last_additional(octets, 1));
-    let opt = opt(octets);
+    assert_same(rt, row, "last address", last, last_additional(plain, 1));
+    let opt = opt(plain);
     let expected = opt.map(|opt| (opt.class, opt.ttl, opt.data));
     assert_same(rt, row, "OPT record", opt_of(message), expected);
     let rcode = message.opt_rcode().to_int();
-    assert_same(rt, row, "rcode", rcode, rcode_of(octets, opt));
+    assert_same(rt, row, "rcode", rcode, rcode_of(plain.octets, opt));
 }
 
 /// Checks whether each message is a response to the other.
-fn assert_answer(rt: &impl Abort, row: &str, message: &Message<&[u8]>, octets: &[u8]) {
+fn assert_answer(
+    rt: &impl Abort,
+    alloc: Global,
+    row: &str,
+    message: &Message<&[u8]>,
+    octets: &[u8],
+) {
     let Ok(other) = Message::from_octets(octets) else {
         panic!(rt; "{row}: no message");
     };
     let source = message.as_slice();
     let found = [message.is_answer(&other), other.is_answer(message)];
-    let expected = [is_answer(source, octets), is_answer(octets, source)];
+    let expected = [
+        is_answer(rt, alloc, source, octets),
+        is_answer(rt, alloc, octets, source),
+    ];
     assert_same(rt, row, "answer", found, expected);
 }
 
 /// Checks whether the message is a response to itself, and to others.
-pub(crate) fn assert_distinguished(rt: &impl Abort, row: &str, message: &Message<&[u8]>) {
-    assert_answer(rt, row, message, message.as_slice());
+pub(crate) fn assert_distinguished(
+    rt: &impl Abort,
+    alloc: Global,
+    row: &str,
+    message: &Message<&[u8]>,
+) {
+    assert_answer(rt, alloc, row, message, message.as_slice());
     for bound in BOUNDS {
-        assert_answer(rt, row, message, bound.octets);
+        assert_answer(rt, alloc, row, message, bound.octets);
     }
 }
 
 /// Checks that the records of a section were copied into the same section, in order.
-fn assert_copied(rt: &impl Abort, row: &str, source: &[u8], copied: &[u8], section: u8) {
-    let (Ok(mut records), Ok(mut copies)) = (
-        Reading::of(source, section),
-        Reading::of(copied, section),
-    ) else {
+fn assert_copied(rt: &impl Abort, row: &str, source: &Plain<'_>, copied: &Plain<'_>, section: u8) {
+    let (Ok(mut records), Ok(mut copies)) = (source.reading(section), copied.reading(section))
+    else {
         panic!(rt; "{row}: no start of section {section}");
     };
     for _ in 0..=u16::MAX {
@@ -123,8 +143,13 @@ fn assert_copied(rt: &impl Abort, row: &str, source: &[u8], copied: &[u8], secti
 
 /// Checks that all records are copied, or that the first error is returned, before which the
 /// closure got each record.
-pub(crate) fn assert_copies(rt: &impl Abort, alloc: Global, row: &str, message: &Message<&[u8]>) {
-    let octets = message.as_slice();
+pub(crate) fn assert_copies(
+    rt: &impl Abort,
+    alloc: Global,
+    row: &str,
+    message: &Message<&[u8]>,
+    plain: &Plain<'_>,
+) {
     let mut given = 0_usize;
     let builder = MessageBuilder::new_vec(alloc).expect(rt, row);
     let copied = copy_records(message, builder.answer(), |shown| {
@@ -133,12 +158,13 @@ pub(crate) fn assert_copies(rt: &impl Abort, alloc: Global, row: &str, message: 
     });
     let fault = match copied {
         Ok(copied) => {
+            let copied = Plain::of(rt, alloc, copied.as_slice());
             for section in 1..=3 {
-                assert_copied(rt, row, octets, copied.as_slice(), section);
+                assert_copied(rt, row, plain, &copied, section);
             }
             None
         }
-        Err(CopyRecordsError::Parse(error)) => Some(fault_of(error)),
+        Err(CopyRecordsError::Parse(error)) => Some(error),
         Err(CopyRecordsError::Push(_)) => panic!(rt; "{row}: a copy that was refused"),
     };
     assert_same(
@@ -146,6 +172,6 @@ pub(crate) fn assert_copies(rt: &impl Abort, alloc: Global, row: &str, message: 
         row,
         "records that were given",
         (given, fault),
-        readable_records(octets),
+        readable_records(plain),
     );
 }

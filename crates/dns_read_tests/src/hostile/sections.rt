@@ -1,7 +1,7 @@
 //! Cursors and iterators over sections, beside plain readings.
 use crate::hostile::asserts::assert_same;
-use crate::hostile::given::{Given, Opaque, fault_of};
-use crate::hostile::plain::{Entry, Fault, Reading, start};
+use crate::hostile::given::{Given, Opaque};
+use crate::hostile::plain::{Entry, Plain, Reading};
 use crate::hostile::plain_searches::next_typed;
 use dns_data::A;
 use dns_read::{Message, MessageIter, RecordIter, RecordSection};
@@ -10,8 +10,13 @@ use std::process::Abort;
 
 /// Checks the questions, and before and after each of them the offsets of the cursor and of the
 /// answer section.
-pub(crate) fn assert_questions(rt: &impl Abort, row: &str, message: &Message<&[u8]>) {
-    let mut reading = Reading::at(message.as_slice(), 0, 12);
+pub(crate) fn assert_questions(
+    rt: &impl Abort,
+    row: &str,
+    message: &Message<&[u8]>,
+    plain: &Plain<'_>,
+) {
+    let mut reading = plain.reading(0).expect(rt, row);
     let mut questions = message.question();
     for _ in 0..=u16::MAX {
         assert_same(
@@ -22,13 +27,7 @@ pub(crate) fn assert_questions(rt: &impl Abort, row: &str, message: &Message<&[u
             reading.offset,
         );
         let starts = [questions.answer().plain(), questions.next_section().plain()];
-        assert_same(
-            rt,
-            row,
-            "answer section",
-            starts,
-            [reading.start_after(); 2],
-        );
+        assert_same(rt, row, "answer section", starts, [reading.start_after; 2]);
         let expected = reading.next();
         assert_same(rt, row, "question", questions.next().plain(), expected);
         if expected.is_none() {
@@ -38,10 +37,10 @@ pub(crate) fn assert_questions(rt: &impl Abort, row: &str, message: &Message<&[u
 }
 
 /// Where the section after a reading begins. There is none after the last section.
-fn next_start(reading: &Reading<'_>) -> Result<Option<usize>, Fault> {
+fn next_start(reading: &Reading<'_>) -> Result<Option<usize>, ParseError> {
     match reading.section {
         3 => Ok(None),
-        _ => Ok(Some(reading.start_after()?)),
+        _ => Ok(Some(reading.start_after?)),
     }
 }
 
@@ -114,14 +113,14 @@ fn assert_addresses(
 fn assert_section(
     rt: &impl Abort,
     row: &str,
-    octets: &[u8],
+    plain: &Plain<'_>,
     section: u8,
     records: Result<RecordSection<'_>, ParseError>,
 ) {
-    let offset = start(octets, section);
-    assert_same(rt, row, "section", records.plain(), offset);
-    if let (Ok(records), Ok(offset)) = (records, offset) {
-        let reading = Reading::at(octets, section, offset);
+    let octets = plain.octets;
+    let start = plain.start(section);
+    assert_same(rt, row, "section", records.plain(), start);
+    if let (Ok(records), Ok(reading)) = (records, plain.reading(section)) {
         assert_records(rt, row, records, reading);
         assert_addresses(rt, row, octets, records.limit_to(), reading, false);
         assert_addresses(rt, row, octets, records.limit_to_in(), reading, true);
@@ -129,16 +128,20 @@ fn assert_section(
 }
 
 /// The starts of all sections.
-fn starts(octets: &[u8]) -> Result<[usize; 4], Fault> {
-    Ok([12, start(octets, 1)?, start(octets, 2)?, start(octets, 3)?])
+fn starts(plain: &Plain<'_>) -> Result<[usize; 4], ParseError> {
+    Ok([12, plain.start(1)?, plain.start(2)?, plain.start(3)?])
 }
 
 /// Checks the three sections of records, and the starts of all sections.
-pub(crate) fn assert_sections(rt: &impl Abort, row: &str, message: &Message<&[u8]>) {
-    let octets = message.as_slice();
-    assert_section(rt, row, octets, 1, message.answer());
-    assert_section(rt, row, octets, 2, message.authority());
-    assert_section(rt, row, octets, 3, message.additional());
+pub(crate) fn assert_sections(
+    rt: &impl Abort,
+    row: &str,
+    message: &Message<&[u8]>,
+    plain: &Plain<'_>,
+) {
+    assert_section(rt, row, plain, 1, message.answer());
+    assert_section(rt, row, plain, 2, message.authority());
+    assert_section(rt, row, plain, 3, message.additional());
     let found = match message.sections() {
         Ok((questions, answers, authorities, additionals)) => Ok([
             questions.pos(),
@@ -146,9 +149,9 @@ pub(crate) fn assert_sections(rt: &impl Abort, row: &str, message: &Message<&[u8
             authorities.pos(),
             additionals.pos(),
         ]),
-        Err(error) => Err(fault_of(error)),
+        Err(error) => Err(error),
     };
-    assert_same(rt, row, "sections", found, starts(octets));
+    assert_same(rt, row, "sections", found, starts(plain));
 }
 
 /// Checks that the next item of the iterator is this entry, or error, of this section.
@@ -157,7 +160,7 @@ fn assert_item(
     row: &str,
     items: &mut MessageIter<'_>,
     section: u8,
-    entry: Result<Entry, Fault>,
+    entry: Result<Entry, ParseError>,
 ) {
     let expected = match entry {
         Ok(entry) => Ok((section, entry)),
@@ -190,10 +193,10 @@ fn assert_items(
 }
 
 /// Checks all records of a message.
-pub(crate) fn assert_iter(rt: &impl Abort, row: &str, message: &Message<&[u8]>) {
+pub(crate) fn assert_iter(rt: &impl Abort, row: &str, message: &Message<&[u8]>, plain: &Plain<'_>) {
     let mut items = message.iter();
     for section in 1..=3 {
-        let Ok(reading) = Reading::of(message.as_slice(), section) else {
+        let Ok(reading) = plain.reading(section) else {
             break;
         };
         if !assert_items(rt, row, &mut items, reading) {

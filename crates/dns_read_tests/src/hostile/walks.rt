@@ -1,8 +1,8 @@
 //! What is read and skipped at each offset, beside what is encoded there.
 use crate::hostile::asserts::{assert_read, assert_same};
 use crate::hostile::data::assert_data;
-use crate::hostile::given::{Given, fault_of};
-use crate::hostile::plain::{Fault, entry_at, header_at, name_at, name_end, skip_entry};
+use crate::hostile::given::Given;
+use crate::hostile::plain::{entry_at, header_at, name_at, name_end, skip_entry};
 use crate::hostile::plain_data::{header_skipped, octets_at, whole_name};
 use dns_code::HeaderSection;
 use dns_item::{ParsedRecord, Question, RecordHeader, Ttl};
@@ -88,10 +88,10 @@ fn assert_fixed(rt: &impl Abort, row: &str, octets: &[u8], parser: Parser<'_>) {
 }
 
 /// The offset of the parser after it skipped something.
-fn skipped(answer: Result<(), ParseError>, parser: Parser<'_>) -> Result<usize, Fault> {
+fn skipped(answer: Result<(), ParseError>, parser: Parser<'_>) -> Result<usize, ParseError> {
     match answer {
         Ok(()) => Ok(parser.pos()),
-        Err(error) => Err(fault_of(error)),
+        Err(error) => Err(error),
     }
 }
 
