@@ -1,5 +1,5 @@
 -- How answers are pushed one by one.
-use Rattle.std.proofs.Common.{◌≡◌, ◌≢◌, ◌∙◌, ℕ, ◌+◌, ◌<◌, ◌≤◌, Bool, true, false, cond, List, [], ◌∷◌, ◌++◌, length, length-append, take, drop, get_or, append_assoc, ap, sym, refl, subst, arith, None}
+use Rattle.std.proofs.Common.{◌≡◌, ◌≢◌, ◌⊎◌, inl, inr, ◌∙◌, ℕ, ◌+◌, ◌<◌, ◌≤◌, Bool, true, false, cond, List, [], ◌∷◌, ◌++◌, length, length-append, take, drop, get_or, append_assoc, ap, sym, refl, subst, arith, None}
 use Rattle.std.proofs.lemmas.Bool.{le-leb, lt-leb}
 use Rattle.std.proofs.Math.Seq.{take-length}
 use Rattle.std.proofs.lemmas.List.{take_more, map-append, take-append-drop}
@@ -99,6 +99,15 @@ module _ {R : Type 0} (item : R → RecordItem) (answers : List R) where
       let long = subst (λ (ys : List RecordItem). s.limit < size (with_answers ys s)) all (limit_exceeded s (first i) (item x) others old mid h (so_far s h) exceeds) in
       let other = lt-leb (size (with_answers (map item answers) s)) s.limit long in
       subst (λ (t : State). Represents InAnswer Tree t new) (sym (chosen (map item answers) s false other)) (moves (with_answers (first i) s) (so_far s h).represents)
+
+  -- an answer exceeds the limit, or the target is full, which this one never is: so none is added
+  pub adds_none_if_full : (i : ℕ) (x d : R) → i < length answers → x ≡ get_or answers i d → (old mid new : Built)
+      → InEach InAnswer Tree old (λ s. MoreAnswers s mid (first i)) → (e : PushError) → (e ≡ LimitExceeded) ⊎ (e ≡ ShortBuf) → InEach InAnswer Tree mid (ReturnsAnswer (item x) (Err e))
+      → MovesState InAnswer InAnswer Tree (tc_rewound InAnswer) mid new → AddsAllOrNone (map item answers) old new
+  adds_none_if_full i x d l is old mid new so_far e (inl limit) fails moves s h within = adds_none i x d l is old mid new so_far e limit fails moves s h within
+  adds_none_if_full i x d l is old mid new so_far e (inr full) fails moves s h within =
+      let never = subst (λ (e : PushError). InEach InAnswer Tree mid (ReturnsAnswer (item x) (Err e))) full fails in
+      absurd (never (with_answers (first i) s) (so_far s h).represents)
 
   -- pushing an answer fails otherwise: an allocation failed
   pub refused_for_memory : (i : ℕ) (x : R) (old mid : Built) → InEach InAnswer Tree old (λ s. MoreAnswers s mid (first i)) → (e : PushError) → InEach InAnswer Tree mid (ReturnsAnswer (item x) (Err e))

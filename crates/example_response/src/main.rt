@@ -32,7 +32,8 @@ fn main(rt: HostRuntime) -> anyhow::Result<()> {
 }
 
 /// The response to a query, with all of `answers` if it then has at most 512 octets, else with none
-/// of them and TC. It has an OPT record if `query.opt()` finds one.
+/// of them and TC. TC would also be set if the target were full before (`ShortBuf`), which this one
+/// never is. The response has an OPT record if `query.opt()` finds one.
 fn response<R: ComposeRecord>(
     alloc: Global,
     query: &Message<Vec<u8>>,
@@ -52,7 +53,7 @@ fn response<R: ComposeRecord>(
     for answer in answers {
         match builder.push_ref(answer) {
             Ok(()) => {}
-            Err(PushError::LimitExceeded) => {
+            Err(PushError::LimitExceeded | PushError::ShortBuf) => {
                 builder = builder.tc_rewind_into();
                 break;
             }

@@ -8,7 +8,7 @@ use Rattle.dns_message.specs.Messages.{message_octets, opt_of}
 use Rattle.dns_message.specs.Builders.{Represents, State, InAdditional, gathered, move_to, reservation}
 use Rattle.dns_message.specs.declared.builder.PushError.TheVariants.{LimitExceeded}
 use Rattle.example_response.specs.Response.{all_or_none, asked_again, response_to}
-use Rattle.example_response.proofs.Answering.{AddsAllOrNone, adds_all, adds_none, pushes_next, refused_for_memory}
+use Rattle.example_response.proofs.Answering.{AddsAllOrNone, adds_all, adds_none_if_full, pushes_next, refused_for_memory}
 use Rattle.example_response.proofs.Opts.{IsReserved, IsStarted, left_over, not_reserved, opt_refused, started_with, started_without, with_none, with_reserved}
 use Rattle.example_response.proofs.Sizes.{size_limited}
 use Rattle.example_response.proofs.Starting.{answered_within, for_memory, limit_kept, most_small, no_additional, not_started, rcode_kept, response_of, started_within}
@@ -70,9 +70,9 @@ returns-in_err-push_reserved-clause-err g c =
           rw w.builder-is (adds_all g.R.ComposeRecord.item c.args.answers.now c.match-opt.builder c.loop-answer.builder
           (let end : c.loop-answer.answer-index ≡ length c.args.answers.now = omega arith in rw (← end) c.loop-answer.invariant.pushes))
       | then-loop-answer-test+in-Err-LimitExceeded w ↦
-          rw w.builder-is (adds_none g.R.ComposeRecord.item c.args.answers.now c.loop-answer.answer-index w.answer-item.result _ w.loop-answer-test.true w.answer-item.is
+          rw w.builder-is (adds_none_if_full g.R.ComposeRecord.item c.args.answers.now c.loop-answer.answer-index w.answer-item.result _ w.loop-answer-test.true w.answer-item.is
           c.match-opt.builder w.push_ref.new.self _ (rw w.in-Err-LimitExceeded.ensures.refused c.loop-answer.invariant.pushes)
-          _ w.in-Err-LimitExceeded.field-0-is (rw w.in-Err-LimitExceeded.ensures.refused w.in-Err-LimitExceeded.ensures.outcome.each) w.tc_rewind_into-builder.ensures)
+          w.in-Err-LimitExceeded.field-0 (first_of (search rules, grind arith)) (rw w.in-Err-LimitExceeded.ensures.refused w.in-Err-LimitExceeded.ensures.outcome.each) w.tc_rewind_into-builder.ensures)
     ] in
     let before : State = move_to InAdditional (all_or_none xs (asked_again b)) in
     let ended = c.additional-builder.ensures _ (added (asked_again b) started.represents started.within) in
@@ -104,9 +104,9 @@ returns-clause-ok g c =
           rw w.builder-is (adds_all g.R.ComposeRecord.item c.args.answers.now c.match-opt.builder c.loop-answer.builder
           (let end : c.loop-answer.answer-index ≡ length c.args.answers.now = omega arith in rw (← end) c.loop-answer.invariant.pushes))
       | then-loop-answer-test+in-Err-LimitExceeded w ↦
-          rw w.builder-is (adds_none g.R.ComposeRecord.item c.args.answers.now c.loop-answer.answer-index w.answer-item.result _ w.loop-answer-test.true w.answer-item.is
+          rw w.builder-is (adds_none_if_full g.R.ComposeRecord.item c.args.answers.now c.loop-answer.answer-index w.answer-item.result _ w.loop-answer-test.true w.answer-item.is
           c.match-opt.builder w.push_ref.new.self _ (rw w.in-Err-LimitExceeded.ensures.refused c.loop-answer.invariant.pushes)
-          _ w.in-Err-LimitExceeded.field-0-is (rw w.in-Err-LimitExceeded.ensures.refused w.in-Err-LimitExceeded.ensures.outcome.each) w.tc_rewind_into-builder.ensures)
+          w.in-Err-LimitExceeded.field-0 (first_of (search rules, grind arith)) (rw w.in-Err-LimitExceeded.ensures.refused w.in-Err-LimitExceeded.ensures.outcome.each) w.tc_rewind_into-builder.ensures)
     ] in
     let before : State = move_to InAdditional (all_or_none xs (asked_again b)) in
     let ended = c.additional-builder.ensures _ (added (asked_again b) started.represents started.within) in
