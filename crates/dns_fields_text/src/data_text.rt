@@ -8,6 +8,7 @@ ghost use Rattle.dns_fields_text.specs.FieldTexts.{field_text, fields_text, spac
 use crate::field::{begins_with_space, has_text, write_text};
 use crate::unknown::write_unknown;
 use dns_fields::{Field, FieldData, Kind};
+use dns_print::write_value;
 use std::fmt;
 
 /// Record data that prints in presentation format: its fields, separated by spaces. If a field has no
@@ -64,7 +65,11 @@ fn write_fields<W: fmt::Write>(f: &mut fmt::Formatter<W>, data: &FieldData<'_>) 
     Ok(())
 }
 
-impl fmt::Display for DataText<'_, '_> {
+/// Record data that prints as `DataText` does if a formatter has no options.
+#[derive(Clone, Copy)]
+struct PlainData<'d, 'a>(&'d FieldData<'a>);
+
+impl fmt::Display for PlainData<'_, '_> {
     ghost output = { λ text. Some (data_line text.0.now) };
 
     fn fmt<W: fmt::Write>(&self, f: &mut fmt::Formatter<W>) -> fmt::Result {
@@ -73,5 +78,15 @@ impl fmt::Display for DataText<'_, '_> {
         } else {
             write_unknown(f, self.0)
         }
+    }
+}
+
+impl fmt::Display for DataText<'_, '_> {
+    ghost output = { λ text. Some (data_line text.0.now) };
+
+    ghost styled_output = { λ text _. Some (data_line text.0.now) };
+
+    fn fmt<W: fmt::Write>(&self, f: &mut fmt::Formatter<W>) -> fmt::Result {
+        write_value(f, PlainData(self.0))
     }
 }

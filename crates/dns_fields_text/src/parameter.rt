@@ -9,6 +9,7 @@ ghost use Rattle.dns_fields_text.specs.ItemsLeft.{parameter_item};
 use crate::base64_text::write_base64;
 use crate::parameters::Parameter;
 use crate::strings::Strings;
+use dns_print::write_value;
 use dns_value_text::Quoted;
 use std::fmt;
 use std::net::{Ipv4Addr, Ipv6Addr};
@@ -231,7 +232,11 @@ fn write_other_value<W: fmt::Write>(f: &mut fmt::Formatter<W>, value: &[u8]) -> 
     write!(f, "={}", Quoted(value))
 }
 
-impl fmt::Display for ParameterText<'_> {
+/// A parameter that prints as `ParameterText` does if a formatter has no options.
+#[derive(Clone, Copy)]
+struct PlainParameter<'a>(Parameter<'a>);
+
+impl fmt::Display for PlainParameter<'_> {
     ghost output = { λ text. Some (parameter_word (parameter_item text.0)) };
 
     fn fmt<W: fmt::Write>(&self, f: &mut fmt::Formatter<W>) -> fmt::Result {
@@ -242,5 +247,15 @@ impl fmt::Display for ParameterText<'_> {
         }
         write!(f, "key{key}")?;
         write_other_value(f, value)
+    }
+}
+
+impl fmt::Display for ParameterText<'_> {
+    ghost output = { λ text. Some (parameter_word (parameter_item text.0)) };
+
+    ghost styled_output = { λ text _. Some (parameter_word (parameter_item text.0)) };
+
+    fn fmt<W: fmt::Write>(&self, f: &mut fmt::Formatter<W>) -> fmt::Result {
+        write_value(f, PlainParameter(self.0))
     }
 }

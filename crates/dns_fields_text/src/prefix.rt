@@ -5,6 +5,7 @@ ghost use Rattle.dns_fields_text.specs.Prefixes.{address_text, fits, has_word, i
 ghost use Rattle.dns_fields_text.specs.ItemsLeft.{prefix_item};
 
 use crate::prefixes::AddressPrefix;
+use dns_print::write_value;
 use std::fmt;
 use std::net::{Ipv4Addr, Ipv6Addr};
 
@@ -108,7 +109,11 @@ impl PrefixText<'_> {
     }
 }
 
-impl fmt::Display for PrefixText<'_> {
+/// A prefix that prints as `PrefixText` does if a formatter has no options.
+#[derive(Clone, Copy)]
+struct PlainPrefix<'a>(AddressPrefix<'a>);
+
+impl fmt::Display for PlainPrefix<'_> {
     ghost use Rattle.dns_fields_text.specs.Prefixes.{prefix_word};
 
     ghost output = { λ text. prefix_word (prefix_item text.0) };
@@ -119,5 +124,17 @@ impl fmt::Display for PrefixText<'_> {
         } else {
             Err(fmt::Error)
         }
+    }
+}
+
+impl fmt::Display for PrefixText<'_> {
+    ghost use Rattle.dns_fields_text.specs.Prefixes.{prefix_word};
+
+    ghost output = { λ text. prefix_word (prefix_item text.0) };
+
+    ghost styled_output = { λ text _. prefix_word (prefix_item text.0) };
+
+    fn fmt<W: fmt::Write>(&self, f: &mut fmt::Formatter<W>) -> fmt::Result {
+        write_value(f, PlainPrefix(self.0))
     }
 }

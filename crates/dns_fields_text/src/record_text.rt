@@ -5,6 +5,7 @@ use crate::zone_name::ZoneName;
 use dns_fields::FieldData;
 use dns_item::Record;
 use dns_name::ToName;
+use dns_print::write_value;
 use std::fmt;
 
 /// A record that prints as a line: the owner with a final dot, the TTL in seconds, the class, the type
@@ -18,6 +19,8 @@ impl<N: ToName> fmt::Display for RecordText<'_, '_, N> {
 
     ghost output = { λ text. Some (record_line N.name text.0.now) };
 
+    ghost styled_output = { λ text _. Some (record_line N.name text.0.now) };
+
     fn fmt<W: fmt::Write>(&self, f: &mut fmt::Formatter<W>) -> fmt::Result {
         let record = self.0;
         let owner = ZoneName(record.owner().as_parsed());
@@ -25,6 +28,6 @@ impl<N: ToName> fmt::Display for RecordText<'_, '_, N> {
         let class = record.class();
         let rtype = TypeName(record.rtype());
         let value = DataText(record.data());
-        write!(f, "{owner} {ttl} {class} {rtype} {value}")
+        write_value(f, format_args!("{owner} {ttl} {class} {rtype} {value}"))
     }
 }

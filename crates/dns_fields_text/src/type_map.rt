@@ -7,6 +7,7 @@ ghost use Rattle.dns_fields_text.specs.Blocks.{SplitsBlock};
 use crate::type_name::TypeName;
 use crate::types::Types;
 use dns_number::Rtype;
+use dns_print::write_value;
 use std::fmt;
 
 /// A type bit map: blocks of a window number, a length and bits. It prints as the types whose bits are
@@ -81,7 +82,11 @@ pub(crate) fn split_block(octets: &[u8]) -> Option<(u32, &[u8], &[u8])>
     Some((u32::from(*window) * 256, block, after))
 }
 
-impl fmt::Display for TypeMap<'_> {
+/// A type bit map that prints as `TypeMap` does if a formatter has no options.
+#[derive(Clone, Copy)]
+struct PlainMap<'a>(&'a [u8]);
+
+impl fmt::Display for PlainMap<'_> {
     ghost output = { λ map. Some (types_text (map_types map.0.now)) };
 
     fn fmt<W: fmt::Write>(&self, f: &mut fmt::Formatter<W>) -> fmt::Result {
@@ -91,6 +96,16 @@ impl fmt::Display for TypeMap<'_> {
             left = after;
         }
         Ok(())
+    }
+}
+
+impl fmt::Display for TypeMap<'_> {
+    ghost output = { λ map. Some (types_text (map_types map.0.now)) };
+
+    ghost styled_output = { λ map _. Some (types_text (map_types map.0.now)) };
+
+    fn fmt<W: fmt::Write>(&self, f: &mut fmt::Formatter<W>) -> fmt::Result {
+        write_value(f, PlainMap(self.0))
     }
 }
 
@@ -122,12 +137,28 @@ impl<'a> SmallTypeMap<'a> {
     }
 }
 
+/// A bit map that prints as `SmallTypeMap` does if a formatter has no options.
+#[derive(Clone, Copy)]
+struct PlainSmallMap<'a>(SmallTypeMap<'a>);
+
+impl fmt::Display for PlainSmallMap<'_> {
+    ghost use Rattle.dns_fields_text.specs.SmallMaps.{small_octets};
+
+    ghost output = { λ map. Some (types_text (octet_types 0 (small_octets map.0))) };
+
+    fn fmt<W: fmt::Write>(&self, f: &mut fmt::Formatter<W>) -> fmt::Result {
+        write_octets(f, 0, self.0.octets)
+    }
+}
+
 impl fmt::Display for SmallTypeMap<'_> {
     ghost use Rattle.dns_fields_text.specs.SmallMaps.{small_octets};
 
     ghost output = { λ map. Some (types_text (octet_types 0 (small_octets map))) };
 
+    ghost styled_output = { λ map _. Some (types_text (octet_types 0 (small_octets map))) };
+
     fn fmt<W: fmt::Write>(&self, f: &mut fmt::Formatter<W>) -> fmt::Result {
-        write_octets(f, 0, self.octets)
+        write_value(f, PlainSmallMap(*self))
     }
 }
