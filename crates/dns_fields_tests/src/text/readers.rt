@@ -67,6 +67,23 @@ fn many_types(rt: HostRuntime) {
     assert_eq!(rt; &map[3..6], b"\x01\x01\x80".as_slice());
 }
 
+/// A parameter for each key but those with a name, in rising order: four octets each.
+#[test]
+fn many_parameters(rt: HostRuntime) {
+    let alloc = rt.alloc();
+    let mut texts = Vec::new(alloc);
+    for key in 9..65536u32 {
+        let text = format!(in alloc; "key{key}").expect(&rt, "there is memory");
+        texts.push(text).expect(&rt, "there is memory");
+    }
+    let mut words = Vec::new(alloc);
+    for text in &texts {
+        words.push(text.as_str()).expect(&rt, "there is memory");
+    }
+    let octets = read_parameters(alloc, &words).expect(&rt, "keys are there once");
+    assert_eq!(rt; octets.len(), 65527 * 4);
+}
+
 /// Digits, in one word and split, as in RFC 4034 section 2.3.
 #[test]
 fn digits(rt: HostRuntime) {
