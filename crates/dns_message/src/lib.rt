@@ -297,7 +297,7 @@ pub mod serial {
 /// }
 /// ```
 pub mod script {
-    pub use dns_script::{Call, OptPlan, Reply, Stage, run, step};
+    pub use dns_script::{Call, OptPlan, Reply, Stage, laws, run, step};
 }
 
 /// The targets that messages are written to.
