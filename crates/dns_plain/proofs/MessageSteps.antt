@@ -1,18 +1,13 @@
 -- Plain messages that are encoded. RFC 1035 section 4.1.
-use Rattle.std.proofs.Common.{◌≡◌, ℕ, List, [], ◌∷◌, ◌++◌, map, length, ap, sym, ◌∙◌, refl, arith, append_assoc}
-use Rattle.std.specs.Int.{to_be_bytes, w16}
+use Rattle.std.proofs.Common.{◌≡◌, ℕ, List, [], ◌∷◌, ◌++◌, map, length, ap, ◌∙◌, refl, arith, append_assoc}
 use Rattle.dns_wire.specs.Encoders.{Rule, Encoder}
 use Rattle.dns_wire.specs.Targets.{Written, append}
 use Rattle.dns_wire.proofs.theory.EncoderLaws.{append-both}
-use Rattle.dns_code.specs.Header.{octets_of_fields}
 use Rattle.dns_question.specs.Questions.{encode_question}
 use Rattle.dns_item.specs.Items.{encode_record}
-use Rattle.dns_build.specs.State.{State, all_of, head_of, counts_of, encode}
+use Rattle.dns_build.specs.State.{State, all_of, head_of, encode}
 use Rattle.dns_build.proofs.theory.Encodings.{both-all_of}
-use Rattle.dns_plain.specs.PlainNames.{AreEach, ListsTable, IsInRange, Represents}
-use Rattle.dns_plain.specs.PlainMessages.{HasItems}
-use Rattle.dns_plain.specs.declared.compression.PlainTarget.{PlainTarget}
-use Rattle.dns_plain.specs.declared.message.PlainMessage.{PlainMessage}
+use Rattle.dns_plain.specs.PlainNames.{AreEach}
 
 -- Two lists of encodings are appended in turn.
 append_all : (ps qs : List Encoder) (t : Written) → append (all_of qs) (append (all_of ps) t) ≡ append (all_of (ps ++ qs)) t

@@ -1,11 +1,11 @@
 -- Plain names and tables, and what they represent. RFC 1035 section 4.1.4.
-use Rattle.std.specs.Prelude.{◌≡◌, ℕ, ◌<◌, List, [], ◌∷◌, length, Option, Some, None}
+use Rattle.std.specs.Prelude.{◌≡◌, ℕ, ◌<◌, List, [], ◌∷◌, Option, Some, None}
 use Rattle.std.specs.FinMap.{get, from_entries}
 use Rattle.std.specs.Borrow.{Bor}
 use Rattle.dns_name.specs.Names.{Labels, IsName, framed, uncompressed, pointer_end}
 use Rattle.dns_wire.specs.Encoders.{CompressionTable, TableEntry, Rule, Plain, Static, Tree, Hash, Encoder, CompressedName}
 use Rattle.dns_wire.specs.Encoders as encoders
-use Rattle.dns_wire.specs.Targets.{Written, IsTarget, append}
+use Rattle.dns_wire.specs.Targets.{Written, append}
 use Rattle.dns_plain.specs.declared.compression.Rule as plain
 use Rattle.dns_plain.specs.declared.compression.Rule.TheVariants as rules
 use Rattle.dns_plain.specs.declared.compression.Suffix.{Suffix}

@@ -1,8 +1,7 @@
 use Rattle.std.proofs.Common.{sym, ◌∙◌, ◌≡◌, subst, refl, true, false, length, arith}
-use Rattle.std.specs.FinMap.{len}
-use Rattle.dns_wire.specs.Encoders.{compress, encode_name}
+use Rattle.dns_wire.specs.Encoders.{encode_name}
 use Rattle.dns_wire.specs.Targets.{append}
-use Rattle.dns_plain.specs.PlainNames.{rule_of, AreEach, IsSuffix, IsCompressed, ListsTable, Represents}
+use Rattle.dns_plain.specs.PlainNames.{rule_of, AreEach, IsSuffix, ListsTable, Represents}
 use Rattle.dns_plain.specs.declared.compression.Rule.{Rule}
 use Rattle.dns_plain.specs.declared.compression.PlainTarget.{PlainTarget}
 use Rattle.dns_plain.proofs.TableSteps.{appends_plain, appends_name}
