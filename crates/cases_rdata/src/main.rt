@@ -13,6 +13,7 @@
 mod case;
 mod checks;
 mod fields;
+mod made;
 mod reading;
 mod rewriting;
 

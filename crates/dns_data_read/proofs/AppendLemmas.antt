@@ -1,47 +1,69 @@
 -- Appending the octets of words.
 use Rattle.std.proofs.Common.{◌≡◌, ◌∙◌, ℕ, List, ◌++◌, refl, ap, sym, subst, inl, inr}
-use Rattle.std.specs.Prelude.{◌↔◌, Some, Result, Ok, Err, OnOk, IfErr}
+use Rattle.std.specs.Prelude.{◌↔◌, ⊤, Some, Result, Ok, Err, OnOk, IfErr}
 use Rattle.std.specs.Global.{Vec}
-use Rattle.dns_value_text.specs.Reading.{ReadsOctets}
+use Rattle.dns_value_text.specs.Reading.{ReadsOctets, TakesMemory}
 use Rattle.dns_value_text.specs.declared.text_error.TextError.{TextError}
 use Rattle.dns_value_text.specs.declared.text_error.TextError.TheVariants.{OutOfMemory}
 use Rattle.dns_fields.specs.declared.kind.Kind.{Kind}
 use Rattle.dns_fields_read.specs.TypeWords.{IsTypeWord}
 use Rattle.dns_fields_read.specs.Base32Words.{last_octets}
-use Rattle.dns_fields_read.specs.Reading.{AppendsOctets}
+use Rattle.dns_fields_read.specs.Reading.{AppendsOctets, AppendsOctetsIf, HasValue, ReadsWords, ReadsWordsIf}
 use Rattle.dns_data_read.specs.Appended.{AppendsRead}
 use Rattle.dns_data_read.specs.FieldWords.{AreFieldWords, IsType, IsFieldWord, Words}
+use Rattle.dns_data_read.specs.MayBe.{MayBeWord, MayBeWords}
 
 -- what appending these octets returns
 pub appended : (Represents : List ℕ → Type 0) (more old new : List ℕ) (result : Result Unit TextError) → Represents more → OnOk result (new ≡ old ++ more) → IfErr result (λ error. error ≡ OutOfMemory)
     → AppendsOctets Represents old new result
 appended Represents more old new (Ok u) is ok err = (more, is, ok)
-appended Represents more old new (Err e) is ok err = inl err
+appended Represents more old new (Err e) is ok err = inl (err, (more, is))
+
+-- less is known of words at which an allocation fails
+pub appended_if : (May : Type 0) (Represents : List ℕ → Type 0) (old new : List ℕ) (result : Result Unit TextError) → (HasValue Represents → May) → AppendsOctets Represents old new result
+    → AppendsOctetsIf May Represents old new result
+appended_if May Represents old new (Ok u) may a = a
+appended_if May Represents old new (Err e) may (inl memory) = inl (memory.0, may memory.1)
+appended_if May Represents old new (Err e) may (inr bad) = inr bad
 
 -- what appending octets that were read returns
-pub read_appended : (Represents : List ℕ → Type 0) (read : Result (Vec ℕ) TextError) (old new : List ℕ) (result : Result Unit TextError) → ReadsOctets Represents read → AppendsRead read old new result
-    → AppendsOctets Represents old new result
-read_appended Represents (Ok more) old new (Ok u) is appends = (more.items, is, appends.0)
-read_appended Represents (Ok more) old new (Err e) is appends = inl appends.1
-read_appended Represents (Err f) old new (Ok u) is appends = absurd (cc appends)
-read_appended Represents (Err f) old new (Err e) (inl memory) appends = let same : e ≡ f = cc in inl (same ∙ memory)
-read_appended Represents (Err f) old new (Err e) (inr bad) appends = let same : e ≡ f = cc in inr (same ∙ bad.0, bad.1)
+pub read_appended : (May : Type 0) (Represents : List ℕ → Type 0) (read : Result (Vec ℕ) TextError) (old new : List ℕ) (result : Result Unit TextError) → (HasValue Represents → May)
+    → ReadsWordsIf May Represents read → AppendsRead read old new result → AppendsOctetsIf May Represents old new result
+read_appended May Represents (Ok more) old new (Ok u) may is appends = (more.items, is, appends.0)
+read_appended May Represents (Ok more) old new (Err e) may is appends = inl (appends.1, may (more.items, is))
+read_appended May Represents (Err f) old new (Ok u) may is appends = absurd (cc appends)
+read_appended May Represents (Err f) old new (Err e) may (inl memory) appends = let same : e ≡ f = cc in inl (same ∙ memory.0, memory.1)
+read_appended May Represents (Err f) old new (Err e) may (inr bad) appends = let same : e ≡ f = cc in inr (same ∙ bad.0, bad.1)
+
+-- where nothing is known of them
+pub reads_if : (Represents : List ℕ → Type 0) (result : Result (Vec ℕ) TextError) → ReadsOctets Represents result → ReadsWordsIf ⊤ Represents result
+reads_if Represents (Ok octets) is = is
+reads_if Represents (Err e) (inl memory) = inl (memory, tt)
+reads_if Represents (Err e) (inr bad) = inr bad
+
+pub reads_string : (Represents : List ℕ → Type 0) (result : Result (Vec ℕ) TextError) → ReadsOctets Represents result → (result ≡ Err OutOfMemory → TakesMemory Represents) → ReadsWords Represents result
+reads_string Represents (Ok octets) is full = is
+reads_string Represents (Err e) (inl memory) full = let is = full (ap Err memory) in inl (memory, (is.0, is.1))
+reads_string Represents (Err e) (inr bad) full = inr bad
 
 -- a field of this kind
-pub as_kind : (kind own : Kind) (word old new : List ℕ) (result : Result Unit TextError) → kind ≡ own → AppendsOctets (IsFieldWord own word) old new result → AppendsOctets (IsFieldWord kind word) old new result
-as_kind kind own word old new result is appends = subst (λ (k : Kind). AppendsOctets (IsFieldWord k word) old new result) (sym is) appends
+pub as_kind : (kind own : Kind) (word old new : List ℕ) (result : Result Unit TextError) → kind ≡ own → AppendsOctetsIf (MayBeWord own word) (IsFieldWord own word) old new result
+    → AppendsOctetsIf (MayBeWord kind word) (IsFieldWord kind word) old new result
+as_kind kind own word old new result is appends = subst (λ (k : Kind). AppendsOctetsIf (MayBeWord k word) (IsFieldWord k word) old new result) (sym is) appends
 
 -- fields of several words
-pub as_kinds : (kind own : Kind) (words : Words) (old new : List ℕ) (result : Result Unit TextError) → kind ≡ own → AppendsOctets (AreFieldWords own words) old new result → AppendsOctets (AreFieldWords kind words) old new result
-as_kinds kind own words old new result is appends = subst (λ (k : Kind). AppendsOctets (AreFieldWords k words) old new result) (sym is) appends
+pub as_kinds : (kind own : Kind) (words : Words) (old new : List ℕ) (result : Result Unit TextError) → kind ≡ own → AppendsOctetsIf (MayBeWords own words) (AreFieldWords own words) old new result
+    → AppendsOctetsIf (MayBeWords kind words) (AreFieldWords kind words) old new result
+as_kinds kind own words old new result is appends = subst (λ (k : Kind). AppendsOctetsIf (MayBeWords k words) (AreFieldWords k words) old new result) (sym is) appends
 
 -- the same of octets that were read
-pub read_as_kind : (kind own : Kind) (words : Words) (read : Result (Vec ℕ) TextError) (old new : List ℕ) (result : Result Unit TextError) → kind ≡ own → ReadsOctets (AreFieldWords own words) read
-    → AppendsRead read old new result → AppendsOctets (AreFieldWords kind words) old new result
-read_as_kind kind own words read old new result is reads appends = as_kinds kind own words old new result is (read_appended (AreFieldWords own words) read old new result reads appends)
+pub read_as_kind : (kind own : Kind) (words : Words) (read : Result (Vec ℕ) TextError) (old new : List ℕ) (result : Result Unit TextError) → kind ≡ own → (HasValue (AreFieldWords own words) → MayBeWords own words)
+    → ReadsWordsIf (MayBeWords own words) (AreFieldWords own words) read → AppendsRead read old new result → AppendsOctetsIf (MayBeWords kind words) (AreFieldWords kind words) old new result
+read_as_kind kind own words read old new result is may reads appends =
+    as_kinds kind own words old new result is (read_appended (MayBeWords own words) (AreFieldWords own words) read old new result may reads appends)
 
 -- a record type
 pub type_appended : (word old new : List ℕ) (rtype n k : ℕ) (result : Result Unit TextError) → ((m : ℕ) → IsTypeWord word m ↔ (Some rtype ≡ Some m)) → k ≡ n → n ≡ rtype
     → OnOk result (new ≡ old ++ last_octets 2 k) → IfErr result (λ error. error ≡ OutOfMemory) → AppendsOctets (IsType word) old new result
 type_appended word old new rtype n k (Ok u) is e f ok err = (last_octets 2 k, (k, (is k).1 (ap (λ m. Some m) (sym (e ∙ f))), refl), ok)
-type_appended word old new rtype n k (Err error) is e f ok err = inl err
+type_appended word old new rtype n k (Err error) is e f ok err = inl (err, (last_octets 2 k, (k, (is k).1 (ap (λ m. Some m) (sym (e ∙ f))), refl)))

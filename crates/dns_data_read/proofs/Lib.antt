@@ -9,6 +9,7 @@ mod GatewaysBack
 mod ListsBack
 mod LocationBack
 mod MarkedWords
+mod MayBeLemmas
 mod NumberOctets
 mod OneData
 mod OneRecord

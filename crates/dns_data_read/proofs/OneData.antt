@@ -22,7 +22,7 @@ use Rattle.dns_fields_read.proofs.theory.StringLemmas.{one_string}
 use Rattle.dns_fields_read.proofs.theory.TypeMapLaws.{one_word}
 use Rattle.dns_parameters_read.proofs.theory.OneParameters.{one_parameters}
 use Rattle.dns_value_text.specs.declared.text_error.TextError.{TextError}
-use Rattle.dns_data_read.specs.DataWords.{AreCountedDigits, AreDataWords, AreFields, IsDataText, ReadsData}
+use Rattle.dns_data_read.specs.DataWords.{AreCountedDigits, AreDataWords, AreFields, IsDataText, ReadsData, MayBeData}
 use Rattle.dns_data_read.specs.Extents.{extent_of}
 use Rattle.dns_fields_read.specs.LengthOctets.{counted}
 use Rattle.dns_data_read.specs.FieldWords.{AreFieldWords, AreStrings, IsField, IsFieldOf, IsFieldWord, IsHash, IsNumberIn, IsOne, IsSalt, IsString, IsTime, IsType, Words}
@@ -177,12 +177,12 @@ one_parts rtype words xs ys a b =
     (one_rdata b.octets (type_layout rtype) 0 (length b.octets) (length b.octets) xs ys own.fields b.rdata.fields).1
 
 -- RDATA of the octets that the words represent
-pub data_read : (rtype : ℕ) (words : Words) (octets slice : List ℕ) (result : Result OwnedFieldData TextError) → AreDataWords rtype words octets → slice ≡ octets → ReadsRdata rtype slice result
+pub data_read : (rtype : ℕ) (words : Words) (octets slice : List ℕ) (result : Result OwnedFieldData TextError) → MayBeData rtype words → AreDataWords rtype words octets → slice ≡ octets → ReadsRdata rtype slice result
     → ReadsData rtype words result
-data_read rtype words octets slice (Ok value) are same reads =
+data_read rtype words octets slice (Ok value) may are same reads =
     (reads.0, record { octets = octets; are = are; rdata = subst (λ (os : List ℕ). IsRdata rtype os (owned_parts_of value)) same reads.1 })
-data_read rtype words octets slice (Err e) are same (inl memory) = inl memory
-data_read rtype words octets slice (Err e) are same (inr bad) =
+data_read rtype words octets slice (Err e) may are same (inl memory) = inl (memory, may)
+data_read rtype words octets slice (Err e) may are same (inr bad) =
     inr (
       bad.0,
       λ parts is.

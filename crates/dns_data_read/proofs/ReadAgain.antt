@@ -31,7 +31,7 @@ split_again line P (Err e) has then (inr bad) = absurd (bad.1 has.0 has.1)
 -- words that represent RDATA are read as it
 same_data : (rtype : ℕ) (words : Words) (parts : List Part) (read : Result OwnedFieldData TextError) → IsDataText rtype words parts → ReadsData rtype words read → IsSameData rtype parts read
 same_data rtype words parts (Ok value) is reads = (reads.0, one_parts rtype words (owned_parts_of value) parts reads.1 is)
-same_data rtype words parts (Err e) is (inl memory) = memory
+same_data rtype words parts (Err e) is (inl memory) = memory.0
 same_data rtype words parts (Err e) is (inr bad) = absurd (bad.1 parts is)
 
 pub data_again : LinesSplit → DataReadsBack → PrintedDataIsRead

@@ -22,9 +22,9 @@ use Rattle.dns_item.specs.Items.{RecordItem}
 use Rattle.dns_value_text.specs.declared.text_error.TextError.{TextError}
 use Rattle.dns_value_text.specs.declared.text_error.TextError.TheVariants.{BadWord, OutOfMemory}
 use Rattle.dns_wire.specs.Parts.{Part}
-use Rattle.dns_data_read.specs.DataWords.{IsDataText}
+use Rattle.dns_data_read.specs.DataWords.{IsDataText, MayBeData}
 use Rattle.dns_data_read.specs.FieldWords.{Words}
-use Rattle.dns_data_read.specs.RecordWords.{AreHeadWords, IsRecordText}
+use Rattle.dns_data_read.specs.RecordWords.{AreHeadWords, IsRecordText, MayBeRecord}
 
 -- a word represents one class
 classes_distinct : is_distinct class_mnemonics ≡ true
@@ -88,9 +88,11 @@ module _ (owner : Labels) (ttl class rtype : ℕ) (words : Words) where
 
   -- no RDATA after the head
   pub no_record : (error : TextError) → AreHeadWords words owner ttl class rtype
-      → (error ≡ OutOfMemory) ⊎ ((error ≡ BadWord) × ((parts : List Part) → ¬ (IsDataText rtype (take (length words - 4) (drop 4 words)) parts)))
-      → (error ≡ OutOfMemory) ⊎ ((error ≡ BadWord) × ((item : RecordItem) → ¬ (IsRecordText words item)))
-  no_record error head (inl memory) = inl memory
+      → ((error ≡ OutOfMemory) × MayBeData rtype (take (length words - 4) (drop 4 words))) ⊎ ((error ≡ BadWord) × ((parts : List Part) → ¬ (IsDataText rtype (take (length words - 4) (drop 4 words)) parts)))
+      → ((error ≡ OutOfMemory) × MayBeRecord words) ⊎ ((error ≡ BadWord) × ((item : RecordItem) → ¬ (IsRecordText words item)))
+  no_record error head (inl memory) =
+      let all : take (length words - 4) (drop 4 words) ≡ drop 4 words = take_all _ (drop 4 words) (omega (arith, length-drop 4 words)) in
+      inl (memory.0, record { owner = owner; ttl = ttl; class = class; rtype = rtype; head = head; value = subst (MayBeData rtype) all memory.1 })
   no_record error head (inr bad) =
       let all : take (length words - 4) (drop 4 words) ≡ drop 4 words = take_all _ (drop 4 words) (omega (arith, length-drop 4 words)) in
       inr (

@@ -1,13 +1,20 @@
--- Character strings.
-use Rattle.std.proofs.Common.{◌≡◌, ◌∙◌, ℕ, ◌-◌, ◌<◌, ◌≤◌, List, [], ◌∷◌, ◌++◌, length, drop, take, get_or, refl, ap, arith, inl, inr, append_assoc}
-use Rattle.std.specs.Prelude.{Result, Ok, Err}
-use Rattle.std.proofs.lemmas.List.{take_all}
+-- Character strings, salts and hashes.
+use Rattle.std.proofs.Common.{◌≡◌, ◌∙◌, ℕ, ◌+◌, ◌<◌, ◌≤◌, List, ◌∷◌, ◌++◌, length, drop, get_or, refl, sym, ap, subst, arith, inl, inr}
+use Rattle.std.specs.Prelude.{Result, Ok, Err, OnOk, IfErr}
+use Rattle.std.specs.Global.{Vec}
+use Rattle.std.proofs.lemmas.List.{drop_more}
+use Rattle.dns_value_text.specs.Reading.{ReadsOctets, TakesMemory}
 use Rattle.dns_value_text.specs.Strings.{SpellsString}
 use Rattle.dns_value_text.specs.declared.text_error.TextError.{TextError}
+use Rattle.dns_value_text.specs.declared.text_error.TextError.TheVariants.{OutOfMemory}
 use Rattle.std.specs.Borrow.{Bor}
-use Rattle.dns_fields_read.specs.Reading.{AppendsOctets}
+use Rattle.dns_fields_read.specs.LengthOctets.{counted}
+use Rattle.dns_fields_read.specs.Reading.{AppendsOctets, AppendsOctetsIf, Fails, FailsIf, HasValue}
+use Rattle.dns_fields_read.specs.Salts.{IsHashWord, IsSaltWord}
 use Rattle.dns_fields_read.proofs.theory.StringLemmas.{one_string}
-use Rattle.dns_data_read.specs.FieldWords.{AreStrings, IsString, Words}
+use Rattle.dns_fields_read.proofs.theory.WordLists.{AreInOrder, appends_at_if}
+use Rattle.dns_data_read.specs.FieldWords.{AreStrings, IsHash, IsSalt, IsString, Words}
+use Rattle.dns_data_read.specs.MayBe.{BeginsWithString}
 
 -- a longer string
 pub long_string : (word string : List ℕ) → SpellsString word string → 255 < length string → (octets : List ℕ) → ¬ (IsString word octets)
@@ -15,25 +22,67 @@ long_string word string h long octets (other, is, short, whole) =
     let same = ap length (one_string word string other h is) in
     omega arith
 
--- the words after the first
-pub after_is : (words : Words) → take (length words - 1) (drop 1 words) ≡ drop 1 words
-after_is [] = refl
-after_is (word ∷ words) = take_all (length (word ∷ words) - 1) words (omega arith)
+-- why a string isn't read
+pub no_string : (word bytes : List ℕ) (e : TextError) → bytes ≡ word → ReadsOctets (SpellsString bytes) (Err e) → (◌≡◌ {A = Result (Vec ℕ) TextError} (Err e) (Err OutOfMemory) → TakesMemory (SpellsString bytes))
+    → FailsIf (HasValue (SpellsString word)) (IsString word) e
+no_string word bytes e same (inl memory) full =
+    let is = full (ap Err memory) in
+    inl (memory, (is.0, subst (λ (text : List ℕ). SpellsString text is.0) same is.1))
+no_string word bytes e same (inr bad) full = inr (bad.0, λ octets is. bad.1 is.0 (subst (λ (text : List ℕ). SpellsString text is.0) (sym same) is.1))
+
+-- a string that was read is appended
+pub string_appended : (word bytes string slice old new : List ℕ) (r : Result Unit TextError) → bytes ≡ word → slice ≡ string → SpellsString bytes string → length string ≤ 255
+    → OnOk r (new ≡ old ++ counted slice) → IfErr r (λ error. error ≡ OutOfMemory) → AppendsOctetsIf (HasValue (SpellsString word)) (IsString word) old new r
+string_appended word bytes string slice old new (Ok u) same equal spells few ok err = (
+  counted string,
+  (string, subst (λ (text : List ℕ). SpellsString text string) same spells, few, refl),
+  ok ∙ ap (λ (xs : List ℕ). old ++ counted xs) equal,
+)
+string_appended word bytes string slice old new (Err e) same equal spells few ok err = inl (err, (string, subst (λ (text : List ℕ). SpellsString text string) same spells))
+
+-- a salt, and a hash
+pub salt_appended : (word salt slice old new : List ℕ) (r : Result Unit TextError) → IsSaltWord word salt → slice ≡ salt → OnOk r (new ≡ old ++ counted slice) → IfErr r (λ error. error ≡ OutOfMemory)
+    → AppendsOctets (IsSalt word) old new r
+salt_appended word salt slice old new (Ok u) is same ok err = (counted salt, (salt, is, refl), ok ∙ ap (λ (xs : List ℕ). old ++ counted xs) same)
+salt_appended word salt slice old new (Err e) is same ok err = inl (err, (counted salt, (salt, is, refl)))
+
+pub salt_fails : (word : List ℕ) (e : TextError) → Fails (IsSaltWord word) e → Fails (IsSalt word) e
+salt_fails word e (inl memory) = inl (memory.0, (counted memory.1.0, (memory.1.0, memory.1.1, refl)))
+salt_fails word e (inr bad) = inr (bad.0, λ octets is. bad.1 is.0 is.1)
+
+pub hash_appended : (word hash slice old new : List ℕ) (r : Result Unit TextError) → IsHashWord word hash → slice ≡ hash → OnOk r (new ≡ old ++ counted slice) → IfErr r (λ error. error ≡ OutOfMemory)
+    → AppendsOctets (IsHash word) old new r
+hash_appended word hash slice old new (Ok u) is same ok err = (counted hash, (hash, is, refl), ok ∙ ap (λ (xs : List ℕ). old ++ counted xs) same)
+hash_appended word hash slice old new (Err e) is same ok err = inl (err, (counted hash, (hash, is, refl)))
+
+pub hash_fails : (word : List ℕ) (e : TextError) → Fails (IsHashWord word) e → Fails (IsHash word) e
+hash_fails word e (inl memory) = inl (memory.0, (counted memory.1.0, (memory.1.0, memory.1.1, refl)))
+hash_fails word e (inr bad) = inr (bad.0, λ octets is. bad.1 is.0 is.1)
 
 -- strings of words
-pub strings_more : (words : Words) (d : Bor (List ℕ)) (old middle new : List ℕ) (u : Unit {0}) (result : Result Unit TextError) → 1 ≤ length words
-    → AppendsOctets (IsString (get_or words 0 d).now) old middle (Ok u) → AppendsOctets (AreStrings (drop 1 words)) middle new result → AppendsOctets (AreStrings words) old new result
-strings_more [] d old middle new u result some a b = absurd (omega arith)
-strings_more (word ∷ words) d old middle new u (Ok v) some a b = (
-  a.0 ++ b.0,
-  (a.0, b.0, a.1, refl, b.1),
-  b.2 ∙ ap (λ (xs : List ℕ). xs ++ b.0) a.2 ∙ append_assoc old a.0 b.0,
-)
-strings_more (word ∷ words) d old middle new u (Err e) some a (inl memory) = inl memory
-strings_more (word ∷ words) d old middle new u (Err e) some a (inr bad) = inr (bad.0, λ octets is. bad.1 is.1 is.4)
+abbrev pub IsStringWord : Bor (List ℕ) → List ℕ → Type 0
+IsStringWord word octets = IsString word.now octets
 
-pub strings_none : (words : Words) (d : Bor (List ℕ)) (old new : List ℕ) (e : TextError) → 1 ≤ length words
-    → AppendsOctets (IsString (get_or words 0 d).now) old new (Err e) → AppendsOctets (AreStrings words) old new (Err e)
-strings_none [] d old new e some a = absurd (omega arith)
-strings_none (word ∷ words) d old new e some (inl memory) = inl memory
-strings_none (word ∷ words) d old new e some (inr bad) = inr (bad.0, λ octets is. bad.1 is.0 is.2)
+pub strings_in_order : AreInOrder IsStringWord AreStrings
+strings_in_order = record {
+  none = refl;
+  both = λ word words first after own others. (first, after, own, refl, others);
+  parts = λ word words octets is. ((is.0, is.2), (is.1, is.4));
+}
+
+module _ (words : Words) (k : ℕ) (d : Bor (List ℕ)) (within : k < length words) where
+  -- the word at an index is a string
+  pub string_more : (old middle new : List ℕ) (u : Unit {0}) (result : Result Unit TextError) → AppendsOctetsIf (HasValue (SpellsString (get_or words k d).now)) (IsString (get_or words k d).now) old middle (Ok u)
+      → AppendsOctetsIf (BeginsWithString (drop (k + 1) words)) (AreStrings (drop (k + 1) words)) middle new result → AppendsOctetsIf (BeginsWithString (drop k words)) (AreStrings (drop k words)) old new result
+  string_more old middle new u result a b =
+      appends_at_if IsStringWord AreStrings strings_in_order BeginsWithString (λ word ws own. (own.1.0, own.1.1)) words k d old middle new u result within a b
+
+  -- it isn't read
+  first_wrong : (word : Bor (List ℕ)) (ws : Words) (e : TextError) → FailsIf (HasValue (SpellsString word.now)) (IsString word.now) e → FailsIf (BeginsWithString (word ∷ ws)) (AreStrings (word ∷ ws)) e
+  first_wrong word ws e (inl memory) = inl memory
+  first_wrong word ws e (inr bad) = inr (bad.0, λ octets is. bad.1 is.0 is.2)
+
+  pub string_wrong : (old new : List ℕ) (e : TextError) → FailsIf (HasValue (SpellsString (get_or words k d).now)) (IsString (get_or words k d).now) e
+      → AppendsOctetsIf (BeginsWithString (drop k words)) (AreStrings (drop k words)) old new (Err e)
+  string_wrong old new e fails =
+      subst (λ (ws : Words). FailsIf (BeginsWithString ws) (AreStrings ws) e) (sym (drop_more words k d within)) (first_wrong (get_or words k d) (drop (k + 1) words) e fails)

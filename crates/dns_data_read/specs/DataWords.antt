@@ -11,6 +11,7 @@ use Rattle.dns_value_text.specs.declared.text_error.TextError.TheVariants.{BadWo
 use Rattle.dns_wire.specs.Parts.{Part}
 use Rattle.dns_data_read.specs.Extents.{extent_of}
 use Rattle.dns_data_read.specs.FieldWords.{IsField, Words}
+use Rattle.dns_data_read.specs.MayBe.{MayBeFields}
 use Rattle.dns_data_read.specs.Rdata.{IsRdata}
 use Rattle.dns_data_read.specs.declared.extent.Extent.TheVariants.{All}
 
@@ -46,14 +47,18 @@ abbrev pub AreDataWords : ℕ → Words → List ℕ → Type 0
 AreDataWords rtype words octets =
     (IsMarked words × AreCountedDigits (drop 1 words) octets) ⊎ (¬ (IsMarked words) × AreFields (kinds_of rtype) words octets)
 
+-- what is known of the words if an allocation fails: the first one is `\#`, or they begin with the first field of the type
+abbrev pub MayBeData : ℕ → Words → Type 0
+MayBeData rtype words = IsMarked words ⊎ (¬ (IsMarked words) × MayBeFields (kinds_of rtype) words)
+
 -- the words represent RDATA of this type, and these are its parts
 pub record IsDataText (rtype : ℕ) (words : Words) (parts : List Part) : Type 0 where
   pub octets : List ℕ
   pub are : AreDataWords rtype words octets
   pub rdata : IsRdata rtype octets parts
 
--- RDATA of this type that the words represent. Else `BadWord` if they represent none, or `OutOfMemory` if an allocation fails.
+-- RDATA of this type that the words represent. Else `BadWord` if they represent none, or `OutOfMemory` if an allocation fails, which happens only to words of which `MayBeData` holds.
 abbrev pub ReadsData : ℕ → Words → Result OwnedFieldData TextError → Type 0
 ReadsData rtype words result =
     MatchResult result (λ value. (owned_rtype_of value ≡ rtype) × IsDataText rtype words (owned_parts_of value))
-    (λ error. (error ≡ OutOfMemory) ⊎ ((error ≡ BadWord) × ((parts : List Part) → ¬ (IsDataText rtype words parts))))
+    (λ error. ((error ≡ OutOfMemory) × MayBeData rtype words) ⊎ ((error ≡ BadWord) × ((parts : List Part) → ¬ (IsDataText rtype words parts))))

@@ -15,7 +15,7 @@ use Rattle.dns_item.specs.Record.{record_item}
 use Rattle.dns_item.specs.declared.record.Record.{Record}
 use Rattle.dns_value_text.specs.declared.text_error.TextError.{TextError}
 use Rattle.dns_value_text.specs.declared.text_error.TextError.TheVariants.{BadWord, OutOfMemory}
-use Rattle.dns_data_read.specs.DataWords.{IsDataText}
+use Rattle.dns_data_read.specs.DataWords.{IsDataText, MayBeData}
 use Rattle.dns_data_read.specs.FieldWords.{Words}
 
 -- the first four words are the owner, the TTL in seconds, the class and the type of a record
@@ -29,8 +29,17 @@ pub record IsRecordText (words : Words) (item : RecordItem) : Type 0 where
   pub head : AreHeadWords words item.owner item.ttl item.class item.rtype
   pub value : IsDataText item.rtype (drop 4 words) item.parts
 
--- The record that the words represent. Else `BadWord` if they represent none, or `OutOfMemory` if an allocation fails.
+-- what is known of the words if an allocation fails: they begin with the head of a record, and with the first field of its type
+pub record MayBeRecord (words : Words) : Type 0 where
+  pub owner : Labels
+  pub ttl : ℕ
+  pub class : ℕ
+  pub rtype : ℕ
+  pub head : AreHeadWords words owner ttl class rtype
+  pub value : MayBeData rtype (drop 4 words)
+
+-- The record that the words represent. Else `BadWord` if they represent none, or `OutOfMemory` if an allocation fails, which happens only to words of which `MayBeRecord` holds.
 abbrev pub ReadsRecord : {X : Type 0} {buffer : Ghosts X} → Words → Result (Record (Name X buffer) OwnedFieldData) TextError → Type 0
 ReadsRecord words result =
     MatchResult result (λ r. IsRecordText words (record_item name_labels owned_rtype_of owned_parts_of r))
-    (λ error. (error ≡ OutOfMemory) ⊎ ((error ≡ BadWord) × ((item : RecordItem) → ¬ (IsRecordText words item))))
+    (λ error. ((error ≡ OutOfMemory) × MayBeRecord words) ⊎ ((error ≡ BadWord) × ((item : RecordItem) → ¬ (IsRecordText words item))))

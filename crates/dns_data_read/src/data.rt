@@ -1,6 +1,7 @@
 //! Record data from words (RFC 1035 section 5.1, RFC 3597 section 5).
 ghost use Rattle.std.specs.Prelude.{◌↔◌, IsTrue};
-ghost use Rattle.dns_data_read.specs.DataWords.{AreCountedDigits, AreDataWords, IsMarked, ReadsData};
+ghost use Rattle.dns_data_read.specs.DataWords.{AreCountedDigits, AreDataWords, IsMarked, MayBeData, ReadsData};
+ghost use Rattle.dns_fields_read.specs.Reading.{ReadsWordsIf};
 ghost use Rattle.dns_value_text.specs.Reading.{ReadsOctets};
 
 use crate::fields::read_fields;
@@ -37,7 +38,7 @@ fn read_counted_digits(alloc: Global, words: &[&str]) -> Result<Vec<u8>, TextErr
 
 /// The octets that the words represent as RDATA of this type.
 fn read_octets(alloc: Global, rtype: u16, words: &[&str]) -> Result<Vec<u8>, TextError>
-    ensures { ReadsOctets (AreDataWords rtype words.now) result }
+    ensures { ReadsWordsIf (MayBeData rtype words.now) (AreDataWords rtype words.now) result }
 {
     if is_marked(words) {
         read_counted_digits(alloc, &words[1..])
@@ -51,6 +52,8 @@ fn read_octets(alloc: Global, rtype: u16, words: &[&str]) -> Result<Vec<u8>, Tex
 pub fn from_text(alloc: Global, rtype: Rtype, words: &[&str]) -> Result<OwnedFieldData, TextError>
     ensures { ReadsData rtype words.now result }
 {
-    let octets = read_octets(alloc, rtype.to_int(), words)?;
-    owned_data(alloc, rtype, octets.as_slice())
+    match read_octets(alloc, rtype.to_int(), words) {
+        Ok(octets) => owned_data(alloc, rtype, octets.as_slice()),
+        Err(error) => Err(error),
+    }
 }

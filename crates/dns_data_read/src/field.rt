@@ -1,6 +1,7 @@
 //! A field of record data.
 ghost use Rattle.dns_data_read.specs.FieldWords.{IsField, IsOne, IsFieldWord};
-ghost use Rattle.dns_fields_read.specs.Reading.{AppendsOctets};
+ghost use Rattle.dns_data_read.specs.MayBe.{MayBeField, MayBeOne, MayBeWord};
+ghost use Rattle.dns_fields_read.specs.Reading.{AppendsOctetsIf};
 
 use crate::append::push_read;
 use crate::extent::{Extent, extent_of};
@@ -18,8 +19,8 @@ fn push_one(
     kind: Kind,
     words: &[&str],
 ) -> Result<(), TextError>
-    ensures { AppendsOctets (IsOne (IsFieldWord kind) words.now) octets.old.items octets.new.items
-        result }
+    ensures { AppendsOctetsIf (MayBeOne (MayBeWord kind) words.now)
+        (IsOne (IsFieldWord kind) words.now) octets.old.items octets.new.items result }
 {
     let [word] = words else {
         return Err(TextError::BadWord);
@@ -34,7 +35,8 @@ pub(crate) fn push_field(
     kind: Kind,
     words: &[&str],
 ) -> Result<(), TextError>
-    ensures { AppendsOctets (IsField kind words.now) octets.old.items octets.new.items result }
+    ensures { AppendsOctetsIf (MayBeField kind words.now) (IsField kind words.now)
+        octets.old.items octets.new.items result }
 {
     match extent_of(kind) {
         Extent::One => push_one(alloc, octets, kind, words),

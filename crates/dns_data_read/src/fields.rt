@@ -1,8 +1,8 @@
 //! The fields of record data, in order.
 ghost use Rattle.dns_data_read.specs.DataWords.{AreFields};
 ghost use Rattle.dns_fields.specs.Table.{kinds, kinds_of};
-ghost use Rattle.dns_fields_read.specs.Reading.{AppendsOctets};
-ghost use Rattle.dns_value_text.specs.Reading.{ReadsOctets};
+ghost use Rattle.dns_data_read.specs.MayBe.{MayBeFields};
+ghost use Rattle.dns_fields_read.specs.Reading.{AppendsOctetsIf, ReadsWordsIf};
 
 use crate::extent::word_count;
 use crate::field::push_field;
@@ -17,8 +17,8 @@ fn push_fields(
     fields: &[(&'static str, Kind)],
     words: &[&str],
 ) -> Result<(), TextError>
-    ensures { AppendsOctets (AreFields (kinds fields.now) words.now) octets.old.items
-        octets.new.items result }
+    ensures { AppendsOctetsIf (MayBeFields (kinds fields.now) words.now)
+        (AreFields (kinds fields.now) words.now) octets.old.items octets.new.items result }
 {
     let [field, others @ ..] = fields else {
         return if words.is_empty() {
@@ -36,7 +36,8 @@ fn push_fields(
 
 /// The octets of the fields of this type.
 pub(crate) fn read_fields(alloc: Global, rtype: u16, words: &[&str]) -> Result<Vec<u8>, TextError>
-    ensures { ReadsOctets (AreFields (kinds_of rtype) words.now) result }
+    ensures { ReadsWordsIf (MayBeFields (kinds_of rtype) words.now)
+        (AreFields (kinds_of rtype) words.now) result }
 {
     let mut octets = Vec::new(alloc);
     match push_fields(alloc, &mut octets, fields_of(rtype), words) {

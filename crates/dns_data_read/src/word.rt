@@ -6,7 +6,9 @@ ghost use Rattle.dns_fields_read.specs.Addresses.{IsIpv6Word};
 ghost use Rattle.dns_fields_read.specs.EuiWords.{IsEuiWord};
 ghost use Rattle.dns_fields_read.specs.LocatorWords.{IsLocatorWord};
 ghost use Rattle.dns_fields_read.specs.NameWords.{IsNameWord};
-ghost use Rattle.dns_fields_read.specs.Reading.{AppendsOctets};
+ghost use Rattle.dns_data_read.specs.MayBe.{MayBeWord};
+ghost use Rattle.dns_fields_read.specs.Reading.{AppendsOctets, AppendsOctetsIf, HasValue};
+ghost use Rattle.dns_value_text.specs.Strings.{SpellsString};
 
 use crate::append::{push_counted, push_read};
 use dns_fields::Kind;
@@ -113,7 +115,8 @@ fn push_name(octets: &mut Vec<u8>, word: &str) -> Result<(), TextError>
 
 /// Appends a character string.
 pub(crate) fn push_string(alloc: Global, octets: &mut Vec<u8>, word: &str) -> Result<(), TextError>
-    ensures { AppendsOctets (IsString word.now) octets.old.items octets.new.items result }
+    ensures { AppendsOctetsIf (HasValue (SpellsString word.now)) (IsString word.now)
+        octets.old.items octets.new.items result }
 {
     let string = match read_string(alloc, word.as_bytes()) {
         Ok(string) => string,
@@ -166,7 +169,8 @@ pub(crate) fn push_word(
     kind: Kind,
     word: &str,
 ) -> Result<(), TextError>
-    ensures { AppendsOctets (IsFieldWord kind word.now) octets.old.items octets.new.items result }
+    ensures { AppendsOctetsIf (MayBeWord kind word.now) (IsFieldWord kind word.now)
+        octets.old.items octets.new.items result }
 {
     match kind {
         Kind::Number8 => push_number(octets, word, 1, 0xff),

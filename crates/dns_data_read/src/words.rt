@@ -1,9 +1,10 @@
 //! Fields that are all words that are left (RFC 1035 section 5.1).
-ghost use Rattle.std.specs.Prelude.{◌≡◌, ◌≢◌, []};
+ghost use Rattle.std.specs.Prelude.{◌≡◌, ◌≢◌, [], ⊤};
 ghost use Rattle.dns_data_read.specs.FieldWords.{AreStrings, AreFieldWords};
 ghost use Rattle.dns_fields_read.specs.JoinedWords.{AreBase64, AreHex};
 ghost use Rattle.dns_fields_read.specs.LocationWords.{IsLocation};
-ghost use Rattle.dns_fields_read.specs.Reading.{AppendsOctets};
+ghost use Rattle.dns_data_read.specs.MayBe.{BeginsWithString, MayBeWords};
+ghost use Rattle.dns_fields_read.specs.Reading.{AppendsOctets, AppendsOctetsIf};
 
 use crate::append::push_read;
 use crate::word::push_string;
@@ -18,20 +19,21 @@ use std::alloc::Global;
 
 /// Appends character strings.
 fn push_strings(alloc: Global, octets: &mut Vec<u8>, words: &[&str]) -> Result<(), TextError>
-    ensures { AppendsOctets (AreStrings words.now) octets.old.items octets.new.items result }
+    ensures { AppendsOctetsIf (BeginsWithString words.now) (AreStrings words.now)
+        octets.old.items octets.new.items result }
 {
-    let [word, after @ ..] = words else {
-        return Ok(());
-    };
-    match push_string(alloc, octets, word) {
-        Ok(()) => push_strings(alloc, octets, after),
-        Err(error) => Err(error),
+    for word in words {
+        if let Err(error) = push_string(alloc, octets, word) {
+            return Err(error);
+        }
     }
+    Ok(())
 }
 
 /// Appends character strings, one at least.
 fn push_some_strings(alloc: Global, octets: &mut Vec<u8>, words: &[&str]) -> Result<(), TextError>
-    ensures { AppendsOctets (λ all. (words.now ≢ []) × AreStrings words.now all)
+    ensures { AppendsOctetsIf (BeginsWithString words.now)
+        (λ all. (words.now ≢ []) × AreStrings words.now all)
         octets.old.items octets.new.items result }
 {
     if words.is_empty() {
@@ -53,20 +55,24 @@ fn push_some(octets: &mut Vec<u8>, more: &[u8]) -> Result<(), TextError>
 
 /// Appends the octets of hexadecimal digits, one octet at least.
 fn push_hex(alloc: Global, octets: &mut Vec<u8>, words: &[&str]) -> Result<(), TextError>
-    ensures { AppendsOctets (λ all. AreHex words.now all × (all ≢ []))
+    ensures { AppendsOctetsIf ⊤ (λ all. AreHex words.now all × (all ≢ []))
         octets.old.items octets.new.items result }
 {
-    let more = read_hex_words(alloc, words)?;
-    push_some(octets, more.as_slice())
+    match read_hex_words(alloc, words) {
+        Ok(more) => push_some(octets, more.as_slice()),
+        Err(error) => Err(error),
+    }
 }
 
 /// Appends the octets of base64, one octet at least.
 fn push_base64(alloc: Global, octets: &mut Vec<u8>, words: &[&str]) -> Result<(), TextError>
-    ensures { AppendsOctets (λ all. AreBase64 words.now all × (all ≢ []))
+    ensures { AppendsOctetsIf ⊤ (λ all. AreBase64 words.now all × (all ≢ []))
         octets.old.items octets.new.items result }
 {
-    let more = read_base64_words(alloc, words)?;
-    push_some(octets, more.as_slice())
+    match read_base64_words(alloc, words) {
+        Ok(more) => push_some(octets, more.as_slice()),
+        Err(error) => Err(error),
+    }
 }
 
 /// Appends a location.
@@ -86,8 +92,8 @@ pub(crate) fn push_words(
     kind: Kind,
     words: &[&str],
 ) -> Result<(), TextError>
-    ensures { AppendsOctets (AreFieldWords kind words.now) octets.old.items octets.new.items
-        result }
+    ensures { AppendsOctetsIf (MayBeWords kind words.now) (AreFieldWords kind words.now)
+        octets.old.items octets.new.items result }
 {
     match kind {
         Kind::Strings => push_some_strings(alloc, octets, words),

@@ -1,12 +1,12 @@
 -- Digits and octets of base32.
-use Rattle.std.proofs.Common.{◌≡◌, ◌∙◌, ◌≢◌, ℕ, zero, suc, ◌+◌, ◌-◌, ◌*◌, ◌/◌, ◌%◌, ◌^◌, ◌<◌, ◌≤◌, true, List, [], ◌∷◌, ◌++◌, length, take, drop, get_or, refl, sym, ap, subst, arith, inl, inr, add-one, append-nil, length-append, take-append-drop, append_assoc, length-take-le, length-drop}
-use Rattle.std.specs.Prelude.{◌==◌, if◌then◌else◌, Result, Ok, Err, OnOk, IfErr, fold}
+use Rattle.std.proofs.Common.{lit<, ◌≡◌, ◌∙◌, ◌≢◌, ℕ, zero, suc, ◌+◌, ◌-◌, ◌*◌, ◌/◌, ◌%◌, ◌^◌, ◌<◌, ◌≤◌, ◌↔◌, Bool, true, false, List, [], ◌∷◌, ◌++◌, length, take, drop, get_or, refl, sym, ap, subst, arith, inl, inr, add-one, append-nil, length-append, take-append-drop, append_assoc, length-take-le, length-drop}
+use Rattle.std.specs.Prelude.{◌==◌, if◌then◌else◌, IsTrue, is_some, Option, Some, None, MatchOption, Result, Ok, Err, OnOk, IfErr, fold}
 use Rattle.std.specs.Char.{to_ascii_uppercase}
 use Rattle.std.specs.Fmt.{digit_glyph}
 use Rattle.std.specs.Str.{str_to_ascii_uppercase}
 use Rattle.std.proofs.Math.Nat.{pow-suc, mul-mod_left}
 use Rattle.std.proofs.Math.Seq.{get_or-append_seam, take-append_seam}
-use Rattle.std.proofs.lemmas.Bool.{cases_lt}
+use Rattle.std.proofs.lemmas.Bool.{cases_lt, eqb-true}
 use Rattle.std.proofs.lemmas.Bool.Decides.{nat_tests}
 use Rattle.std.proofs.lemmas.Grind.{fold-append}
 use Rattle.std.proofs.lemmas.List.{get_or_append_left, get_or-map, length-map, map-append, take_more, take-map, append_cancel_left}
@@ -14,6 +14,7 @@ use Rattle.hex.specs.Hex.{IsBytes}
 use Rattle.dns_value_text.specs.Base32.{base32_digits, base32_text}
 use Rattle.dns_value_text.specs.Number.{number_of}
 use Rattle.dns_fields_read.specs.Base32Words.{AppendsBase32, IsBase32, IsDigits, IsGroupSize, last_octets}
+use Rattle.dns_fields_read.specs.Reading.{HasValue}
 use Rattle.dns_value_text.specs.declared.text_error.TextError.{TextError}
 use Rattle.dns_value_text.specs.declared.text_error.TextError.TheVariants.{OutOfMemory}
 use Rattle.dns_fields_read.proofs.theory.ByteLemmas.{bytes_append}
@@ -264,7 +265,7 @@ module _ (digits octets : List ℕ) (some : 0 < length digits) (few : length dig
 pub appends : (digits old new octets : List ℕ) (result : Result Unit TextError) → OnOk result (new ≡ old ++ octets) → IfErr result (λ error. error ≡ OutOfMemory) → IsBase32 digits octets
     → AppendsBase32 digits old new result
 appends digits old new octets (Ok u) ok err is = (octets, ok, is)
-appends digits old new octets (Err e) ok err is = inl err
+appends digits old new octets (Err e) ok err is = inl (err, (octets, is))
 
 -- the digits are eight and others
 parts : (digits : List ℕ) → str_to_ascii_uppercase digits ≡ str_to_ascii_uppercase (take 8 digits) ++ str_to_ascii_uppercase (drop 8 digits)
@@ -325,14 +326,30 @@ pub appends_more : (digits old middle new : List ℕ) (u : Unit {0}) (result : R
     → AppendsBase32 (take 8 digits) old middle (Ok u) → AppendsBase32 (drop 8 digits) middle new result → AppendsBase32 digits old new result
 appends_more digits old middle new u (Ok v) long a b =
     (a.0 ++ b.0, b.1 ∙ ap (λ (xs : List ℕ). xs ++ b.0) a.1 ∙ append_assoc old a.0 b.0, join digits a.0 b.0 long a.2 b.2)
-appends_more digits old middle new u (Err e) long a (inl memory) = inl memory
+appends_more digits old middle new u (Err e) long a (inl memory) = inl (memory.0, (a.0 ++ memory.1.0, join digits a.0 memory.1.0 long a.2 memory.1.1))
 appends_more digits old middle new u (Err e) long a (inr bad) =
     inr (bad.0, λ all is. let s = split digits all long is in bad.1 s.1 s.3)
 
--- eight digits represent no octets, or an allocation fails
-pub appends_none : (digits old new : List ℕ) (e : TextError) → 8 < length digits → AppendsBase32 (take 8 digits) old new (Err e) → AppendsBase32 digits old new (Err e)
-appends_none digits old new e long (inl memory) = inl memory
-appends_none digits old new e long (inr bad) = inr (bad.0, λ all is. let s = split digits all long is in bad.1 s.0 s.2)
+-- eight digits and the others represent octets
+pub both_tested : (digits : List ℕ) (b : Bool) → 8 < length digits → HasValue (IsBase32 (take 8 digits)) → IsTrue b ↔ HasValue (IsBase32 (drop 8 digits)) → IsTrue b ↔ HasValue (IsBase32 digits)
+both_tested digits b long first others = (
+  λ t. let after = others.0 t in (first.0 ++ after.0, join digits first.0 after.0 long first.1 after.1),
+  λ all. let s = split digits all.0 long all.1 in others.1 (s.1, s.3),
+)
+
+pub none_tested : (digits : List ℕ) → 8 < length digits → ((octets : List ℕ) → ¬ (IsBase32 (take 8 digits) octets)) → IsTrue false ↔ HasValue (IsBase32 digits)
+none_tested digits long none = (λ t. absurd (cc t), λ all. let s = split digits all.0 long all.1 in absurd (none s.0 s.2))
+
+-- no digits represent no octets
+pub empty_tested : (digits : List ℕ) (b : Bool) → b ≡ (length digits == 0) → b ≡ true → IsTrue true ↔ HasValue (IsBase32 digits)
+empty_tested [] b e empty = (λ t. ([], (λ i. lit< tt, refl)), λ all. refl)
+empty_tested (digit ∷ digits) b e empty = let none = eqb-true (length (digit ∷ digits)) 0 (sym e ∙ empty) in absurd (omega (arith, none))
+
+-- a group that was read
+pub group_tested : (digits : List ℕ) (o : Option (ℕ × ℕ)) (b : Bool) → b ≡ is_some o
+    → MatchOption o ((octets : List ℕ) → ¬ (IsBase32 digits octets)) (λ group. IsBase32 digits (last_octets group.0 group.1)) → IsTrue b ↔ HasValue (IsBase32 digits)
+group_tested digits None b e none = (λ t. absurd (cc (e, t)), λ all. absurd (none all.0 all.1))
+group_tested digits (Some group) b e is = (λ t. (last_octets group.0 group.1, is), λ all. e)
 
 -- printed digits are in upper case
 glyph_upper : (n : ℕ) → n < 32 → to_ascii_uppercase (digit_glyph true n) ≡ digit_glyph true n

@@ -10,9 +10,9 @@ use Rattle.std.proofs.lemmas.Bool.Decides.{same_from_decides}
 use Rattle.std.proofs.lemmas.List.Folds.{list_any-append}
 use Rattle.hex.specs.Hex.{IsBytes}
 use Rattle.dns_fields_text.specs.TypeMaps.{bit_types, ends_nonzero, is_small_map, octet_types}
-use Rattle.dns_value_text.specs.Reading.{ReadsOctets}
+use Rattle.dns_fields_read.specs.Reading.{FailsIf, ReadsWords, ReadsWordsIf}
 use Rattle.dns_value_text.specs.declared.text_error.TextError.{TextError}
-use Rattle.dns_fields_read.specs.TypeBits.{AppendsTypes, IsBits, IsSmallMap, have_small_map, is_small_type, is_within}
+use Rattle.dns_fields_read.specs.TypeBits.{AppendsTypes, FailsAsTypes, IsBits, IsSmallMap, have_small_map, is_small_type, is_within}
 use Rattle.dns_fields_read.specs.TypeMapWords.{AreTypes, HasType, IsSmallTypeMap, has}
 use Rattle.dns_fields_read.proofs.theory.ByteLemmas.{nonzero}
 use Rattle.dns_fields_read.proofs.TypeMapLemmas.{bit_range, ends_of, octet_cases, octet_range}
@@ -173,13 +173,18 @@ module _ (words : List (Bor (List ℕ))) (types : List ℕ) (are : AreTypes word
     bits = λ n. same_from_decides {P = HasType words n} (has (octet_types 0 octets) n) (has types n) ((is.bits n).0, (is.bits n).1) ((represented n).0, (represented n).1);
   }
 
-  words_read : (result : Result (Vec ℕ) TextError) → ReadsOctets (IsSmallMap types) result → ReadsOctets (IsSmallTypeMap words) result
+  words_read : (result : Result (Vec ℕ) TextError) → ReadsWords (IsSmallMap types) result → ReadsWordsIf (AreTypes words) (IsSmallTypeMap words) result
   words_read (Ok map) is = map_of_words map.items is
-  words_read (Err e) (inl memory) = inl memory
+  words_read (Err e) (inl memory) = inl (memory.0, are)
   words_read (Err e) (inr bad) = inr (bad.0, λ octets is. bad.1 octets (map_of_types octets is))
 
 pub small_map_read : (words : List (Bor (List ℕ))) (start types slice : List ℕ) (u : Unit {0}) (result : Result (Vec ℕ) TextError) → start ≡ [] → slice ≡ types
-    → AppendsTypes words start types (Ok u) → ReadsOctets (IsSmallMap slice) result → ReadsOctets (IsSmallTypeMap words) result
+    → AppendsTypes words start types (Ok u) → ReadsWords (IsSmallMap slice) result → ReadsWordsIf (AreTypes words) (IsSmallTypeMap words) result
 small_map_read words start types slice u result none same a is =
     let whole : slice ≡ a.0 = same ∙ a.1 ∙ ap (λ (xs : List ℕ). xs ++ a.0) none in
     words_read words slice a.2 (subst (λ (ts : List ℕ). (n : ℕ) → has ts n ≡ true ↔ HasType words n) (sym whole) a.3) result is
+
+-- why no map is read
+pub small_types_fail : (words : List (Bor (List ℕ))) (e : TextError) → FailsAsTypes words e → FailsIf (AreTypes words) (IsSmallTypeMap words) e
+small_types_fail words e (inl memory) = inl memory
+small_types_fail words e (inr bad) = inr (bad.0, λ octets is. bad.1 is.types)

@@ -1,17 +1,20 @@
 -- Type bit maps and their types.
 use Rattle.std.proofs.Common.{◌≡◌, ◌∙◌, ◌≢◌, ℕ, zero, suc, ◌+◌, ◌-◌, ◌*◌, ◌/◌, ◌%◌, ◌^◌, ◌<◌, ◌≤◌, ◌==◌, Bool, true, false, List, [], ◌∷◌, ◌++◌, length, drop, replicate, refl, sym, ap, subst, arith, inl, inr, append_assoc, append-nil, get_or, eq-eqb, le-leb, ◌↔◌, ◌⊎◌}
-use Rattle.std.specs.Prelude.{Result, Ok, Err, Some, None, nat_le, nat_lt, ◌&&◌, ◌||◌, if◌then◌else◌}
+use Rattle.std.specs.Prelude.{IsTrue, Result, Ok, Err, Some, None, nat_le, nat_lt, ◌&&◌, ◌||◌, if◌then◌else◌}
 use Rattle.std.specs.Borrow.{Bor}
 use Rattle.std.specs.List.{list_any}
 use Rattle.std.proofs.Math.Nat.{pow-suc}
 use Rattle.std.proofs.lemmas.Bool.{and_parts, eqb-true, false≢true, lt-leb, or_cases}
 use Rattle.std.proofs.lemmas.Bool.Decides.{nat_tests}
+use Rattle.std.proofs.lemmas.List.{drop_all, drop_more}
 use Rattle.std.proofs.lemmas.List.Folds.{list_any-append}
 use Rattle.hex.specs.Hex.{IsBytes}
 use Rattle.dns_fields_text.specs.Prefixes.{is_trimmed}
 use Rattle.dns_fields_text.specs.TypeMaps.{bit_types, ends_nonzero, map_types, octet_types}
 use Rattle.dns_value_text.specs.declared.text_error.TextError.{TextError}
-use Rattle.dns_fields_read.specs.TypeBits.{AppendsBlock, AppendsBlocks, AppendsTypes, IsBits, IsBlocks, block_of, is_within, octet_bits, octets_bits}
+use Rattle.dns_value_text.specs.declared.text_error.TextError.TheVariants.{BadWord, OutOfMemory}
+use Rattle.dns_fields_read.specs.Reading.{FailsIf}
+use Rattle.dns_fields_read.specs.TypeBits.{AppendsBlock, AppendsBlocks, AppendsTypes, FailsAsTypes, IsBits, IsBlocks, block_of, is_within, octet_bits, octets_bits}
 use Rattle.dns_fields_read.specs.TypeMapWords.{AreTypes, HasType, IsTypeMap, has}
 use Rattle.dns_fields_read.specs.TypeWords.{IsTypeWord}
 use Rattle.dns_fields_read.proofs.BlockLemmas.{block_bytes, map_more, more_blocks, weaken}
@@ -306,12 +309,48 @@ types_more (word ∷ words) d old pushed new k (Ok u) some is e a = (
   ((k, (is k).1 refl), a.2),
   λ n. (λ h. has_type word words k a.0 is a.3 n (k == n) refl h, λ h. type_has word words k a.0 is a.3 n h),
 )
-types_more (word ∷ words) d old pushed new k (Err f) some is e (inl memory) = inl memory
+types_more (word ∷ words) d old pushed new k (Err f) some is e (inl memory) = inl (memory.0, ((k, (is k).1 refl), memory.1))
 types_more (word ∷ words) d old pushed new k (Err f) some is e (inr bad) = inr (bad.0, λ all. bad.1 all.1)
 
 pub no_types : (words : List (Bor (List ℕ))) (d : Bor (List ℕ)) → 1 ≤ length words → ((n : ℕ) → IsTypeWord (get_or words 0 d).now n ↔ (None ≡ Some n)) → ¬ (AreTypes words)
 no_types [] d some none all = omega arith
 no_types (word ∷ words) d some none all = let e = (none all.0.0).0 all.0.1 in cc e
+
+-- the word at an index
+module _ (words : List (Bor (List ℕ))) (i : ℕ) (d : Bor (List ℕ)) (within : i < length words) where
+  split_there : drop i words ≡ get_or words i d ∷ drop (i + 1) words
+  split_there = drop_more words i d within
+
+  pub type_at : (old pushed new : List ℕ) (k : ℕ) (result : Result Unit TextError) → ((n : ℕ) → IsTypeWord (get_or words i d).now n ↔ (Some k ≡ Some n)) → pushed ≡ old ++ k ∷ []
+      → AppendsTypes (drop (i + 1) words) pushed new result → AppendsTypes (drop i words) old new result
+  type_at old pushed new k result is e a =
+      subst (λ (ws : List (Bor (List ℕ))). AppendsTypes ws old new result) (sym split_there) (types_more (get_or words i d ∷ drop (i + 1) words) d old pushed new k result (omega arith) is e a)
+
+  none_there : ((n : ℕ) → IsTypeWord (get_or words i d).now n ↔ (None ≡ Some n)) → ¬ (AreTypes (drop i words))
+  none_there none all = no_types (get_or words i d ∷ drop (i + 1) words) d (omega arith) none (subst AreTypes split_there all)
+
+  pub type_wrong : (old new : List ℕ) → ((n : ℕ) → IsTypeWord (get_or words i d).now n ↔ (None ≡ Some n)) → AppendsTypes (drop i words) old new (Err BadWord)
+  type_wrong old new none = inr (refl, none_there none)
+
+  pub types_left : (k : ℕ) → ((n : ℕ) → IsTypeWord (get_or words i d).now n ↔ (Some k ≡ Some n)) → AreTypes words ↔ AreTypes (drop i words) → AreTypes words ↔ AreTypes (drop (i + 1) words)
+  types_left k is left = (
+    λ all. (subst AreTypes split_there (left.0 all)).1,
+    λ after. left.1 (subst AreTypes (sym split_there) ((k, (is k).1 refl), after)),
+  )
+
+  pub types_none : ((n : ℕ) → IsTypeWord (get_or words i d).now n ↔ (None ≡ Some n)) → AreTypes words ↔ AreTypes (drop i words) → IsTrue false ↔ AreTypes words
+  types_none none left = (λ t. absurd (cc t), λ all. absurd (none_there none (left.0 all)))
+
+pub types_end : (words : List (Bor (List ℕ))) (i : ℕ) (now : List ℕ) (u : Unit {0}) → length words ≤ i → AppendsTypes (drop i words) now now (Ok u)
+types_end words i now u past =
+    subst (λ (ws : List (Bor (List ℕ))). AppendsTypes ws now now (Ok u)) (sym (drop_all i words past)) ([], sym (append-nil now), tt, λ n. (λ h. absurd (cc h), λ h. absurd h))
+
+pub types_all : (words : List (Bor (List ℕ))) (i : ℕ) → length words ≤ i → AreTypes words ↔ AreTypes (drop i words) → IsTrue true ↔ AreTypes words
+types_all words i past left = (λ t. left.1 (subst AreTypes (sym (drop_all i words past)) tt), λ all. refl)
+
+pub why_types : (words : List (Bor (List ℕ))) (b : Bool) (e : TextError) → e ≡ (if b then OutOfMemory else BadWord) → IsTrue b ↔ AreTypes words → FailsAsTypes words e
+why_types words true e is all = inl (is, all.0 refl)
+why_types words false e is all = inr (is, λ are. cc (all.1 are))
 
 -- the map of types
 all_small : (n : ℕ) → n < 65536 → (nat_le 0 n && nat_lt n 65536) ≡ true
@@ -336,6 +375,11 @@ map_read words start types slice blank map u v none empty same a b =
     map_is words types map a.2
     (subst (λ (ts : List ℕ). (n : ℕ) → has ts n ≡ true ↔ HasType words n) (sym whole) a.3)
     (subst (IsBlocks (has types) 0) (sym blocks) (subst (λ (ts : List ℕ). IsBlocks (has ts) 0 b.0) same b.1))
+
+-- why no map is read
+pub types_fail : (words : List (Bor (List ℕ))) (e : TextError) → FailsAsTypes words e → FailsIf (AreTypes words) (IsTypeMap words) e
+types_fail words e (inl memory) = inl memory
+types_fail words e (inr bad) = inr (bad.0, λ octets is. bad.1 is.types)
 
 -- no octets, and a block of some
 pub empty_is : (xs : List ℕ) → length xs ≡ 0 → xs ≡ []

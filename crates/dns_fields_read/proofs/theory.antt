@@ -12,3 +12,4 @@ pub mod SpaceLemmas
 pub mod StringLaws
 pub mod StringLemmas
 pub mod TypeMapLaws
+pub mod WordLists

@@ -4,7 +4,7 @@ use Rattle.std.specs.Str.{str_to_ascii_uppercase}
 use Rattle.hex.specs.Hex.{IsBytes}
 use Rattle.dns_value_text.specs.Base32.{base32_digits, base32_text}
 use Rattle.dns_value_text.specs.declared.text_error.TextError.{TextError}
-use Rattle.dns_value_text.specs.declared.text_error.TextError.TheVariants.{BadWord, OutOfMemory}
+use Rattle.dns_fields_read.specs.Reading.{Fails}
 
 -- the word is the printed text of the octets, ignoring ASCII case
 abbrev pub IsBase32 : List ℕ → List ℕ → Type 0
@@ -27,8 +27,8 @@ IsGroupSize n size spare =
     ⊎ (((n ≡ 5) × (size ≡ 3) × (spare ≡ 2))
     ⊎ (((n ≡ 7) × (size ≡ 4) × (spare ≡ 8)) ⊎ ((n ≡ 8) × (size ≡ 5) × (spare ≡ 1)))))
 
--- the octets that the digits represent are appended, or the digits represent none, or an allocation fails
+-- the octets that the digits represent are appended, or why there are none
 abbrev pub AppendsBase32 : List ℕ → List ℕ → List ℕ → Result Unit TextError → Type 0
 AppendsBase32 digits old new result =
     MatchResult result (λ _. (octets : List ℕ) × (new ≡ old ++ octets) × IsBase32 digits octets)
-    (λ error. (error ≡ OutOfMemory) ⊎ ((error ≡ BadWord) × ((octets : List ℕ) → ¬ (IsBase32 digits octets))))
+    (Fails (IsBase32 digits))

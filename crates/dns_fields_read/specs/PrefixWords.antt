@@ -5,8 +5,8 @@ use Rattle.std.specs.Net.Grammar.{IsDotted, IsNumber}
 use Rattle.dns_fields_text.specs.PrefixItems.{PrefixItem}
 use Rattle.dns_fields_text.specs.Prefixes.{has_word, padded, sign}
 use Rattle.dns_value_text.specs.declared.text_error.TextError.{TextError}
-use Rattle.dns_value_text.specs.declared.text_error.TextError.TheVariants.{BadWord, OutOfMemory}
 use Rattle.dns_fields_read.specs.Addresses.{IsIpv6Word}
+use Rattle.dns_fields_read.specs.Reading.{AppendsOctetsIf, Fails, HasValue}
 
 -- a prefix as octets: its family, its size, a bit for its sign beside the number of the octets of its address, and these. RFC 3123 section 4
 abbrev pub prefix_octets : PrefixItem → List ℕ
@@ -42,14 +42,17 @@ pub record SplitsSign (word : List ℕ) (negated : Bool) (after : List ℕ) : Ty
   pub whole : word ≡ (if negated then codes "!" else []) ++ after
   pub first : negated ≡ false → slice_index word 0 ≢ 33
 
--- the octets of a prefix are appended, or there is no such prefix, or an allocation fails
+-- the octets of a prefix are appended, or why there is no such prefix
 abbrev pub AppendsPrefix : (PrefixItem → Type 0) → List ℕ → List ℕ → Result Unit TextError → Type 0
 AppendsPrefix Is old new result =
     MatchResult result (λ _. (item : PrefixItem) × Is item × (new ≡ old ++ prefix_octets item))
-    (λ error. (error ≡ OutOfMemory) ⊎ ((error ≡ BadWord) × ((item : PrefixItem) → ¬ (Is item))))
+    (Fails Is)
 
--- the same of consecutive prefixes
+-- the first word, if there is one, represents a prefix
+abbrev pub BeginsWithPrefix : List (Bor (List ℕ)) → Type 0
+BeginsWithPrefix [] = Unit {0}
+BeginsWithPrefix (word ∷ words) = HasValue (IsPrefixWord word.now)
+
+-- the octets of consecutive prefixes are appended, or why there are none
 abbrev pub AppendsPrefixes : List (Bor (List ℕ)) → List ℕ → List ℕ → Result Unit TextError → Type 0
-AppendsPrefixes words old new result =
-    MatchResult result (λ _. (octets : List ℕ) × (new ≡ old ++ octets) × ArePrefixWords words octets)
-    (λ error. (error ≡ OutOfMemory) ⊎ ((error ≡ BadWord) × ((octets : List ℕ) → ¬ (ArePrefixWords words octets))))
+AppendsPrefixes words old new result = AppendsOctetsIf (BeginsWithPrefix words) (ArePrefixWords words) old new result

@@ -3,7 +3,9 @@ use Rattle.std.specs.Prelude.{◌≡◌, ℕ, ◌<◌, List, [], ◌∷◌, leng
 use Rattle.std.specs.Borrow.{Bor}
 use Rattle.std.specs.Net.Grammar.{IsNumber}
 use Rattle.dns_value_text.specs.Octets.{IsBase64}
+use Rattle.dns_fields_read.specs.GatewayWords.{IsNumberTo}
 use Rattle.dns_fields_read.specs.LengthOctets.{sized}
+use Rattle.dns_fields_read.specs.Reading.{HasValue}
 
 -- the word is octets in base64, and a length of 16 bits counts them; there is one at least
 abbrev pub IsCountedBase64 : List ℕ → List ℕ → Type 0
@@ -14,6 +16,12 @@ abbrev pub AreSized : List (Bor (List ℕ)) → List ℕ → Type 0
 AreSized (number ∷ []) octets = IsNumber 10 number.now 0 × (octets ≡ [])
 AreSized (number ∷ word ∷ []) octets = IsNumber 10 number.now (length octets) × IsCountedBase64 word.now octets
 AreSized _ octets = ⊥
+
+-- what is known of the words if an allocation fails: they are a zero, or a number of at most 65,535 and another word
+abbrev pub MayBeSized : List (Bor (List ℕ)) → Type 0
+MayBeSized (number ∷ []) = IsNumber 10 number.now 0
+MayBeSized (number ∷ word ∷ []) = HasValue (IsNumberTo 65535 number.now)
+MayBeSized _ = ⊥
 
 -- the words represent octets, and these are the octets after their length
 abbrev pub IsSizedWords : List (Bor (List ℕ)) → List ℕ → Type 0

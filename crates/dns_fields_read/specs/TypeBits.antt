@@ -56,12 +56,16 @@ abbrev pub AppendsBlocks : (ℕ → Bool) → ℕ → List ℕ → List ℕ → 
 AppendsBlocks p window old new result =
     MatchResult result (λ _. (blocks : List ℕ) × IsBlocks p window blocks × (new ≡ old ++ blocks)) (λ error. error ≡ OutOfMemory)
 
--- the types of the words are appended, or a word represents none, or an allocation fails
+-- why there are no types: `BadWord` if a word represents none. `OutOfMemory` if an allocation fails, where each word represents one.
+abbrev pub FailsAsTypes : List (Bor (List ℕ)) → TextError → Type 0
+FailsAsTypes words error = ((error ≡ OutOfMemory) × AreTypes words) ⊎ ((error ≡ BadWord) × ¬ (AreTypes words))
+
+-- the types of the words are appended, or why there are none
 abbrev pub AppendsTypes : List (Bor (List ℕ)) → List ℕ → List ℕ → Result Unit TextError → Type 0
 AppendsTypes words old new result =
     MatchResult result
     (λ _. (types : List ℕ) × (new ≡ old ++ types) × AreTypes words × ((n : ℕ) → has types n ≡ true ↔ HasType words n))
-    (λ error. (error ≡ OutOfMemory) ⊎ ((error ≡ BadWord) × ¬ (AreTypes words)))
+    (FailsAsTypes words)
 
 -- whether the type is from 1 to 127
 abbrev pub is_small_type : ℕ → Bool

@@ -1,9 +1,9 @@
 //! Appending octets to those of a value.
-ghost use Rattle.std.specs.Prelude.{◌≡◌, ◌++◌, IfErr, OnOk};
+ghost use Rattle.std.specs.Prelude.{◌≡◌, ◌++◌, IfErr, OnOk, if◌then◌else◌};
 ghost use Rattle.dns_fields_read.specs.Base32Words.{last_octets};
 ghost use Rattle.dns_fields_read.specs.NameWords.{IsNameWord};
 ghost use Rattle.dns_fields_read.specs.Reading.{AppendsOctets};
-ghost use Rattle.dns_value_text.specs.declared.text_error.TextError.TheVariants.{OutOfMemory};
+ghost use Rattle.dns_value_text.specs.declared.text_error.TextError.TheVariants.{BadWord, OutOfMemory};
 
 use crate::name::read_name;
 use dns_value_text::TextError;
@@ -32,6 +32,18 @@ pub fn push_last(octets: &mut Vec<u8>, size: u8, number: u64) -> Result<(), Text
         return Err(TextError::OutOfMemory);
     }
     Ok(())
+}
+
+/// Why words aren't read when appending what they represent fails. `represents` says whether they
+/// represent a value.
+pub(crate) fn failure(represents: bool) -> TextError
+    ensures { result ≡ (if represents then OutOfMemory else BadWord) }
+{
+    if represents {
+        TextError::OutOfMemory
+    } else {
+        TextError::BadWord
+    }
 }
 
 /// Appends the uncompressed octets of the name that a word represents.

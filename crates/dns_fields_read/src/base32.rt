@@ -1,13 +1,12 @@
 //! Octets in base32 with the extended hexadecimal alphabet and without padding (RFC 4648 section 7,
 //! RFC 5155 section 3.3).
-ghost use Rattle.std.specs.Prelude.{ℕ, ◌≡◌, ◌<◌, ◌≤◌, length, true, MatchOption};
+ghost use Rattle.std.specs.Prelude.{ℕ, List, ◌≡◌, ◌↔◌, ◌<◌, ◌≤◌, IsTrue, length, true, MatchOption};
 ghost use Rattle.std.specs.Char.{to_ascii_uppercase};
 ghost use Rattle.std.specs.Fmt.{digit_glyph};
-ghost use Rattle.dns_value_text.specs.Reading.{ReadsOctets};
-ghost use Rattle.dns_fields_read.specs.Base32Words.{AppendsBase32, IsBase32, IsDigits, IsGroupSize};
-ghost use Rattle.dns_fields_read.specs.Reading.{Reads};
+ghost use Rattle.dns_fields_read.specs.Base32Words.{AppendsBase32, IsBase32, IsDigits, IsGroupSize, last_octets};
+ghost use Rattle.dns_fields_read.specs.Reading.{HasValue, Reads, ReadsWords};
 
-use crate::append::push_last;
+use crate::append::{failure, push_last};
 use dns_value_text::TextError;
 use std::alloc::Global;
 
@@ -57,22 +56,52 @@ fn group_size(digits: usize) -> Option<(u8, u64)>
     }
 }
 
+/// How many octets at most eight digits represent, one at least, and the number of these octets.
+fn read_group(digits: &[u8]) -> Option<(u8, u64)>
+    requires some { 0 < length digits.now }
+    requires few { length digits.now ≤ 8 }
+    ensures { MatchOption result ((octets : List ℕ) → ¬ (IsBase32 digits.now octets))
+        (λ group. IsBase32 digits.now (last_octets group.0 group.1)) }
+{
+    let Some((size, spare)) = group_size(digits.len()) else {
+        return None;
+    };
+    let Some(number) = read_digits(digits) else {
+        return None;
+    };
+    if number % spare != 0 {
+        return None;
+    }
+    Some((size, number / spare))
+}
+
 /// Appends the octets of at most eight digits, one at least.
 fn push_group(octets: &mut Vec<u8>, digits: &[u8]) -> Result<(), TextError>
     requires some { 0 < length digits.now }
     requires few { length digits.now ≤ 8 }
     ensures { AppendsBase32 digits.now octets.old.items octets.new.items result }
 {
-    let Some((size, spare)) = group_size(digits.len()) else {
+    let Some((size, number)) = read_group(digits) else {
         return Err(TextError::BadWord);
     };
-    let Some(number) = read_digits(digits) else {
-        return Err(TextError::BadWord);
-    };
-    if number % spare != 0 {
-        return Err(TextError::BadWord);
+    push_last(octets, size, number)
+}
+
+/// Whether the digits represent octets.
+fn is_base32(digits: &[u8]) -> bool
+    ensures { IsTrue result ↔ HasValue (IsBase32 digits.now) }
+{
+    if digits.is_empty() {
+        return true;
     }
-    push_last(octets, size, number / spare)
+    if digits.len() <= 8 {
+        return read_group(digits).is_some();
+    }
+    let (group, after) = digits.split_at(8);
+    match read_group(group) {
+        Some(_) => is_base32(after),
+        None => false,
+    }
 }
 
 /// Appends the octets of digits.
@@ -88,13 +117,13 @@ fn push_digits(octets: &mut Vec<u8>, digits: &[u8]) -> Result<(), TextError>
     let (group, after) = digits.split_at(8);
     match push_group(octets, group) {
         Ok(()) => push_digits(octets, after),
-        Err(error) => Err(error),
+        Err(_) => Err(failure(is_base32(digits))),
     }
 }
 
 /// The octets of base32 digits without padding, in either case.
 pub(crate) fn read_base32(alloc: Global, word: &str) -> Result<Vec<u8>, TextError>
-    ensures { ReadsOctets (IsBase32 word.now) result }
+    ensures { ReadsWords (IsBase32 word.now) result }
 {
     let mut octets = Vec::new(alloc);
     match push_digits(&mut octets, word.as_bytes()) {

@@ -1,14 +1,15 @@
 //! Gateways and relays (RFC 4025 section 3.1, RFC 8777 section 4.3.1).
+ghost use Rattle.std.specs.Prelude.{◌↔◌, ⊤, IsTrue};
 ghost use Rattle.std.specs.Net.Grammar.{IsDotted};
 ghost use Rattle.dns_fields_read.specs.Addresses.{IsIpv6Word};
-ghost use Rattle.dns_fields_read.specs.GatewayWords.{IsGateway, IsGatewayAndKey, IsGatewayOf, IsNumberTo, IsRelay, IsRelayOf};
+ghost use Rattle.dns_fields_read.specs.GatewayWords.{IsGateway, IsGatewayAndKey, IsGatewayOf, IsNumberTo, IsRelay, IsRelayOf, MayBeGateway, MayBeGatewayAndKey};
 ghost use Rattle.dns_fields_read.specs.JoinedWords.{AreBase64};
-ghost use Rattle.dns_fields_read.specs.Reading.{AppendsOctets, Reads};
-ghost use Rattle.dns_value_text.specs.Reading.{ReadsOctets};
+ghost use Rattle.dns_fields_read.specs.Reading.{AppendsOctets, AppendsOctetsIf, HasValue, Reads, ReadsWords, ReadsWordsIf};
 
 use crate::address::{read_ipv4, read_ipv6};
 use crate::append::{push_name, push_octets};
 use crate::joined::read_base64_words;
+use crate::name::read_name;
 use dns_value_text::{TextError, read_number};
 use std::alloc::Global;
 
@@ -42,6 +43,19 @@ fn push_ipv6(octets: &mut Vec<u8>, word: &str) -> Result<(), TextError>
     push_octets(octets, &address)
 }
 
+/// Whether the word is a gateway of this type.
+fn is_gateway(gateway_type: u8, word: &str) -> bool
+    ensures { IsTrue result ↔ HasValue (IsGatewayOf gateway_type word.now) }
+{
+    match gateway_type {
+        0 => word == ".",
+        1 => read_ipv4(word.as_bytes()).is_some(),
+        2 => read_ipv6(word.as_bytes()).is_some(),
+        3 => read_name(word).is_some(),
+        _ => false,
+    }
+}
+
 /// Appends the gateway of this type that a word represents.
 fn push_gateway(octets: &mut Vec<u8>, gateway_type: u8, word: &str) -> Result<(), TextError>
     ensures { AppendsOctets (IsGatewayOf gateway_type word.now) octets.old.items octets.new.items
@@ -64,7 +78,8 @@ fn push_gateway(octets: &mut Vec<u8>, gateway_type: u8, word: &str) -> Result<()
 
 /// Appends the public key that words represent.
 fn push_key(alloc: Global, octets: &mut Vec<u8>, words: &[&str]) -> Result<(), TextError>
-    ensures { AppendsOctets (AreBase64 words.now) octets.old.items octets.new.items result }
+    ensures { AppendsOctetsIf ⊤ (AreBase64 words.now) octets.old.items octets.new.items
+        result }
 {
     let key = read_base64_words(alloc, words)?;
     push_octets(octets, key.as_slice())
@@ -78,8 +93,8 @@ fn read_gateway_and_key(
     gateway: &str,
     key: &[&str],
 ) -> Result<Vec<u8>, TextError>
-    ensures { ReadsOctets (IsGatewayAndKey gateway_type.now algorithm.now gateway.now key.now)
-        result }
+    ensures { ReadsWordsIf (MayBeGatewayAndKey gateway_type.now algorithm.now gateway.now)
+        (IsGatewayAndKey gateway_type.now algorithm.now gateway.now key.now) result }
 {
     let Some(gateway_type) = read_octet(gateway_type, 3) else {
         return Err(TextError::BadWord);
@@ -87,17 +102,26 @@ fn read_gateway_and_key(
     let Some(algorithm) = read_octet(algorithm, 255) else {
         return Err(TextError::BadWord);
     };
+    if !is_gateway(gateway_type, gateway) {
+        return Err(TextError::BadWord);
+    }
     let mut octets = Vec::new(alloc);
-    push_octets(&mut octets, &[gateway_type, algorithm])?;
-    push_gateway(&mut octets, gateway_type, gateway)?;
-    push_key(alloc, &mut octets, key)?;
-    Ok(octets)
+    if let Err(error) = push_octets(&mut octets, &[gateway_type, algorithm]) {
+        return Err(error);
+    }
+    if let Err(error) = push_gateway(&mut octets, gateway_type, gateway) {
+        return Err(error);
+    }
+    match push_key(alloc, &mut octets, key) {
+        Ok(()) => Ok(octets),
+        Err(error) => Err(error),
+    }
 }
 
 /// A gateway and its public key. The words are the gateway type, the algorithm, the gateway and the
 /// key in base64. No gateway is a dot, and a key of no octets has no word.
 pub fn read_gateway(alloc: Global, words: &[&str]) -> Result<Vec<u8>, TextError>
-    ensures { ReadsOctets (IsGateway words.now) result }
+    ensures { ReadsWordsIf (MayBeGateway words.now) (IsGateway words.now) result }
 {
     let [gateway_type, algorithm, gateway, key @ ..] = words else {
         return Err(TextError::BadWord);
@@ -112,7 +136,7 @@ fn read_typed_relay(
     relay_type: &str,
     relay: &str,
 ) -> Result<Vec<u8>, TextError>
-    ensures { ReadsOctets (IsRelayOf bit.now relay_type.now relay.now) result }
+    ensures { ReadsWords (IsRelayOf bit.now relay_type.now relay.now) result }
 {
     let Some(bit) = read_octet(bit, 1) else {
         return Err(TextError::BadWord);
@@ -120,16 +144,23 @@ fn read_typed_relay(
     let Some(relay_type) = read_octet(relay_type, 3) else {
         return Err(TextError::BadWord);
     };
+    if !is_gateway(relay_type, relay) {
+        return Err(TextError::BadWord);
+    }
     let mut octets = Vec::new(alloc);
-    push_octets(&mut octets, &[bit * 128 + relay_type])?;
-    push_gateway(&mut octets, relay_type, relay)?;
-    Ok(octets)
+    if let Err(error) = push_octets(&mut octets, &[bit * 128 + relay_type]) {
+        return Err(error);
+    }
+    match push_gateway(&mut octets, relay_type, relay) {
+        Ok(()) => Ok(octets),
+        Err(error) => Err(error),
+    }
 }
 
 /// A relay. The words are a bit that says whether discovery is optional, the relay type and the
 /// relay.
 pub fn read_relay(alloc: Global, words: &[&str]) -> Result<Vec<u8>, TextError>
-    ensures { ReadsOctets (IsRelay words.now) result }
+    ensures { ReadsWords (IsRelay words.now) result }
 {
     match words {
         [bit, relay_type, relay] => read_typed_relay(alloc, bit, relay_type, relay),

@@ -1,41 +1,39 @@
 //! Host identities (RFC 8005 section 6).
-ghost use Rattle.std.specs.Prelude.{◌≡◌, ◌++◌, ◌<◌, length, IfErr, OnOk};
-ghost use Rattle.dns_fields_read.specs.IdentityWords.{AreNames, IsCountedHex, IsHostIdentity, IsIdentity, identity_octets};
-ghost use Rattle.dns_fields_read.specs.Reading.{AppendsOctets};
-ghost use Rattle.dns_value_text.specs.Reading.{ReadsOctets};
+ghost use Rattle.std.specs.Prelude.{◌≡◌, ◌↔◌, ◌++◌, ◌<◌, IsTrue, length, IfErr, OnOk};
+ghost use Rattle.dns_fields_read.specs.IdentityWords.{AreNames, IsHostIdentity, IsIdentity, MayBeHostIdentity, MayBeIdentity, identity_octets};
+ghost use Rattle.dns_fields_read.specs.Reading.{AppendsOctets, HasValue, ReadsWordsIf};
 ghost use Rattle.dns_value_text.specs.declared.text_error.TextError.TheVariants.{OutOfMemory};
 
-use crate::append::{push_name, push_octets};
+use crate::append::{failure, push_name, push_octets};
 use crate::gateway::read_octet;
+use crate::name::read_name;
+use crate::salt::read_counted_hex;
 use crate::sized::read_counted_base64;
-use dns_value_text::{TextError, read_hex};
+use dns_value_text::TextError;
 use std::alloc::Global;
 
-/// The greatest number that a length octet counts.
-const MOST_OCTETS: usize = 255;
-
-/// From 1 to 255 octets of hexadecimal digits, in either case.
-fn read_counted_hex(alloc: Global, word: &str) -> Result<Vec<u8>, TextError>
-    ensures { ReadsOctets (IsCountedHex word.now) result }
+/// Whether the words are names.
+fn are_names(words: &[&str]) -> bool
+    ensures { IsTrue result ↔ HasValue (AreNames words.now) }
 {
-    let octets = read_hex(alloc, word)?;
-    if octets.is_empty() || octets.len() > MOST_OCTETS {
-        return Err(TextError::BadWord);
+    for word in words {
+        let Some(_name) = read_name(word) else {
+            return false;
+        };
     }
-    Ok(octets)
+    true
 }
 
 /// Appends the uncompressed octets of the names that words represent.
 fn push_names(octets: &mut Vec<u8>, words: &[&str]) -> Result<(), TextError>
     ensures { AppendsOctets (AreNames words.now) octets.old.items octets.new.items result }
 {
-    let [word, after @ ..] = words else {
-        return Ok(());
-    };
-    match push_name(octets, word) {
-        Ok(()) => push_names(octets, after),
-        Err(error) => Err(error),
+    for word in words {
+        let Ok(()) = push_name(octets, word) else {
+            return Err(failure(are_names(words)));
+        };
     }
+    Ok(())
 }
 
 /// Appends the sizes of a tag and of a key with the algorithm between them, the tag and the key.
@@ -71,23 +69,37 @@ fn read_identity(
     key: &str,
     servers: &[&str],
 ) -> Result<Vec<u8>, TextError>
-    ensures { ReadsOctets (IsIdentity algorithm.now tag.now key.now servers.now) result }
+    ensures { ReadsWordsIf (MayBeIdentity algorithm.now tag.now servers.now)
+        (IsIdentity algorithm.now tag.now key.now servers.now) result }
 {
     let Some(algorithm) = read_octet(algorithm, 255) else {
         return Err(TextError::BadWord);
     };
-    let tag = read_counted_hex(alloc, tag)?;
-    let key = read_counted_base64(alloc, key)?;
+    if !are_names(servers) {
+        return Err(TextError::BadWord);
+    }
+    let tag = match read_counted_hex(alloc, tag) {
+        Ok(tag) => tag,
+        Err(error) => return Err(error),
+    };
+    let key = match read_counted_base64(alloc, key) {
+        Ok(key) => key,
+        Err(error) => return Err(error),
+    };
     let mut octets = Vec::new(alloc);
-    push_identity(&mut octets, algorithm, tag.as_slice(), key.as_slice())?;
-    push_names(&mut octets, servers)?;
-    Ok(octets)
+    if let Err(error) = push_identity(&mut octets, algorithm, tag.as_slice(), key.as_slice()) {
+        return Err(error);
+    }
+    match push_names(&mut octets, servers) {
+        Ok(()) => Ok(octets),
+        Err(error) => Err(error),
+    }
 }
 
 /// A host identity. The words are the algorithm, the tag in hexadecimal, the key in base64 and the
 /// names of rendezvous servers.
 pub fn read_host_identity(alloc: Global, words: &[&str]) -> Result<Vec<u8>, TextError>
-    ensures { ReadsOctets (IsHostIdentity words.now) result }
+    ensures { ReadsWordsIf (MayBeHostIdentity words.now) (IsHostIdentity words.now) result }
 {
     let [algorithm, tag, key, servers @ ..] = words else {
         return Err(TextError::BadWord);

@@ -1,8 +1,8 @@
 //! Address prefixes (RFC 3123 section 5).
 ghost use Rattle.std.specs.Prelude.{◌≡◌, ◌≤◌, ◌-◌, ◌++◌, true, length, replicate, IfErr, OnOk};
 ghost use Rattle.dns_fields_text.specs.Prefixes.{is_trimmed};
-ghost use Rattle.dns_fields_read.specs.PrefixWords.{AppendsPrefix, AppendsPrefixes, ArePrefixWords, IsPrefixOf, IsPrefixWord, SplitsSign, prefix_octets};
-ghost use Rattle.dns_value_text.specs.Reading.{ReadsOctets};
+ghost use Rattle.dns_fields_read.specs.PrefixWords.{AppendsPrefix, AppendsPrefixes, ArePrefixWords, BeginsWithPrefix, IsPrefixOf, IsPrefixWord, SplitsSign, prefix_octets};
+ghost use Rattle.dns_fields_read.specs.Reading.{ReadsWordsIf};
 ghost use Rattle.dns_value_text.specs.declared.text_error.TextError.TheVariants.{OutOfMemory};
 
 use crate::address::{read_ipv4, read_ipv6};
@@ -121,19 +121,18 @@ fn push_prefix(octets: &mut Vec<u8>, word: &str) -> Result<(), TextError>
 fn push_prefixes(octets: &mut Vec<u8>, words: &[&str]) -> Result<(), TextError>
     ensures { AppendsPrefixes words.now octets.old.items octets.new.items result }
 {
-    let [word, after @ ..] = words else {
-        return Ok(());
-    };
-    match push_prefix(octets, word) {
-        Ok(()) => push_prefixes(octets, after),
-        Err(error) => Err(error),
+    for word in words {
+        if let Err(error) = push_prefix(octets, word) {
+            return Err(error);
+        }
     }
+    Ok(())
 }
 
 /// Address prefixes: for each word an optional exclamation mark, the address family, a colon, the
 /// address, a slash and the number of bits.
 pub fn read_prefixes(alloc: Global, words: &[&str]) -> Result<Vec<u8>, TextError>
-    ensures { ReadsOctets (ArePrefixWords words.now) result }
+    ensures { ReadsWordsIf (BeginsWithPrefix words.now) (ArePrefixWords words.now) result }
 {
     let mut octets = Vec::new(alloc);
     match push_prefixes(&mut octets, words) {

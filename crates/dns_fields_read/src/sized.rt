@@ -2,8 +2,9 @@
 ghost use Rattle.std.specs.Prelude.{◌≡◌, ◌<◌, length, IfErr, IfOk, []};
 ghost use Rattle.std.specs.Net.Grammar.{IsNumber};
 ghost use Rattle.dns_fields_read.specs.LengthOctets.{sized};
-ghost use Rattle.dns_fields_read.specs.SizedWords.{AreSized, IsCountedBase64, IsSizedWords};
-ghost use Rattle.dns_value_text.specs.Reading.{ReadsOctets};
+ghost use Rattle.dns_fields_read.specs.GatewayWords.{IsNumberTo};
+ghost use Rattle.dns_fields_read.specs.Reading.{HasValue, ReadsWordsIf};
+ghost use Rattle.dns_fields_read.specs.SizedWords.{AreSized, IsCountedBase64, IsSizedWords, MayBeSized};
 ghost use Rattle.dns_value_text.specs.declared.text_error.TextError.TheVariants.{OutOfMemory};
 
 use crate::append::push_octets;
@@ -15,18 +16,23 @@ const MOST_OCTETS: usize = 65535;
 
 /// From 1 to 65,535 octets of base64 with padding.
 pub(crate) fn read_counted_base64(alloc: Global, word: &str) -> Result<Vec<u8>, TextError>
-    ensures { ReadsOctets (IsCountedBase64 word.now) result }
+    ensures { ReadsWordsIf (0 < length word.now) (IsCountedBase64 word.now) result }
 {
-    let octets = read_base64(alloc, word)?;
-    if octets.is_empty() || octets.len() > MOST_OCTETS {
-        return Err(TextError::BadWord);
+    match read_base64(alloc, word) {
+        Ok(octets) => {
+            if octets.is_empty() || octets.len() > MOST_OCTETS {
+                return Err(TextError::BadWord);
+            }
+            Ok(octets)
+        }
+        Err(error) => Err(error),
     }
-    Ok(octets)
 }
 
 /// No octets, if the word is the number zero.
 fn read_none(alloc: Global, number: &str) -> Result<Vec<u8>, TextError>
-    ensures { ReadsOctets (λ octets. IsNumber 10 number.now 0 × (octets ≡ [])) result }
+    ensures { ReadsWordsIf (IsNumber 10 number.now 0)
+        (λ octets. IsNumber 10 number.now 0 × (octets ≡ [])) result }
 {
     match read_number(number, 0) {
         Some(_) => Ok(Vec::new(alloc)),
@@ -36,21 +42,28 @@ fn read_none(alloc: Global, number: &str) -> Result<Vec<u8>, TextError>
 
 /// The octets of base64, if the other word is their number.
 fn read_some(alloc: Global, number: &str, word: &str) -> Result<Vec<u8>, TextError>
-    ensures { ReadsOctets (λ octets. IsNumber 10 number.now (length octets)
-        × IsCountedBase64 word.now octets) result }
+    ensures { ReadsWordsIf (HasValue (IsNumberTo 65535 number.now))
+        (λ octets. IsNumber 10 number.now (length octets) × IsCountedBase64 word.now octets)
+        result }
 {
-    let octets = read_counted_base64(alloc, word)?;
-    let size = octets.len() as u64;
-    if read_number(number, size) == Some(size) {
-        Ok(octets)
-    } else {
-        Err(TextError::BadWord)
+    let Some(size) = read_number(number, MOST_OCTETS as u64) else {
+        return Err(TextError::BadWord);
+    };
+    match read_counted_base64(alloc, word) {
+        Ok(octets) => {
+            if octets.len() as u64 == size {
+                Ok(octets)
+            } else {
+                Err(TextError::BadWord)
+            }
+        }
+        Err(error) => Err(error),
     }
 }
 
 /// The octets that the words represent, without their number.
 fn read_octets(alloc: Global, words: &[&str]) -> Result<Vec<u8>, TextError>
-    ensures { ReadsOctets (AreSized words.now) result }
+    ensures { ReadsWordsIf (MayBeSized words.now) (AreSized words.now) result }
 {
     match words {
         [number] => read_none(alloc, number),
@@ -75,8 +88,10 @@ fn after_length(alloc: Global, octets: &[u8]) -> Result<Vec<u8>, TextError>
 /// Octets after their length of 16 bits. The words are their number and, if it isn't zero, the
 /// octets in base64.
 pub fn read_sized(alloc: Global, words: &[&str]) -> Result<Vec<u8>, TextError>
-    ensures { ReadsOctets (IsSizedWords words.now) result }
+    ensures { ReadsWordsIf (MayBeSized words.now) (IsSizedWords words.now) result }
 {
-    let octets = read_octets(alloc, words)?;
-    after_length(alloc, octets.as_slice())
+    match read_octets(alloc, words) {
+        Ok(octets) => after_length(alloc, octets.as_slice()),
+        Err(error) => Err(error),
+    }
 }

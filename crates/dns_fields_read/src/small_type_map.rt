@@ -2,8 +2,8 @@
 ghost use Rattle.std.specs.Prelude.{◌≡◌};
 ghost use Rattle.std.specs.List.{list_all};
 ghost use Rattle.dns_fields_read.specs.TypeBits.{IsSmallMap, have_small_map, is_small_type};
-ghost use Rattle.dns_fields_read.specs.TypeMapWords.{IsSmallTypeMap};
-ghost use Rattle.dns_value_text.specs.Reading.{ReadsOctets};
+ghost use Rattle.dns_fields_read.specs.Reading.{ReadsWords, ReadsWordsIf};
+ghost use Rattle.dns_fields_read.specs.TypeMapWords.{AreTypes, IsSmallTypeMap};
 
 use crate::prefix::trimmed;
 use crate::type_map::{push_octets, push_types};
@@ -34,7 +34,7 @@ fn have_small_map(types: &[u16]) -> bool
 
 /// The bit map of types.
 fn small_map(alloc: Global, types: &[u16]) -> Result<Vec<u8>, TextError>
-    ensures { ReadsOctets (IsSmallMap types.now) result }
+    ensures { ReadsWords (IsSmallMap types.now) result }
 {
     if !have_small_map(types) {
         return Err(TextError::BadWord);
@@ -51,7 +51,7 @@ fn small_map(alloc: Global, types: &[u16]) -> Result<Vec<u8>, TextError>
 /// The type bit map of the types of words, as NXT records have it: types from 1 to 127, one at
 /// least.
 pub fn read_small_type_map(alloc: Global, words: &[&str]) -> Result<Vec<u8>, TextError>
-    ensures { ReadsOctets (IsSmallTypeMap words.now) result }
+    ensures { ReadsWordsIf (AreTypes words.now) (IsSmallTypeMap words.now) result }
 {
     let mut types = Vec::new(alloc);
     if let Err(error) = push_types(&mut types, words) {

@@ -1,10 +1,11 @@
 //! Type bit maps (RFC 4034 section 4.2).
-ghost use Rattle.std.specs.Prelude.{◌≡◌, ◌==◌, ◌≤◌, ◌<◌, ◌+◌, ◌*◌, ◌/◌, ◌++◌, ℕ, length};
+ghost use Rattle.std.specs.Prelude.{◌≡◌, ◌↔◌, ◌==◌, ◌≤◌, ◌<◌, ◌+◌, ◌*◌, ◌/◌, ◌++◌, ℕ, IsTrue, length};
 ghost use Rattle.std.specs.List.{list_any};
 ghost use Rattle.dns_fields_read.specs.TypeBits.{AppendsBlock, AppendsBlocks, AppendsTypes, is_marked, octet_bits, octets_bits};
-ghost use Rattle.dns_fields_read.specs.TypeMapWords.{AppendsTypeMap, IsTypeMap, has};
-ghost use Rattle.dns_value_text.specs.Reading.{ReadsOctets};
+ghost use Rattle.dns_fields_read.specs.Reading.{ReadsWordsIf};
+ghost use Rattle.dns_fields_read.specs.TypeMapWords.{AppendsTypeMap, AreTypes, IsTypeMap, has};
 
+use crate::append::failure;
 use crate::prefix::trimmed;
 use crate::type_name::read_type;
 use arrayvec::ArrayVec;
@@ -106,20 +107,31 @@ fn push_blocks(map: &mut Vec<u8>, types: &[u16], window: u16) -> Result<(), Text
     }
 }
 
+/// Whether each of the words is a type.
+fn are_types(words: &[&str]) -> bool
+    ensures { IsTrue result ↔ AreTypes words.now }
+{
+    for word in words {
+        let Some(_rtype) = read_type(word) else {
+            return false;
+        };
+    }
+    true
+}
+
 /// Appends the types of words.
 pub(crate) fn push_types(types: &mut Vec<u16>, words: &[&str]) -> Result<(), TextError>
     ensures { AppendsTypes words.now types.old.items types.new.items result }
 {
-    let [word, after @ ..] = words else {
-        return Ok(());
-    };
-    let Some(rtype) = read_type(word) else {
-        return Err(TextError::BadWord);
-    };
-    if types.push(rtype.to_int()).is_err() {
-        return Err(TextError::OutOfMemory);
+    for word in words {
+        let Some(rtype) = read_type(word) else {
+            return Err(TextError::BadWord);
+        };
+        if types.push(rtype.to_int()).is_err() {
+            return Err(failure(are_types(words)));
+        }
     }
-    push_types(types, after)
+    Ok(())
 }
 
 /// Appends the type bit map of these types, which are in any order. Fails only if an allocation
@@ -132,7 +144,7 @@ pub fn push_type_map(map: &mut Vec<u8>, types: &[u16]) -> Result<(), TextError>
 
 /// The type bit map of the types of words.
 pub fn read_type_map(alloc: Global, words: &[&str]) -> Result<Vec<u8>, TextError>
-    ensures { ReadsOctets (IsTypeMap words.now) result }
+    ensures { ReadsWordsIf (AreTypes words.now) (IsTypeMap words.now) result }
 {
     let mut types = Vec::new(alloc);
     if let Err(error) = push_types(&mut types, words) {

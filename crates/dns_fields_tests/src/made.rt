@@ -141,6 +141,46 @@ fn says_what_is_wrong(rt: HostRuntime) {
     assert_eq!(rt; made.err(), Some(ValueError::TooLong));
 }
 
+/// Each kind of value that is too long or too large is `OutOfRange`, and not `OutOfMemory`.
+#[test]
+fn says_what_is_out_of_range(rt: HostRuntime) {
+    let alloc = rt.alloc();
+    let long = [97; 65536];
+    let tag = caa(alloc, 0, &long[..256], b"");
+    assert_eq!(rt; tag.err(), Some(ValueError::OutOfRange(1)));
+    let strings: [&[u8]; 2] = [b"", &long[..256]];
+    let made = txt(alloc, &strings);
+    assert_eq!(rt; made.err(), Some(ValueError::OutOfRange(0)));
+    let root = name(&rt, b"\x00");
+    let made = https(alloc, 1, &root, &[(3, b"\x00\x35"), (7, &long)]);
+    assert_eq!(rt; made.err(), Some(ValueError::OutOfRange(2)));
+    let short = AddressPrefix {
+        family: 1,
+        size: 0,
+        negated: false,
+        address: b"",
+    };
+    let other = AddressPrefix {
+        family: 1,
+        size: 0,
+        negated: false,
+        address: &long[..128],
+    };
+    let prefixes = [NewValue::Prefixes(&[short, other])];
+    assert_refused(&rt, alloc, Rtype::APL, &prefixes, ValueError::OutOfRange(0));
+    // RFC 8945 section 4.2: the MAC is the fourth field, the other data the last
+    let values = [
+        NewValue::Name(root.as_parsed()),
+        NewValue::Number(0),
+        NewValue::Number(300),
+        NewValue::Sized(&long),
+        NewValue::Number(0),
+        NewValue::Number(0),
+        NewValue::Sized(b""),
+    ];
+    assert_refused(&rt, alloc, Rtype::TSIG, &values, ValueError::OutOfRange(3));
+}
+
 /// An error prints this.
 fn assert_prints(rt: &impl Abort, alloc: Global, error: ValueError, expected: &str) {
     let printed = format!(in alloc; "{error}").expect(rt, "memory");

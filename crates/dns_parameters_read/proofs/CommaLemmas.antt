@@ -1,9 +1,9 @@
 -- Texts with commas between them.
 use Rattle.std.proofs.Common.{◌≡◌, ◌∙◌, ℕ, suc, ◌<◌, ◌==◌, Bool, true, false, cond, List, [], ◌∷◌, ◌++◌, length, refl, sym, ap, subst, arith, inl, inr, append_assoc, append-nil, ne_eqb}
-use Rattle.std.specs.Prelude.{Result, Ok, Err}
+use Rattle.std.specs.Prelude.{Result, Ok, Err, ⊤}
 use Rattle.std.proofs.lemmas.Bool.{cond-false}
 use Rattle.dns_value_text.specs.declared.text_error.TextError.{TextError}
-use Rattle.dns_fields_read.specs.Reading.{AppendsOctets}
+use Rattle.dns_fields_read.specs.Reading.{AppendsOctets, AppendsOctetsIf}
 use Rattle.dns_fields_read.proofs.theory.LastSplits.{Lacks}
 use Rattle.dns_parameters_read.specs.ParameterValues.{AreJoined, comma_texts, with_first}
 
@@ -51,20 +51,20 @@ last_text text others last whole none =
 -- octets that are joined
 module _ (Is : List ℕ → List ℕ → Type 0) where
   pub joined_one : (text : List ℕ) (texts : List (List ℕ)) (old new : List ℕ) (r : Result Unit TextError) → texts ≡ text ∷ [] → AppendsOctets (Is text) old new r
-      → AppendsOctets (AreJoined Is texts) old new r
+      → AppendsOctetsIf ⊤ (AreJoined Is texts) old new r
   joined_one text texts old new (Ok u) alone (octets, is, e) = (
     octets,
     subst (λ (ts : List (List ℕ)). AreJoined Is ts octets) (sym alone) (octets, [], is, sym (append-nil octets), refl),
     e,
   )
-  joined_one text texts old new (Err e) alone (inl memory) = inl memory
+  joined_one text texts old new (Err e) alone (inl memory) = inl (memory.0, tt)
   joined_one text texts old new (Err e) alone (inr bad) =
       inr (bad.0, λ octets are. bad.1 (are_first octets are).0 (are_first octets are).1) where
         are_first : (octets : List ℕ) → AreJoined Is texts octets → (first : List ℕ) × Is text first
         are_first octets are = let parts = subst (λ (ts : List (List ℕ)). AreJoined Is ts octets) alone are in (parts.0, parts.2)
 
   pub joined_more : (text : List ℕ) (texts all : List (List ℕ)) (old middle new : List ℕ) (u : Unit {0}) (r : Result Unit TextError) → all ≡ text ∷ texts
-      → AppendsOctets (Is text) old middle (Ok u) → AppendsOctets (AreJoined Is texts) middle new r → AppendsOctets (AreJoined Is all) old new r
+      → AppendsOctets (Is text) old middle (Ok u) → AppendsOctetsIf ⊤ (AreJoined Is texts) middle new r → AppendsOctetsIf ⊤ (AreJoined Is all) old new r
   joined_more text texts all old middle new u (Ok v) whole (first, is, e) (others, are, f) = (
     first ++ others,
     subst (λ (ts : List (List ℕ)). AreJoined Is ts (first ++ others)) (sym whole) (first, others, is, refl, are),
@@ -75,7 +75,7 @@ module _ (Is : List ℕ → List ℕ → Type 0) where
       inr (bad.0, λ octets are. let parts = subst (λ (ts : List (List ℕ)). AreJoined Is ts octets) whole are in bad.1 parts.1 parts.4)
 
   pub joined_none : (text : List ℕ) (texts all : List (List ℕ)) (old middle new : List ℕ) (e : TextError) → all ≡ text ∷ texts
-      → AppendsOctets (Is text) old middle (Err e) → AppendsOctets (AreJoined Is all) old new (Err e)
-  joined_none text texts all old middle new e whole (inl memory) = inl memory
+      → AppendsOctets (Is text) old middle (Err e) → AppendsOctetsIf ⊤ (AreJoined Is all) old new (Err e)
+  joined_none text texts all old middle new e whole (inl memory) = inl (memory.0, tt)
   joined_none text texts all old middle new e whole (inr bad) =
       inr (bad.0, λ octets are. let parts = subst (λ (ts : List (List ℕ)). AreJoined Is ts octets) whole are in bad.1 parts.0 parts.2)

@@ -1,15 +1,16 @@
 -- Names of a list with commas between them.
-use Rattle.std.proofs.Common.{◌≡◌, ◌∙◌, ◌≢◌, ℕ, ◌≤◌, ◌==◌, Bool, true, false, cond, List, [], ◌∷◌, ◌++◌, length, get_or, map, refl, sym, ap, subst, arith, inl, inr, append_assoc, append-nil, Option, Some, None}
-use Rattle.std.specs.Prelude.{Result, Ok, Err, codes, ◌||◌, if◌then◌else◌}
+use Rattle.std.proofs.Common.{◌≡◌, ◌∙◌, ◌≢◌, ℕ, ◌-◌, ◌<◌, ◌≤◌, ◌==◌, Bool, true, false, cond, take, drop, length-append, List, [], ◌∷◌, ◌++◌, length, get_or, map, refl, sym, ap, subst, arith, inl, inr, append_assoc, append-nil, Option, Some, None}
+use Rattle.std.specs.Prelude.{Result, Ok, Err, codes, ◌||◌, if◌then◌else◌, ⊤}
 use Rattle.std.specs.Global.{Vec}
 use Rattle.std.specs.List.{AllByRecursion, flat_map}
 use Rattle.std.proofs.lemmas.Bool.{cond-false, cond-true, eqb-true}
+use Rattle.std.proofs.lemmas.List.{take_all}
 use Rattle.std.proofs.lemmas.Option.{same_Some}
 use Rattle.dns_fields_text.specs.Separated.{separated}
 use Rattle.dns_value_text.specs.declared.text_error.TextError.{TextError}
 use Rattle.dns_value_text.specs.Reading.{ReadsOctets}
 use Rattle.dns_value_text.specs.Strings.{SpellsString}
-use Rattle.dns_fields_read.specs.Reading.{AppendsOctets}
+use Rattle.dns_fields_read.specs.Reading.{AppendsOctets, AppendsOctetsIf}
 use Rattle.dns_fields_read.specs.Salts.{IsCounted}
 use Rattle.dns_fields_read.proofs.theory.StringLemmas.{one_string}
 use Rattle.dns_parameters_read.specs.ParameterValues.{AreProtocols, IsAlpn, escaped}
@@ -74,6 +75,25 @@ from_by f o text after false false comma slash e =
 octet_from : (text after : List ℕ) (o : ℕ) → octet_at text ≡ split o after → text ≡ esc o ++ after
 octet_from [] after o e = absurd (cc e)
 octet_from (f ∷ text) after o e = from_by f o text after (f == 44) (f == 92) refl refl e
+
+-- the text after an octet, and after a comma, is shorter
+esc_some : (a b : Bool) (o : ℕ) → 0 < length (if a || b then 92 ∷ o ∷ [] else o ∷ [])
+esc_some true b o = omega arith
+esc_some false true o = omega arith
+esc_some false false o = omega arith
+
+pub octet_shorter : (text after : List ℕ) (o : ℕ) → octet_at text ≡ split o after → length after < length text
+octet_shorter text after o e =
+    let some = esc_some (o == 44) (o == 92) o in
+    omega (arith, ap length (octet_from text after o e), length-append (esc o) after, some)
+
+pub after_comma : (text : List ℕ) → 0 < length text → get_or text 0 0 ≡ 44 → text ≡ 44 ∷ take (length text - 1) (drop 1 text)
+after_comma [] some first = absurd (omega arith)
+after_comma (c ∷ text) some first =
+    ap (λ (x : ℕ). x ∷ text) first ∙ ap (λ (xs : List ℕ). 44 ∷ xs) (sym (take_all (length (c ∷ text) - 1) text (omega arith)))
+
+pub comma_shorter : (text : List ℕ) → 0 < length text → get_or text 0 0 ≡ 44 → length (take (length text - 1) (drop 1 text)) < length text
+comma_shorter text some first = omega (arith, ap length (after_comma text some first))
 
 -- the names after the first
 abbrev later : List (List ℕ) → List ℕ
@@ -221,14 +241,14 @@ module _ (name : List ℕ) where
       cc read
 
   -- what is appended
-  pub at_end : (text old new : List ℕ) (r : Result Unit TextError) → text ≡ [] → AppendsOctets (IsCountedName name) old new r → AppendsOctets (NamesFrom name text) old new r
+  pub at_end : (text old new : List ℕ) (r : Result Unit TextError) → text ≡ [] → AppendsOctets (IsCountedName name) old new r → AppendsOctetsIf ⊤ (NamesFrom name text) old new r
   at_end text old new (Ok u) empty (octets, is, e) = (octets, subst (λ (t : List ℕ). NamesFrom name t octets) (sym empty) (end_name octets is), e)
-  at_end text old new (Err e) empty (inl memory) = inl memory
+  at_end text old new (Err e) empty (inl memory) = inl (memory.0, tt)
   at_end text old new (Err e) empty (inr bad) =
       inr (bad.0, λ octets is. bad.1 octets (name_end octets (subst (λ (t : List ℕ). NamesFrom name t octets) empty is)))
 
   pub at_comma : (text rest old middle new : List ℕ) (u : Unit {0}) (r : Result Unit TextError) → text ≡ 44 ∷ rest → AppendsOctets (IsCountedName name) old middle (Ok u)
-      → AppendsOctets (NamesFrom [] rest) middle new r → AppendsOctets (NamesFrom name text) old new r
+      → AppendsOctetsIf ⊤ (NamesFrom [] rest) middle new r → AppendsOctetsIf ⊤ (NamesFrom name text) old new r
   at_comma text rest old middle new u (Ok v) whole (octets, is, e) (after, names, f) = (
     (length name ∷ name) ++ after,
     subst (λ (t : List ℕ). NamesFrom name t ((length name ∷ name) ++ after)) (sym whole) (comma_name rest after is.0 names),
@@ -243,8 +263,8 @@ module _ (name : List ℕ) where
             bad.1 split.0 split.3,
       )
 
-  pub at_bad_comma : (text rest old middle new : List ℕ) (e : TextError) → text ≡ 44 ∷ rest → AppendsOctets (IsCountedName name) old middle (Err e) → AppendsOctets (NamesFrom name text) old new (Err e)
-  at_bad_comma text rest old middle new e whole (inl memory) = inl memory
+  pub at_bad_comma : (text rest old middle new : List ℕ) (e : TextError) → text ≡ 44 ∷ rest → AppendsOctets (IsCountedName name) old middle (Err e) → AppendsOctetsIf ⊤ (NamesFrom name text) old new (Err e)
+  at_bad_comma text rest old middle new e whole (inl memory) = inl (memory.0, tt)
   at_bad_comma text rest old middle new e whole (inr bad) =
       inr (
         bad.0,
@@ -253,8 +273,8 @@ module _ (name : List ℕ) where
             bad.1 (length name ∷ name) (split.1, refl),
       )
 
-  pub at_octet : (text after longer old new : List ℕ) (o : ℕ) (r : Result Unit TextError) → octet_at text ≡ split o after → longer ≡ name ++ o ∷ [] → AppendsOctets (NamesFrom longer after) old new r
-      → AppendsOctets (NamesFrom name text) old new r
+  pub at_octet : (text after longer old new : List ℕ) (o : ℕ) (r : Result Unit TextError) → octet_at text ≡ split o after → longer ≡ name ++ o ∷ [] → AppendsOctetsIf ⊤ (NamesFrom longer after) old new r
+      → AppendsOctetsIf ⊤ (NamesFrom name text) old new r
   at_octet text after longer old new o (Ok u) begins same (octets, names, e) = (
     octets,
     octet_name text after octets o begins (subst (λ (n : List ℕ). NamesFrom n after octets) same names),
@@ -268,13 +288,13 @@ module _ (name : List ℕ) where
   no_octet text some other none value names = none_by text names.more names.others some other none names.listed
 
 -- the names of a list are read
-pub list_read : (text empty old new : List ℕ) (u : Unit {0}) → empty ≡ [] → old ≡ [] → AppendsOctets (NamesFrom empty text) old new (Ok u) → AreProtocols text new
+pub list_read : (text empty old new : List ℕ) (u : Unit {0}) → empty ≡ [] → old ≡ [] → AppendsOctetsIf ⊤ (NamesFrom empty text) old new (Ok u) → AreProtocols text new
 list_read text empty old new u none first (octets, names, e) =
     subst (AreProtocols text) (sym (e ∙ ap (λ (xs : List ℕ). xs ++ octets) first))
     (protocols_of text octets (subst (λ (n : List ℕ). NamesFrom n text octets) none names))
 
-pub no_list : (text empty old new : List ℕ) (e : TextError) → empty ≡ [] → AppendsOctets (NamesFrom empty text) old new (Err e) → ReadsOctets (AreProtocols text) (Err e)
-no_list text empty old new e none (inl memory) = inl memory
+pub no_list : (text empty old new : List ℕ) (e : TextError) → empty ≡ [] → AppendsOctetsIf ⊤ (NamesFrom empty text) old new (Err e) → ReadsOctets (AreProtocols text) (Err e)
+no_list text empty old new e none (inl memory) = inl memory.0
 no_list text empty old new e none (inr bad) =
     inr (bad.0, λ value are. bad.1 value (subst (λ (n : List ℕ). NamesFrom n text value) (sym none) (names_of text value are)))
 

@@ -1,8 +1,10 @@
 -- Names of a list with commas between them, of which a first part is read. RFC 9460 appendix A.1.
-use Rattle.std.specs.Prelude.{◌≡◌, ℕ, ◌==◌, if◌then◌else◌, List, [], ◌∷◌, ◌++◌, map, length, Option, Some, None}
+use Rattle.std.specs.Prelude.{◌≡◌, ℕ, ◌==◌, if◌then◌else◌, List, [], ◌∷◌, ◌++◌, map, length, Option, Some, None, Result, ⊤}
 use Rattle.std.specs.List.{AllByRecursion, flat_map}
 use Rattle.dns_fields_text.specs.Separated.{comma_text}
 use Rattle.dns_value_text.specs.String.{backslash}
+use Rattle.dns_value_text.specs.declared.text_error.TextError.{TextError}
+use Rattle.dns_fields_read.specs.Reading.{AppendsOctetsIf}
 use Rattle.dns_fields_read.specs.Salts.{IsCounted}
 use Rattle.dns_parameters_read.specs.ParameterValues.{comma, escaped}
 
@@ -33,3 +35,8 @@ pub record NamesFrom (name text value : List ℕ) : Type 0 where
   pub counted : AllByRecursion IsCounted ((name ++ more) ∷ others)
   pub listed : text ≡ comma_text (map escaped (more ∷ others))
   pub octets : value ≡ flat_map (λ name. length name ∷ name) ((name ++ more) ∷ others)
+
+-- what appending the names of a text returns, which follows from what appending those that are left after a first part of it returns
+abbrev pub ContinuesNames : (name text value begun left now : List ℕ) → Type 0
+ContinuesNames name text value begun left now =
+    (new : List ℕ) (result : Result Unit TextError) → AppendsOctetsIf ⊤ (NamesFrom begun left) now new result → AppendsOctetsIf ⊤ (NamesFrom name text) value new result

@@ -1,8 +1,8 @@
 //! Values of service parameters with a named key (RFC 9460 section 7, RFC 9848 section 3, RFC 9461
 //! section 5, RFC 9540 section 4).
-ghost use Rattle.std.specs.Prelude.{◌≡◌};
-ghost use Rattle.dns_fields_read.specs.Reading.{AppendsOctets};
-ghost use Rattle.dns_parameters_read.specs.ParameterValues.{AreHints, AreJoined, IsEch, IsHint, IsNamedValue, IsNothing, IsPort, comma_texts};
+ghost use Rattle.std.specs.Prelude.{◌≡◌, ⊤};
+ghost use Rattle.dns_fields_read.specs.Reading.{AppendsOctets, AppendsOctetsIf};
+ghost use Rattle.dns_parameters_read.specs.ParameterValues.{AreHints, IsEch, IsHint, IsNamedValue, IsNothing, IsPort};
 ghost use Rattle.dns_value_text.specs.Reading.{ReadsOctets};
 ghost use Rattle.dns_value_text.specs.Strings.{unquoted};
 
@@ -88,16 +88,16 @@ fn push_hint(octets: &mut Vec<u8>, key: u16, text: &str) -> Result<(), TextError
 
 /// Appends the octets of addresses with commas between them.
 fn push_hints(octets: &mut Vec<u8>, key: u16, text: &str) -> Result<(), TextError>
-    ensures { AppendsOctets (AreJoined (IsHint key) (comma_texts text.now))
-        octets.old.items octets.new.items result }
+    ensures { AppendsOctetsIf ⊤ (AreHints key text.now) octets.old.items octets.new.items result }
 {
-    let Some((first, others)) = text.split_once(',') else {
-        return push_hint(octets, key, text);
-    };
-    match push_hint(octets, key, first) {
-        Ok(()) => push_hints(octets, key, others),
-        Err(error) => Err(error),
+    let mut left = text;
+    'hints: while let Some((first, others)) = left.split_once(',') {
+        if let Err(error) = push_hint(octets, key, first) {
+            return Err(error);
+        }
+        left = others;
     }
+    push_hint(octets, key, left)
 }
 
 /// The octets of addresses with commas between them.

@@ -1,8 +1,8 @@
 //! Values of the service parameter `alpn` (RFC 9460 section 7.1 and appendix A.1).
-ghost use Rattle.std.specs.Prelude.{◌≡◌, MatchOption};
-ghost use Rattle.dns_fields_read.specs.Reading.{AppendsOctets};
+ghost use Rattle.std.specs.Prelude.{◌≡◌, ◌<◌, length, ⊤, MatchOption, MatchResult};
+ghost use Rattle.dns_fields_read.specs.Reading.{AppendsOctets, AppendsOctetsIf, FailsIf};
 ghost use Rattle.dns_parameters_read.specs.ParameterValues.{AreProtocols, IsAlpn};
-ghost use Rattle.dns_parameters_read.specs.ProtocolNames.{IsCountedName, NamesFrom, octet_at};
+ghost use Rattle.dns_parameters_read.specs.ProtocolNames.{ContinuesNames, IsCountedName, NamesFrom, octet_at};
 ghost use Rattle.dns_value_text.specs.Reading.{ReadsOctets};
 
 use dns_value_text::{TextError, read_string};
@@ -53,20 +53,25 @@ fn push_name(value: &mut Vec<u8>, name: &[u8]) -> Result<(), TextError>
     Ok(())
 }
 
-/// Appends the names of a list, whose first one begins with the octets of `name`.
-fn push_names(value: &mut Vec<u8>, name: &mut Vec<u8>, text: &[u8]) -> Result<(), TextError>
-    ensures { AppendsOctets (NamesFrom name.old.items text.now)
-        value.old.items value.new.items result }
+/// Moves an octet of a name from the text to `name`, or appends the name if the text begins with a
+/// comma. Returns the text after it.
+fn push_first<'a>(
+    value: &mut Vec<u8>,
+    name: &mut Vec<u8>,
+    text: &'a [u8],
+) -> Result<&'a [u8], TextError>
+    requires { 0 < length text.now }
+    ensures { MatchResult result
+        (λ left. (length left.now < length text.now) × ContinuesNames name.old.items text.now
+        value.old.items name.new.items left.now value.new.items)
+        (FailsIf ⊤ (NamesFrom name.old.items text.now)) }
 {
-    let [first, after @ ..] = text else {
-        return push_name(value, name.as_slice());
-    };
-    if *first == b',' {
+    if text[0] == b',' {
         if let Err(error) = push_name(value, name.as_slice()) {
             return Err(error);
         }
         name.clear();
-        return push_names(value, name, after);
+        return Ok(&text[1..]);
     }
     let Some((octet, left)) = split_octet(text) else {
         return Err(TextError::BadWord);
@@ -74,7 +79,22 @@ fn push_names(value: &mut Vec<u8>, name: &mut Vec<u8>, text: &[u8]) -> Result<()
     if name.push(octet).is_err() {
         return Err(TextError::OutOfMemory);
     }
-    push_names(value, name, left)
+    Ok(left)
+}
+
+/// Appends the names of a list, whose first one begins with the octets of `name`.
+fn push_names(value: &mut Vec<u8>, name: &mut Vec<u8>, text: &[u8]) -> Result<(), TextError>
+    ensures { AppendsOctetsIf ⊤ (NamesFrom name.old.items text.now)
+        value.old.items value.new.items result }
+{
+    let mut left = text;
+    'octets: while !left.is_empty() {
+        match push_first(value, name, left) {
+            Ok(after) => left = after,
+            Err(error) => return Err(error),
+        }
+    }
+    push_name(value, name.as_slice())
 }
 
 /// The octets of protocol names with commas between them.

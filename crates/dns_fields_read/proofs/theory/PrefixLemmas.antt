@@ -1,5 +1,5 @@
 -- Address prefixes and their words.
-use Rattle.std.proofs.Common.{◌≡◌, ◌∙◌, ◌≢◌, ℕ, zero, suc, ◌+◌, ◌-◌, ◌<◌, ◌≤◌, ◌==◌, Bool, true, false, List, [], ◌∷◌, ◌++◌, length, get_or, take, drop, replicate, decimal, refl, sym, ap, subst, arith, inl, inr, append_assoc, length-append, le-leb, eq-eqb, ne_eqb, ◌*◌, ◌⊎◌}
+use Rattle.std.proofs.Common.{◌≡◌, ◌∙◌, ◌≢◌, ℕ, zero, suc, ◌+◌, ◌-◌, ◌<◌, ◌≤◌, ◌==◌, Bool, true, false, List, [], ◌∷◌, ◌++◌, length, get_or, take, drop, replicate, decimal, refl, sym, ap, subst, arith, inl, inr, length-append, le-leb, eq-eqb, ne_eqb, ◌*◌, ◌⊎◌}
 use Rattle.std.specs.Prelude.{Result, Ok, Err, OnOk, IfErr, not, nat_le, ◌&&◌, if◌then◌else◌, codes}
 use Rattle.std.specs.Borrow.{Bor}
 use Rattle.std.specs.Char.{digit_value}
@@ -8,16 +8,18 @@ use Rattle.std.specs.Str.Parse.{AllDigits}
 use Rattle.std.proofs.Math.Seq.{get_or-append_seam}
 use Rattle.std.proofs.lemmas.Bool.{and_from, and_parts, cond-false, cond-true, eqb-true, leb-true}
 use Rattle.std.proofs.lemmas.Fmt.{decimal_digit}
-use Rattle.std.proofs.lemmas.List.{take_all, take-replicate}
+use Rattle.std.proofs.lemmas.List.{drop_more, take_all, take-replicate}
 use Rattle.dns_fields_text.specs.PrefixItems.{PrefixItem}
 use Rattle.dns_fields_text.specs.Prefixes.{fits, has_word, is_trimmed, padded, sign}
 use Rattle.dns_value_text.specs.declared.text_error.TextError.{TextError}
 use Rattle.dns_value_text.specs.declared.text_error.TextError.TheVariants.{OutOfMemory}
 use Rattle.dns_fields_read.specs.Addresses.{IsIpv6Word}
-use Rattle.dns_fields_read.specs.PrefixWords.{AppendsPrefix, AppendsPrefixes, ArePrefixWords, IsAddressWord, IsPrefixOf, IsPrefixWord, SplitsSign, prefix_octets}
+use Rattle.dns_fields_read.specs.PrefixWords.{AppendsPrefix, AppendsPrefixes, ArePrefixWords, BeginsWithPrefix, IsAddressWord, IsPrefixOf, IsPrefixWord, SplitsSign, prefix_octets}
 use Rattle.dns_fields_read.proofs.theory.ByteLemmas.{nonzero}
 use Rattle.dns_fields_read.proofs.theory.LastSplits.{Lacks}
+use Rattle.dns_fields_read.specs.Reading.{Fails, FailsIf}
 use Rattle.dns_fields_read.proofs.theory.OneWords.{one_ipv4, one_ipv6}
+use Rattle.dns_fields_read.proofs.theory.WordLists.{AreInOrder, appends_at_if}
 use Rattle.dns_fields_read.proofs.LocatorLemmas.{NoColon, same_parts}
 
 -- octets without their last zeros
@@ -45,7 +47,7 @@ padded_is n octets left size fits zeros =
 pub appends : (Is : PrefixItem → Type 0) (item : PrefixItem) (old new : List ℕ) (result : Result Unit TextError) → Is item → OnOk result (new ≡ old ++ prefix_octets item) → IfErr result (λ error. error ≡ OutOfMemory)
     → AppendsPrefix Is old new result
 appends Is item old new (Ok u) is ok err = (item, is, ok)
-appends Is item old new (Err e) is ok err = inl err
+appends Is item old new (Err e) is ok err = inl (err, (item, is))
 
 module _ (negated : Bool) (address size : List ℕ) where
   abbrev pub IsIpv4Prefix : PrefixItem → Type 0
@@ -199,7 +201,11 @@ module _ (word after : List ℕ) (negated : Bool) (split : SplitsSign word negat
       ipv4_word old new (Ok u) one (item, is, e) =
           let digit : 49 ≡ 48 + item.family = let f = is.1 in omega arith in
           (item, word_of item is.0 (one ∙ ap (λ (d : ℕ). d ∷ []) digit) is.2, e)
-      ipv4_word old new (Err e) one (inl memory) = inl memory
+      ipv4_word old new (Err e) one (inl memory) =
+          let item = memory.1.0 in
+          let is = memory.1.1 in
+          let digit : 49 ≡ 48 + item.family = let f = is.1 in omega arith in
+          inl (memory.0, (item, word_of item is.0 (one ∙ ap (λ (d : ℕ). d ∷ []) digit) is.2))
       ipv4_word old new (Err e) one (inr bad) =
           inr (
             bad.0,
@@ -214,7 +220,11 @@ module _ (word after : List ℕ) (negated : Bool) (split : SplitsSign word negat
       ipv6_word old new (Ok u) two (item, is, e) =
           let digit : 50 ≡ 48 + item.family = let f = is.1 in omega arith in
           (item, word_of item is.0 (two ∙ ap (λ (d : ℕ). d ∷ []) digit) is.2, e)
-      ipv6_word old new (Err e) two (inl memory) = inl memory
+      ipv6_word old new (Err e) two (inl memory) =
+          let item = memory.1.0 in
+          let is = memory.1.1 in
+          let digit : 50 ≡ 48 + item.family = let f = is.1 in omega arith in
+          inl (memory.0, (item, word_of item is.0 (two ∙ ap (λ (d : ℕ). d ∷ []) digit) is.2))
       ipv6_word old new (Err e) two (inr bad) =
           inr (
             bad.0,
@@ -236,22 +246,33 @@ pub after_is : (words : List (Bor (List ℕ))) → take (length words - 1) (drop
 after_is [] = refl
 after_is (word ∷ words) = take_all (length (word ∷ words) - 1) words (omega arith)
 
-pub appends_more : (words : List (Bor (List ℕ))) (d : Bor (List ℕ)) (old middle new : List ℕ) (u : Unit {0}) (result : Result Unit TextError) → 1 ≤ length words
-    → AppendsPrefix (IsPrefixWord (get_or words 0 d).now) old middle (Ok u) → AppendsPrefixes (drop 1 words) middle new result → AppendsPrefixes words old new result
-appends_more [] d old middle new u result some a b = absurd (omega arith)
-appends_more (word ∷ words) d old middle new u (Ok v) some a b = (
-  prefix_octets a.0 ++ b.0,
-  b.1 ∙ ap (λ (xs : List ℕ). xs ++ b.0) a.2 ∙ append_assoc old (prefix_octets a.0) b.0,
-  (a.0, b.0, a.1, refl, b.2),
-)
-appends_more (word ∷ words) d old middle new u (Err e) some a (inl memory) = inl memory
-appends_more (word ∷ words) d old middle new u (Err e) some a (inr bad) = inr (bad.0, λ octets is. bad.1 is.1 is.4)
+-- a word that is a prefix, and the octets of the prefix
+abbrev pub IsPrefixIn : Bor (List ℕ) → List ℕ → Type 0
+IsPrefixIn word octets = (item : PrefixItem) × IsPrefixWord word.now item × (octets ≡ prefix_octets item)
 
-pub appends_none : (words : List (Bor (List ℕ))) (d : Bor (List ℕ)) (old new : List ℕ) (e : TextError) → 1 ≤ length words
-    → AppendsPrefix (IsPrefixWord (get_or words 0 d).now) old new (Err e) → AppendsPrefixes words old new (Err e)
-appends_none [] d old new e some a = absurd (omega arith)
-appends_none (word ∷ words) d old new e some (inl memory) = inl memory
-appends_none (word ∷ words) d old new e some (inr bad) = inr (bad.0, λ octets is. bad.1 is.0 is.2)
+pub prefixes_in_order : AreInOrder IsPrefixIn ArePrefixWords
+prefixes_in_order = record {
+  none = refl;
+  both = λ word words first after own others. (own.0, after, own.1, ap (λ (xs : List ℕ). xs ++ after) own.2, others);
+  parts = λ word words octets is. ((prefix_octets is.0, (is.0, is.2, refl)), (is.1, is.4));
+}
+
+module _ (words : List (Bor (List ℕ))) (k : ℕ) (d : Bor (List ℕ)) (within : k < length words) where
+  -- the word at an index is a prefix
+  pub prefix_more : (old middle new : List ℕ) (u : Unit {0}) (result : Result Unit TextError) → AppendsPrefix (IsPrefixWord (get_or words k d).now) old middle (Ok u)
+      → AppendsPrefixes (drop (k + 1) words) middle new result → AppendsPrefixes (drop k words) old new result
+  prefix_more old middle new u result a b =
+      appends_at_if IsPrefixIn ArePrefixWords prefixes_in_order BeginsWithPrefix (λ word ws own. (own.1.0, own.1.1)) words k d old middle new u result within
+      (prefix_octets a.0, (a.0, a.1, refl), a.2) b
+
+  -- it isn't read
+  first_wrong : (word : Bor (List ℕ)) (ws : List (Bor (List ℕ))) (e : TextError) → Fails (IsPrefixWord word.now) e → FailsIf (BeginsWithPrefix (word ∷ ws)) (ArePrefixWords (word ∷ ws)) e
+  first_wrong word ws e (inl memory) = inl memory
+  first_wrong word ws e (inr bad) = inr (bad.0, λ octets is. bad.1 is.0 is.2)
+
+  pub prefix_wrong : (old new : List ℕ) (e : TextError) → Fails (IsPrefixWord (get_or words k d).now) e → AppendsPrefixes (drop k words) old new (Err e)
+  prefix_wrong old new e fails =
+      subst (λ (ws : List (Bor (List ℕ))). FailsIf (BeginsWithPrefix ws) (ArePrefixWords ws) e) (sym (drop_more words k d within)) (first_wrong (get_or words k d) (drop (k + 1) words) e fails)
 
 -- a word without a sign
 pub no_sign : (word : List ℕ) → ((rest : List ℕ) → word ≢ 33 ∷ rest) → get_or word 0 0 ≢ 33

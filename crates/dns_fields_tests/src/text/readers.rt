@@ -11,6 +11,8 @@ use dns_fields_read::{
 use dns_number::Rtype;
 use dns_parameters_read::read_parameters;
 use dns_value_text::{Location, Timestamp, read_base64, read_hex, read_number, read_string};
+use std::alloc::Global;
+use std::process::Abort;
 
 /// Gateways (RFC 4025 section 3.2), relays (RFC 8777 section 4.3.2) and host identities (RFC 8005).
 #[test]
@@ -82,6 +84,35 @@ fn many_parameters(rt: HostRuntime) {
     }
     let octets = read_parameters(alloc, &words).expect(&rt, "keys are there once");
     assert_eq!(rt; octets.len(), 65527 * 4);
+}
+
+/// This many of the word.
+fn many<'a>(rt: &impl Abort, alloc: Global, word: &'a str, count: u32) -> Vec<&'a str> {
+    let mut words = Vec::new(alloc);
+    for _ in 0..count {
+        words.push(word).expect(rt, "there is memory");
+    }
+    words
+}
+
+/// More words than calls have room on a stack of 8 MiB, if each is of at least 32 octets.
+const MANY: u32 = 300_000;
+
+/// Many types, names of a host identity, and prefixes.
+#[test]
+fn many_words(rt: HostRuntime) {
+    let alloc = rt.alloc();
+    let map = read_small_type_map(alloc, &many(&rt, alloc, "A", MANY)).expect(&rt, "types");
+    assert_octets(&rt, "types", &map, b"\x40");
+    let words = many(&rt, alloc, "1:0.0.0.0/0", MANY);
+    let prefixes = read_prefixes(alloc, &words).expect(&rt, "prefixes");
+    assert_eq!(rt; prefixes.len(), 1_200_000);
+    let mut words = many(&rt, alloc, ".", MANY);
+    words[0] = "2";
+    words[1] = "20";
+    words[2] = "AwE=";
+    let identity = read_host_identity(alloc, &words).expect(&rt, "an identity");
+    assert_eq!(rt; identity.len(), 7 + 299_997);
 }
 
 /// Digits, in one word and split, as in RFC 4034 section 2.3.

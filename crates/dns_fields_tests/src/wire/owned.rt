@@ -3,7 +3,7 @@ use crate::wire::rows::{data_of, is_written};
 use dns_code::Rtype;
 use dns_data::RecordData;
 use dns_fields::{FieldData, OwnedFieldData};
-use dns_wire::Parser;
+use dns_wire::{FlattenInto, OctetsFrom, Parser};
 use std::alloc::Global;
 use std::process::Abort;
 
@@ -30,6 +30,16 @@ fn copies_without_pointers(rt: HostRuntime) {
     let octets = b"\x00\x0A\x01c\x01a\x01b\x00";
     let is_written = is_written(&rt, rt.alloc(), &owned, octets);
     assert!(rt; is_written);
+}
+
+/// The conversions that other types name: by `OctetsFrom` and by `FlattenInto`.
+#[test]
+fn converts(rt: HostRuntime) {
+    let data = exchange(&rt);
+    let owned = OwnedFieldData::try_octets_from(rt.alloc(), data).expect(&rt, "memory");
+    assert!(rt; owned.as_field_data() == data);
+    let owned: OwnedFieldData = data.try_flatten_into(rt.alloc()).expect(&rt, "memory");
+    assert!(rt; owned.as_field_data() == data);
 }
 
 #[test]

@@ -1,6 +1,8 @@
-use Rattle.std.proofs.Common.{inl, inr}
+use Rattle.std.proofs.Common.{ℕ, List, subst, inl, inr}
+use Rattle.dns_value_text.specs.Strings.{SpellsString}
+use Rattle.dns_fields_read.specs.Reading.{HasValue, ReadsWords}
 use Rattle.dns_fields.specs.declared.kind.Kind.TheVariants as kinds
-use Rattle.dns_data_read.proofs.AppendLemmas.{as_kind}
+use Rattle.dns_data_read.proofs.AppendLemmas.{as_kind, read_appended, reads_string}
 use Rattle.dns_data_read.proofs.word.push_word.Goals as goal
 
 pub returns-in-Number8 : goal.returns-in-Number8
@@ -66,3 +68,10 @@ returns-in-CompressibleName c =
                 ]
           ]
     ]
+
+pub returns-in-Text : goal.returns-in-Text
+returns-in-Text c =
+    as_kind c.args.kind kinds.Text c.args.word.now c.args.octets.now.items c.push_read.new.octets.items c.push_read.result c.in-Text.is
+    (read_appended (HasValue (SpellsString c.args.word.now)) (SpellsString c.args.word.now) c.read_string.result c.args.octets.now.items c.push_read.new.octets.items c.push_read.result (λ has. has)
+    (subst (λ (text : List ℕ). ReadsWords (SpellsString text) c.read_string.result) c.as_bytes.ensures.value (reads_string (SpellsString c.as_bytes.result.now) c.read_string.result c.read_string.ensures.reads c.read_string.ensures.full))
+    c.push_read.ensures)

@@ -1,5 +1,8 @@
 use Rattle.std.proofs.Common.{arith}
-use Rattle.dns_fields_read.proofs.Base32Lemmas.{appends_more, appends_none}
+use Rattle.dns_fields_read.specs.Base32Words.{IsBase32}
+use Rattle.dns_fields_read.specs.Reading.{HasValue}
+use Rattle.dns_fields_read.proofs.Base32Lemmas.{appends_more}
+use Rattle.dns_fields_read.proofs.theory.WordLists.{why}
 use Rattle.dns_fields_read.proofs.base32.+push_digits.Goals as goal
 
 pub returns-in-Ok : goal.returns-in-Ok
@@ -11,5 +14,4 @@ returns-in-Ok t c =
 
 pub returns-in-Err : goal.returns-in-Err
 returns-in-Err t c =
-    let front = c.split_at.ensures.front in
-    appends_none c.args.digits.now c.args.octets.now.items c.push_group-2.new.octets.items c.in-Err.error (omega (arith, c.if-digits-le8.false)) (rw front at c.in-Err.ensures)
+    why (HasValue (IsBase32 c.args.digits.now)) (IsBase32 c.args.digits.now) c.is_base32.result c.failure.result c.failure.ensures c.is_base32.ensures.0 c.is_base32.ensures.1

@@ -1,18 +1,10 @@
 use Rattle.std.proofs.Common.{refl, inr}
-use Rattle.dns_fields_read.proofs.Base32Lemmas.{appends, bits_left, group_read, no_number, no_size}
+use Rattle.dns_fields_read.proofs.Base32Lemmas.{appends}
 use Rattle.dns_fields_read.proofs.base32.push_group.Goals as goal
 
 pub returns-in_default : goal.returns-in_default
-returns-in_default c = inr (refl, λ octets. no_size c.args.digits.now octets c.requires.some c.requires.few c.in_default.ensures)
-
-pub returns-in_default-read_digits : goal.returns-in_default-read_digits
-returns-in_default-read_digits c = inr (refl, λ octets. no_number c.args.digits.now octets c.requires.some c.requires.few c.in_default-read_digits.ensures)
-
-pub returns-then-number-spare-ne0 : goal.returns-then-number-spare-ne0
-returns-then-number-spare-ne0 c =
-    inr (refl, λ octets. bits_left c.args.digits.now octets c.requires.some c.requires.few c.in-Some-read_digits.number c.in-Some.size c.in-Some.spare c.in-Some.ensures c.in-Some-read_digits.ensures c.if-number-spare-ne0.true)
+returns-in_default c = inr (refl, c.in_default.ensures)
 
 pub returns : goal.returns
 returns c =
-    appends c.args.digits.now c.args.octets.now.items c.push_last.new.octets.items _ c.push_last.result c.push_last.ensures.ok c.push_last.ensures.err
-    (group_read c.args.digits.now c.in-Some-read_digits.number c.in-Some.size c.in-Some.spare c.in-Some.ensures c.in-Some-read_digits.ensures c.if-number-spare-ne0.false)
+    appends c.args.digits.now c.args.octets.now.items c.push_last.new.octets.items _ c.push_last.result c.push_last.ensures.ok c.push_last.ensures.err c.in-Some.ensures

@@ -1,10 +1,21 @@
-use Rattle.std.proofs.lemmas.Result.{err_from_is_err_and}
-use Rattle.dns_fields_read.proofs.GatewayLemmas.{gateway_fails}
+use Rattle.std.proofs.Common.{refl, inl, inr}
+use Rattle.dns_fields_read.proofs.GatewayLemmas.{gateway_fails, key_fails, may_be, no_gateway}
 use Rattle.dns_fields_read.proofs.gateway.read_gateway_and_key.Goals as goal
 
-pub returns-in_err-push_gateway : goal.returns-in_err-push_gateway
-returns-in_err-push_gateway c =
-    let p = err_from_is_err_and c.from_residual-in_err-push_gateway.result c.from_residual-in_err-push_gateway.ensures.1 in
-    rw (p.1, p.2)
-    (gateway_fails c.args.gateway_type.now c.args.algorithm.now c.args.gateway.now c.args.key.now c.in-Some.gateway_type c.in_err-push_gateway.field-0.0 c.in-Some.ensures
-    (c.in_err-push_gateway.ensures {u = tt}))
+pub returns-then-not-is_gateway : goal.returns-then-not-is_gateway
+returns-then-not-is_gateway c =
+    inr (refl, no_gateway c.args.gateway_type.now c.args.algorithm.now c.args.gateway.now c.args.key.now c.in-Some.gateway_type c.in-Some.ensures c.is_gateway.result c.if-not-is_gateway.true c.is_gateway.ensures)
+
+pub returns-in-Err : goal.returns-in-Err
+returns-in-Err c =
+    inl (c.in-Err.ensures.err, may_be c.args.gateway_type.now c.args.algorithm.now c.args.gateway.now c.args.key.now c.in-Some.gateway_type c.in-Some.ensures c.in-Some-read_octet.algorithm c.is_gateway.result c.in-Some-read_octet.ensures c.if-not-is_gateway.false c.is_gateway.ensures)
+
+pub returns-in-Err-push_gateway : goal.returns-in-Err-push_gateway
+returns-in-Err-push_gateway c =
+    gateway_fails c.args.gateway_type.now c.args.algorithm.now c.args.gateway.now c.args.key.now c.in-Some.gateway_type c.in-Some.ensures c.in-Err-push_gateway.error
+    (may_be c.args.gateway_type.now c.args.algorithm.now c.args.gateway.now c.args.key.now c.in-Some.gateway_type c.in-Some.ensures c.in-Some-read_octet.algorithm c.is_gateway.result c.in-Some-read_octet.ensures c.if-not-is_gateway.false c.is_gateway.ensures) c.in-Err-push_gateway.ensures
+
+pub returns-in-Err-push_key : goal.returns-in-Err-push_key
+returns-in-Err-push_key c =
+    key_fails c.args.gateway_type.now c.args.algorithm.now c.args.gateway.now c.args.key.now c.in-Some.gateway_type c.in-Some.ensures c.in-Err-push_key.error
+    (may_be c.args.gateway_type.now c.args.algorithm.now c.args.gateway.now c.args.key.now c.in-Some.gateway_type c.in-Some.ensures c.in-Some-read_octet.algorithm c.is_gateway.result c.in-Some-read_octet.ensures c.if-not-is_gateway.false c.is_gateway.ensures) c.in-Err-push_key.ensures

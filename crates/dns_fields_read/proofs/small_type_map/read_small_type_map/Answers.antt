@@ -1,5 +1,8 @@
-use Rattle.dns_fields_read.proofs.SmallMapLemmas.{small_map_read}
+use Rattle.dns_fields_read.proofs.SmallMapLemmas.{small_map_read, small_types_fail}
 use Rattle.dns_fields_read.proofs.small_type_map.read_small_type_map.Goals as goal
+
+pub returns-in-Err : goal.returns-in-Err
+returns-in-Err c = small_types_fail c.args.words.now c.in-Err.error c.in-Err.ensures
 
 pub returns : goal.returns
 returns c =

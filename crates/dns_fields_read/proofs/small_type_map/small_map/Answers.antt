@@ -1,4 +1,4 @@
-use Rattle.std.proofs.Common.{◌≡◌, ◌∙◌, ◌++◌, List, ℕ, false, refl, sym, ap, subst, inr}
+use Rattle.std.proofs.Common.{◌≡◌, ◌∙◌, ◌++◌, List, ℕ, false, refl, sym, ap, subst, inl, inr}
 use Rattle.std.proofs.lemmas.Bool.{false≢true}
 use Rattle.dns_fields_read.specs.TypeBits.{IsSmallMap, octets_bits}
 use Rattle.dns_fields_read.specs.TypeMapWords.{has}
@@ -18,3 +18,11 @@ returns-in-Ok c =
     let is =
     trimmed_is (has c.args.types.now) 0 16 c.as_slice.result.now c.trimmed-bits.result.now all c.trimmed-bits.ensures.trimmed c.trimmed-bits.ensures.fits c.trimmed-bits.ensures.zeros in
     subst (IsSmallMap c.args.types.now) (sym c.in-Ok.ensures.items) (small_map_is c.args.types.now (sym c.have_small_map.ensures ∙ c.if-not-have_small_map.false) c.trimmed-bits.result.now is)
+
+pub returns-in-Err : goal.returns-in-Err
+returns-in-Err c =
+    let all =
+    c.as_slice.ensures.value ∙ c.push_octets.ensures ∙ ap (λ (xs : List ℕ). xs ++ octets_bits (has c.args.types.now) 0 16) c.new-octets.ensures in
+    let is =
+    trimmed_is (has c.args.types.now) 0 16 c.as_slice.result.now c.trimmed-bits.result.now all c.trimmed-bits.ensures.trimmed c.trimmed-bits.ensures.fits c.trimmed-bits.ensures.zeros in
+    inl (refl, (c.trimmed-bits.result.now, small_map_is c.args.types.now (sym c.have_small_map.ensures ∙ c.if-not-have_small_map.false) c.trimmed-bits.result.now is))

@@ -1,0 +1,58 @@
+-- What is known of words at which an allocation fails.
+use Rattle.std.specs.Prelude.{List, [], ◌∷◌, ◌++◌, ◌≡◌, ℕ, ⊤}
+use Rattle.dns_fields.specs.declared.kind.Kind.{Kind}
+use Rattle.dns_fields.specs.declared.kind.Kind.TheVariants as kinds
+use Rattle.dns_value_text.specs.Strings.{SpellsString}
+use Rattle.dns_fields_read.specs.GatewayWords.{MayBeGateway}
+use Rattle.dns_fields_read.specs.IdentityWords.{MayBeHostIdentity}
+use Rattle.dns_fields_read.specs.PrefixWords.{BeginsWithPrefix}
+use Rattle.dns_fields_read.specs.Reading.{HasValue}
+use Rattle.dns_fields_read.specs.SizedWords.{MayBeSized}
+use Rattle.dns_fields_read.specs.TypeMapWords.{AreTypes}
+use Rattle.dns_data_read.specs.Extents.{extent_of}
+use Rattle.dns_data_read.specs.FieldWords.{AreFieldWords, IsFieldWord, Words}
+use Rattle.dns_data_read.specs.declared.extent.Extent.{Extent}
+use Rattle.dns_data_read.specs.declared.extent.Extent.TheVariants.{One, OneOrTwo, All}
+
+-- the word is a field of this kind; if that is a string, it represents octets, however many
+abbrev pub MayBeWord : Kind → List ℕ → Type 0
+MayBeWord kinds.CharacterString word = HasValue (SpellsString word)
+MayBeWord kind word = HasValue (IsFieldWord kind word)
+
+-- the first word, if there is one, represents octets
+abbrev pub BeginsWithString : Words → Type 0
+BeginsWithString [] = Unit {0}
+BeginsWithString (word ∷ words) = HasValue (SpellsString word.now)
+
+-- the words are a field of this kind, as far as they are read before an allocation fails
+abbrev pub MayBeWords : Kind → Words → Type 0
+MayBeWords kinds.Strings words = BeginsWithString words
+MayBeWords kinds.Hexadecimal words = ⊤
+MayBeWords kinds.Base64 words = ⊤
+MayBeWords kinds.TypeBitMap words = AreTypes words
+MayBeWords kinds.SmallTypeBitMap words = AreTypes words
+MayBeWords kinds.ServiceParameters words = ⊤
+MayBeWords kinds.AddressPrefixes words = BeginsWithPrefix words
+MayBeWords kinds.GatewayAndKey words = MayBeGateway words
+MayBeWords kinds.HostIdentity words = MayBeHostIdentity words
+MayBeWords kind words = HasValue (AreFieldWords kind words)
+
+-- exactly one word
+abbrev pub MayBeOne : (List ℕ → Type 0) → Words → Type 0
+MayBeOne May [] = ⊥
+MayBeOne May (word ∷ []) = May word.now
+MayBeOne May (word ∷ next ∷ words) = ⊥
+
+-- the words of this extent are a field of this kind
+abbrev pub MayBeOf : Extent → Kind → Words → Type 0
+MayBeOf One kind words = MayBeOne (MayBeWord kind) words
+MayBeOf OneOrTwo kind words = MayBeSized words
+MayBeOf All kind words = MayBeWords kind words
+
+abbrev pub MayBeField : Kind → Words → Type 0
+MayBeField kind words = MayBeOf (extent_of kind) kind words
+
+-- the words begin with the first of these fields; no field has no words
+abbrev pub MayBeFields : List Kind → Words → Type 0
+MayBeFields [] words = words ≡ []
+MayBeFields (kind ∷ kinds) words = (own : Words) × (after : Words) × (words ≡ own ++ after) × MayBeField kind own
