@@ -157,9 +157,10 @@ dnsm_status dnsm_name_end(const uint8_t *message, size_t message_len, size_t pla
  * `index` is 0, and of the second name of SOA if it is 1. The types are NS, CNAME, SOA, PTR, MX, SRV and DNAME. A name can be read
  * there, and no octet after the RDATA belongs to it, also where it has a compression pointer.
  *
- * Errors, the first that applies: DNSM_NO_NAME if RDATA of this type has no name with this index; DNSM_SHORT_INPUT if the RDATA
- * isn't within the message, which happens only for an item that dnsm_next didn't write for these octets; DNSM_BAD_DATA if the RDATA
- * isn't that of its type, which dnsm_data_text writes as `\#`. On an error `*place` isn't written. */
+ * Errors, the first that applies: DNSM_BAD_SECTION for a question, which has no RDATA; DNSM_NO_NAME if RDATA of this type has no
+ * name with this index; DNSM_SHORT_INPUT if the RDATA isn't within the message, which happens only for an item that dnsm_next
+ * didn't write for these octets; DNSM_BAD_DATA if the RDATA isn't that of its type, which dnsm_data_text writes as `\#`. On an
+ * error `*place` isn't written. */
 dnsm_status dnsm_data_name(const uint8_t *message, size_t message_len, const dnsm_item *item, size_t index, size_t *place);
 
 /* Writes the octets of the name that the text represents (see "Names as text"), as in the RDATA of a dnsm_new_item: that of MX is

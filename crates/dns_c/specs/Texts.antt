@@ -1,8 +1,7 @@
 -- Text in a caller's buffer, and the texts of record types, classes, names and RDATA. RFC 1035 section 5.1, RFC 3597 section 5.
 use Rattle.std.specs.Prelude.{◌≡◌, ℕ, ◌≤◌, ◌-◌, ◌^◌, Bool, true, false, List, [], ◌∷◌, ◌++◌, codes, drop, length, take, min, Option, Some, None}
 use Rattle.std.specs.List.{flat_map}
-use Rattle.dns_name.specs.Names.{Fault, Labels}
-use Rattle.dns_name.specs.NameTexts.{dot, name_text}
+use Rattle.dns_name.specs.Names.{Fault}
 use Rattle.dns_number.specs.NumberTexts.{number_text}
 use Rattle.dns_number.specs.Registry.{registered_classes, registered_types}
 use Rattle.dns_data.specs.Printing.{hex_octet}
@@ -30,10 +29,6 @@ type_text n = number_text registered_types (codes "TYPE") n
 -- the text of a class: the name that IANA has registered for it, or CLASS and its number. RFC 3597 section 5
 abbrev pub class_text : ℕ → List ℕ
 class_text n = number_text registered_classes (codes "CLASS") n
-
--- the text of a name with its final dot
-abbrev pub absolute_name : Labels → List ℕ
-absolute_name name = name_text name ++ dot ∷ []
 
 -- octets in hexadecimal, two digits each
 abbrev pub hex_octets : List ℕ → List ℕ

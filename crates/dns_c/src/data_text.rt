@@ -12,13 +12,14 @@ ghost use Rattle.dns_c.specs.Texts.{HasOtherField, Holds, NoRecordAt, RecordAt, 
 
 use crate::code;
 use crate::code::Fault;
-use crate::pieces::{End, START, append_after, append_hex, append_octets};
+use crate::pieces::{append_after, append_hex};
 use crate::plain_fields::write_plain;
-use crate::sink::write_value;
+use crate::sink::{End, START, Sink, append_octets};
 use crate::walk::{Item, parser_at};
 use dns_fields::FieldData;
 use dns_fields_text::DataText;
 use dns_item::ParsedRecord;
+use dns_print::write_value;
 use dns_wire::ParseError;
 
 /// Parses the record at offset `place`. Also returns its RDATA.
@@ -50,6 +51,17 @@ fn write_opaque(octets: &[u8], out: &mut [u8]) -> End
     append_hex(octets, out, end)
 }
 
+/// Writes RDATA as `DataText` prints it, or returns `None` if that fails.
+fn write_formatted(data: &FieldData<'_>, out: &mut [u8]) -> Option<End>
+    ensures { IfSome result (λ end. Holds out.new (data_line «data».now) end) }
+{
+    let mut sink = Sink { out, end: START };
+    match write_value(&mut sink, DataText(data)) {
+        Ok(()) => Some(sink.end),
+        Err(_) => None,
+    }
+}
+
 /// Writes RDATA by its fields, or returns `None` if that fails.
 fn write_fields(data: &FieldData<'_>, out: &mut [u8]) -> Option<End>
     ensures text { IfSome result (λ end. Holds out.new (data_line «data».now) end) }
@@ -57,7 +69,7 @@ fn write_fields(data: &FieldData<'_>, out: &mut [u8]) -> Option<End>
 {
     match write_plain(data, out) {
         Some(end) => Some(end),
-        None => write_value(DataText(data), out),
+        None => write_formatted(data, out),
     }
 }
 

@@ -10,6 +10,7 @@ mod build;
 mod code;
 mod data_name;
 mod data_text;
+pub mod laws;
 mod make;
 mod new_data;
 mod opts;
@@ -20,7 +21,7 @@ mod text;
 mod walk;
 mod words;
 
-ghost use Rattle.std.specs.Prelude.{◌≡◌, ◌≢◌, ◌⊎◌, ◌<◌, ◌≤◌, ◌+◌, ◌-◌, ◌^◌, ◌++◌, ◌∷◌, ℕ, [], length, take, min, get_or, None, true};
+ghost use Rattle.std.specs.Prelude.{◌≡◌, ◌≢◌, ◌⊎◌, ◌<◌, ◌≤◌, ◌+◌, ◌-◌, ◌^◌, ◌++◌, ◌∷◌, ℕ, [], length, take, replicate, min, get_or, None, true};
 ghost use Rattle.dns_name.specs.NameTexts.{SpellsName, name_text};
 ghost use Rattle.dns_name.specs.Names.{Labels, NameAt, NameEndsAt, uncompressed};
 ghost use Rattle.dns_wire.specs.Encoders.{Tree};
@@ -194,7 +195,7 @@ pub extern "C" fn dnsm_name_end(message: &[u8], place: usize, end: &mut usize) -
 }
 
 /// Sets `place` to the offset of the name with this index in the RDATA of a record. The name is read
-/// without the octets after the RDATA.
+/// without the octets after the RDATA. A question has no RDATA.
 #[unsafe(no_mangle)]
 pub extern "C" fn dnsm_data_name(
     message: &[u8],
@@ -202,13 +203,15 @@ pub extern "C" fn dnsm_data_name(
     index: usize,
     place: &mut usize,
 ) -> u32
+    ensures question { item.now.section ≡ 0 → result ≡ number_of Fault.BadSection }
     ensures name { result ≡ 0 → IsDataName message.now item.now index place.new }
     ensures read { result ≡ 0 → (name : Labels)
         × NameAt (up_to_data_end message.now item.now) place.new name
         × NameAt message.now place.new name }
     ensures within { result ≡ 0 → (item.now.«data» ≤ place.new)
         × (place.new < data_end item.now) }
-    ensures none { result ≢ 0 → LacksDataName message.now item.now index result }
+    ensures none { item.now.section ≢ 0 → result ≢ 0
+        → LacksDataName message.now item.now index result }
     ensures unchanged { result ≢ 0 → place.new ≡ place.old }
 {
     match data_name::data_name(message, item, index) {
@@ -438,13 +441,14 @@ pub extern "C" fn dnsm_build(
     }
 }
 
-/// Begins a message without items, limit or reserved octets. Writes nothing to the buffer.
+/// Begins a message without items, limit, reserved octets or hints. Writes nothing to the buffer.
 #[unsafe(no_mangle)]
 pub extern "C" fn dnsm_begin(draft: &mut Draft, out: &mut [u8], id: u16, flags: u16) -> u32
     ensures begun { result ≡ 0 → (s : State) → IsDraftOf out.old draft.new (up_to InBuilder s) }
     ensures header { result ≡ 0 → (draft.new.id ≡ id) × (draft.new.flags ≡ flags) }
     ensures settings { result ≡ 0 → (draft.new.limit ≡ usize.MAX) × (draft.new.reserved ≡ 0) }
     ensures section { result ≡ 0 → draft.new.section ≡ 0 }
+    ensures hints { result ≡ 0 → draft.new.hints ≡ replicate 64 0 }
     ensures no_room { result ≢ 0 → (result ≡ number_of Fault.NoRoom)
         × (length out.old < header_size) × (draft.new ≡ draft.old) }
     ensures same { out.new ≡ out.old }

@@ -3,32 +3,14 @@
 //! The contract of `Display` doesn't say when it fails, so these calls don't use it.
 ghost use Rattle.std.specs.Prelude.{◌≡◌, ◌<◌, false, ◌++◌, ◌∷◌, ℕ, List, [], decimal};
 ghost use Rattle.std.specs.Fmt.{digit_glyph};
-ghost use Rattle.dns_name.specs.NameTexts.{octet_text, label_text};
+ghost use Rattle.dns_name.specs.NameTexts.{octet_text};
 ghost use Rattle.dns_name.specs.ParsedName.{label_octets, labels};
 ghost use Rattle.dns_fields_text.specs.ZoneNames.{dotted_label, zone_label_text, zone_name_text, zone_octet_text};
-ghost use Rattle.dns_c.specs.Texts.{Holds, absolute_name, hex_octets};
+ghost use Rattle.dns_c.specs.Texts.{Holds, hex_octets};
 
+use crate::sink::{End, append_octets};
 use dns_name::{Label, ParsedName};
 use itoa::Buffer;
-
-/// The length of a text, also if the buffer is too short for the text. At most `usize::MAX`.
-pub(crate) type End = usize;
-
-/// The length of the empty text.
-pub(crate) const START: End = 0;
-
-/// Appends octets to the text in `out`.
-pub(crate) fn append_octets(octets: &[u8], out: &mut [u8], end: End) -> End
-    ensures { (text : List ℕ) → Holds out.old text end
-        → Holds out.new (text ++ octets.now) result }
-{
-    if end > out.len() || octets.len() > out.len() - end {
-        return end.saturating_add(octets.len());
-    }
-    let after = end + octets.len();
-    out[end..after].copy_from_slice(octets);
-    after
-}
 
 /// Appends a number in decimal.
 pub(crate) fn append_number(number: u64, out: &mut [u8], end: End) -> End
@@ -62,43 +44,6 @@ fn append_octet(octet: u8, out: &mut [u8], end: End) -> End
     let hundreds = b'0' + octet / 100;
     let tens = b'0' + octet / 10 % 10;
     append_octets(&[b'\\', hundreds, tens, b'0' + octet % 10], out, end)
-}
-
-/// Appends a label in presentation format.
-fn append_label(label: &[u8], out: &mut [u8], end: End) -> End
-    ensures { (text : List ℕ) → Holds out.old text end
-        → Holds out.new (text ++ label_text label.now) result }
-{
-    let mut end = end;
-    for octet in label {
-        end = append_octet(*octet, out, end);
-    }
-    end
-}
-
-/// Appends a name with a dot after each label. The root is a single dot.
-pub(crate) fn append_name(name: &ParsedName<'_>, out: &mut [u8], end: End) -> End
-    ensures { (text : List ℕ) → Holds out.old text end
-        → Holds out.new (text ++ absolute_name (labels name.now)) result }
-{
-    if name.is_root() {
-        return append_octets(b".", out, end);
-    }
-    let mut end = end;
-    for label in name.iter_labels() {
-        if !label.is_root() {
-            end = append_label(label.as_slice(), out, end);
-            end = append_octets(b".", out, end);
-        }
-    }
-    end
-}
-
-/// Writes a name with a dot after each label, at the beginning of `out`.
-pub(crate) fn write_name(name: &ParsedName<'_>, out: &mut [u8]) -> End
-    ensures { Holds out.new (absolute_name (labels name.now)) result }
-{
-    append_name(name, out, START)
 }
 
 /// Appends one octet of a label as in a zone file.

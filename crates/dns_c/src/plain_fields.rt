@@ -6,7 +6,8 @@ ghost use Rattle.dns_fields_text.specs.DataTexts.{data_fields, data_line};
 ghost use Rattle.dns_c.specs.PlainFields.{are_plain, is_plain_kind, is_plain_value, plain_text};
 ghost use Rattle.dns_c.specs.Texts.{Holds};
 
-use crate::pieces::{End, START, append_after, append_number, append_octets, append_zone_name};
+use crate::pieces::{append_after, append_number, append_zone_name};
+use crate::sink::{End, START, append_octets};
 use dns_fields::{FieldData, Kind, Value};
 
 /// Whether fields of this kind are numbers, IPv4 addresses or names.

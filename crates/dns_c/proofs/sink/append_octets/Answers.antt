@@ -2,7 +2,7 @@ use Rattle.std.proofs.Common.{◌∙◌, ◌+◌, ◌++◌, ℕ, List, ap, arith
 use Rattle.std.proofs.lemmas.List.{places}
 use Rattle.std.proofs.lemmas.Slice.{take-put_mid}
 use Rattle.dns_c.proofs.PieceLemmas.{too_long, written}
-use Rattle.dns_c.proofs.pieces.append_octets.Goals as goal
+use Rattle.dns_c.proofs.sink.append_octets.Goals as goal
 
 pub returns-then-end-out : goal.returns-then-end-out
 returns-then-end-out c = λ text h. too_long c.args.out.now text c.args.octets.now c.args.end _ (omega arith) c.saturating_add.ensures h
