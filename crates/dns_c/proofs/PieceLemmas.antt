@@ -1,9 +1,6 @@
--- Text that a buffer holds, and the text of an octet of a label.
-use Rattle.std.proofs.Common.{◌≡◌, ◌∙◌, ℕ, ◌+◌, ◌-◌, ◌^◌, ◌<◌, ◌≤◌, min, List, [], ◌∷◌, ◌++◌, length, take, get_or, set, flat_map, ap, sym, subst, refl, arith, append_assoc, append-nil, length-append, ◌⊎◌, inl, inr, true, false}
-use Rattle.std.specs.Char.{is_ascii_graphic}
-use Rattle.std.proofs.lemmas.Bool.Decides.{nat_tests}
-use Rattle.std.proofs.lemmas.List.{flat_map_more, take_all, take_more, take_more_set}
-use Rattle.dns_name.specs.NameTexts.{decimal_text, octet_text}
+-- Text that a buffer holds.
+use Rattle.std.proofs.Common.{◌≡◌, ◌∙◌, ℕ, ◌+◌, ◌-◌, ◌^◌, ◌<◌, ◌≤◌, min, List, [], ◌∷◌, ◌++◌, length, take, set, ap, subst, refl, arith, length-append}
+use Rattle.std.proofs.lemmas.List.{take_more_set}
 use Rattle.dns_c.specs.Texts.{Holds}
 
 -- a buffer that holds a text holds an equal text
@@ -47,23 +44,3 @@ all_held out text end wide small within h =
 pub terminated : (out text : List ℕ) (end : ℕ) → length out < 2 ^ 64 → end < length out → Holds out text end → take (end + 1) (set out end 0) ≡ text ++ 0 ∷ []
 terminated out text end wide within h =
     take_more_set out end 0 within ∙ ap (λ (t : List ℕ). t ++ 0 ∷ []) (all_held out text end wide (omega arith) (omega arith) h).1
-
--- how an octet of a label is printed
-pub special_text : (o : ℕ) → (o ≡ 46) ⊎ ((o ≡ 46 → ⊥) × (o ≡ 92)) → 92 ∷ o ∷ [] ≡ octet_text o
-special_text o (inl is) = rw is refl
-special_text o (inr is) = rw is.1 refl
-
-pub graphic_text : (o : ℕ) → (o ≡ 46 → ⊥) → (o ≡ 92 → ⊥) → is_ascii_graphic o ≡ true → o ∷ [] ≡ octet_text o
-graphic_text o dot slash graphic = grind (arith, nat_tests)
-
-pub other_text : (o : ℕ) → (o ≡ 46 → ⊥) → (o ≡ 92 → ⊥) → is_ascii_graphic o ≡ false → decimal_text o ≡ octet_text o
-other_text o dot slash other = grind (arith, nat_tests)
-
--- elements that are written one by one
-module _ (text_of : ℕ → List ℕ) (text : List ℕ) (octets : List ℕ) (i : ℕ) where
-  pub more_text : i < length octets → (text ++ flat_map text_of (take i octets)) ++ text_of (get_or octets i 0) ≡ text ++ flat_map text_of (take (i + 1) octets)
-  more_text within =
-      flat_map_more text_of text (take i octets) (get_or octets i 0) ∙ ap (λ (t : List ℕ). text ++ flat_map text_of t) (sym (take_more octets i 0 within))
-
-  pub all_text : length octets ≤ i → text ++ flat_map text_of (take i octets) ≡ text ++ flat_map text_of octets
-  all_text past = ap (λ (t : List ℕ). text ++ flat_map text_of t) (take_all i octets past)

@@ -14,8 +14,6 @@ pub mod laws;
 mod make;
 mod new_data;
 mod opts;
-mod pieces;
-mod plain_fields;
 mod sink;
 mod text;
 mod walk;
@@ -44,7 +42,7 @@ ghost use Rattle.dns_c.specs.Made.{AsksNothing, AsksOne, HoldsQuery, IsLonger, I
 ghost use Rattle.dns_c.specs.Opts.{HasFields, HoldsOpt, IsInData, IsOpt, LacksOption, data_from, option_at};
 ghost use Rattle.dns_c.specs.Statuses.{status_text};
 ghost use Rattle.dns_c.specs.Steps.{EndsFrom, IsOpen, Opens, Spans, GivesNext};
-ghost use Rattle.dns_c.specs.Texts.{HasOtherField, NoRecordAt, RecordAt, class_text, data_text, type_text};
+ghost use Rattle.dns_c.specs.Texts.{NoRecordAt, RecordAt, class_text, data_text, type_text};
 
 pub use build::NewItem;
 pub use code::Fault;
@@ -146,8 +144,7 @@ pub extern "C" fn dnsm_name_octets(
 }
 
 /// Writes the RDATA of a record in presentation format, and a zero octet: by the fields of its
-/// type, or as octets (RFC 3597 section 5) if it is malformed. `Unformatted` is never returned, as
-/// writing to the buffer never fails.
+/// type, or as octets (RFC 3597 section 5) if it is malformed.
 #[unsafe(no_mangle)]
 pub extern "C" fn dnsm_data_text(
     message: &[u8],
@@ -166,9 +163,7 @@ pub extern "C" fn dnsm_data_text(
         × (len.new ≡ min (length (data_text message.now x)) (2 ^ 64 - 1)) }
     ensures question { item.now.section ≡ 0 → result ≡ number_of Fault.BadSection }
     ensures no_record { item.now.section ≢ 0 → result ≢ 0 → result ≢ number_of Fault.NoRoom
-        → result ≢ number_of Fault.Unformatted → NoRecordAt message.now item.now.place result }
-    ensures unformatted { result ≡ number_of Fault.Unformatted → (x : RecordEntry)
-        × RecordAt message.now item.now.place x × HasOtherField message.now x }
+        → NoRecordAt message.now item.now.place result }
     ensures reported { result ≢ 0 → (fault : Fault) × (result ≡ number_of fault) }
 {
     match data_text::data(message, item, out) {

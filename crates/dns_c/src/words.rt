@@ -86,7 +86,6 @@ fn sentence(status: u32) -> Option<&'static str>
         19 => Some("an option is not whole within the RDATA"),
         20 => Some("the RDATA has no such name"),
         21 => Some("the octets are no RDATA of the record type"),
-        22 => Some("the RDATA couldn't be formatted"),
         _ => None,
     }
 }
