@@ -8,7 +8,6 @@ use Rattle.dns_name.specs.declared.head.Head.{Head}
 use Rattle.dns_name.specs.declared.head.Head.TheVariants.{Root, Label}
 use Rattle.dns_question.specs.AfterNames.{FieldsFaultAt}
 use Rattle.dns_c.specs.Codes.{ReportsFault, IsReported}
-use Rattle.dns_c.specs.declared.code.Fault.TheVariants as faults
 
 -- nothing begins at an offset if an octet is missing or has the high bits 01 or 10
 missing : (f : Fault) → ShortInput ≡ f → IsReported f
