@@ -57,7 +57,7 @@ func (i Item) DataText() string {
 }
 
 // DataName is a name in the RDATA of NS, CNAME, SOA, PTR, MX, SRV or DNAME; SOA has two. No octet after the RDATA belongs to it. The
-// error is NoName if there is none, and BadData if the RDATA isn't that of its type.
+// error is BadSection for a question, NoName if there is none, and BadData if the RDATA isn't that of its type.
 func (i Item) DataName(index uint) (string, error) {
 	var offset C.size_t
 	status := C.dnsm_data_name(pointer(i.octets), C.size_t(len(i.octets)), &i.item, C.size_t(index), &offset)

@@ -75,13 +75,13 @@ hardened() {
     expect 'x86 ISA needed:.*x86-64-v2' && ! grep -E 'TEXTREL|RUNPATH|RPATH|RWE' said.txt
 }
 
-# Only the calls of dnsm.h, each with a version, and of the C library nothing newer than 2.17.
+# Only the calls of dnsm.h, each with a version, and of the C library nothing newer than 2.14.
 symbols() {
   grep -oE '^(dnsm_status|uint32_t) dnsm_\w+\(' "$prefix/include/dnsm.h" | grep -o 'dnsm_\w*($' | tr -d '(' | sort >declared.txt
   nm -D --defined-only "$library" | sed -n 's/.* T \(.*\)@@DNSM_[0-9.]*$/\1/p' | sort | diff declared.txt - &&
     nm -g --defined-only "$prefix/lib/libdnsm.a" | sed -n 's/.* T //p' | sort | diff declared.txt - || return
   nm -D --undefined-only "$library" | sed 's/.*GLIBC_//' | sort -V | tail -1 >newest.txt
-  printf '2.17\n' | sort -V - newest.txt | tail -1 | grep -qx 2.17
+  printf '2.14\n' | sort -V - newest.txt | tail -1 | grep -qx 2.14
 }
 
 check tarball::shared shared "$cc" pkg-config

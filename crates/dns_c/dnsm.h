@@ -67,7 +67,7 @@ typedef enum dnsm_status {
     DNSM_BAD_OPTION = 19,   /* an option isn't whole within the RDATA, or its offset isn't there */
     DNSM_NO_NAME = 20,      /* the RDATA has no such name */
     DNSM_BAD_DATA = 21,     /* the octets are no RDATA of the record type */
-    DNSM_UNFORMATTED = 22,  /* RDATA couldn't be formatted; never returned */
+    /* 22 is no status, and is kept free. */
     DNSM_WIDEST = 0x7fffffff /* returned by no call; with it the type has 32 bits, whatever the compiler's options */
 } dnsm_status;
 
@@ -157,9 +157,10 @@ dnsm_status dnsm_name_end(const uint8_t *message, size_t message_len, size_t pla
  * `index` is 0, and of the second name of SOA if it is 1. The types are NS, CNAME, SOA, PTR, MX, SRV and DNAME. A name can be read
  * there, and no octet after the RDATA belongs to it, also where it has a compression pointer.
  *
- * Errors, the first that applies: DNSM_NO_NAME if RDATA of this type has no name with this index; DNSM_SHORT_INPUT if the RDATA
- * isn't within the message, which happens only for an item that dnsm_next didn't write for these octets; DNSM_BAD_DATA if the RDATA
- * isn't that of its type, which dnsm_data_text writes as `\#`. On an error `*place` isn't written. */
+ * Errors, the first that applies: DNSM_BAD_SECTION for a question, which has no RDATA; DNSM_NO_NAME if RDATA of this type has no
+ * name with this index; DNSM_SHORT_INPUT if the RDATA isn't within the message, which happens only for an item that dnsm_next
+ * didn't write for these octets; DNSM_BAD_DATA if the RDATA isn't that of its type, which dnsm_data_text writes as `\#`. On an
+ * error `*place` isn't written. */
 dnsm_status dnsm_data_name(const uint8_t *message, size_t message_len, const dnsm_item *item, size_t index, size_t *place);
 
 /* Writes the octets of the name that the text represents (see "Names as text"), as in the RDATA of a dnsm_new_item: that of MX is
@@ -175,8 +176,7 @@ dnsm_status dnsm_name_from_text(const char *text, size_t text_len, uint8_t *out,
  * as a key without octets. The call reads the record at the item's `place`.
  *
  * Errors: DNSM_NO_ROOM, DNSM_BAD_SECTION for a question, which has no RDATA, and those of dnsm_name_text if no record can be read
- * there, which happens only for an item that dnsm_next didn't write for these octets. DNSM_UNFORMATTED is never returned, because
- * writing to the buffer never fails; only the proof allows it, for RDATA with a field that is no number, IPv4 address or name. */
+ * there, which happens only for an item that dnsm_next didn't write for these octets. */
 dnsm_status dnsm_data_text(const uint8_t *message, size_t message_len, const dnsm_item *item, char *out, size_t out_len,
                            size_t *len);
 

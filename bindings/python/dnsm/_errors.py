@@ -29,7 +29,6 @@ class Status(enum.IntEnum):
     BAD_OPTION = 19
     NO_NAME = 20
     BAD_DATA = 21
-    UNFORMATTED = 22
 
 
 class Error(ValueError):

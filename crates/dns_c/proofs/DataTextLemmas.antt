@@ -1,7 +1,5 @@
 -- The text of RDATA, by what is read of it.
-use Rattle.std.proofs.Common.{◌≡◌, ◌∙◌, ℕ, ◌≤◌, List, [], ◌∷◌, ◌++◌, length, ap, sym, refl, arith, append-nil, append_assoc, codes, ◌==◌, true, false}
-use Rattle.std.proofs.lemmas.Bool.Decides.{nat_tests}
-use Rattle.std.specs.Fmt.{decimal}
+use Rattle.std.proofs.Common.{◌≡◌, ◌∙◌, ℕ, ◌≤◌, List, length, ap, sym}
 use Rattle.std.specs.Prelude.{Ok, Err}
 use Rattle.dns_name.specs.Names.{fault_of}
 use Rattle.dns_name.specs.declared.parsed_name.ParsedName.{ParsedName}
@@ -12,7 +10,7 @@ use Rattle.dns_fields.specs.FieldData.{type_layout}
 use Rattle.dns_fields.specs.FieldParts.{named_parts}
 use Rattle.dns_fields.specs.Table.{definitions_of}
 use Rattle.dns_fields.specs.declared.field_data.FieldData.{FieldData}
-use Rattle.dns_fields_text.specs.DataTexts.{data_fields, data_line, data_text as fields_line}
+use Rattle.dns_fields_text.specs.DataTexts.{data_line, data_text as fields_line}
 use Rattle.dns_item.specs.ParsedRecord.{EncodedRecord}
 use Rattle.dns_item.specs.Record.{data_of}
 use Rattle.dns_item.specs.RecordReading.{GivesLaidOut}
@@ -20,8 +18,7 @@ use Rattle.dns_item.specs.declared.record.Record.{Record}
 use Rattle.dns_lines.specs.ZoneLines.{rdata_text}
 use Rattle.dns_tool.specs.Show.{IsRead}
 use Rattle.dns_tool.proofs.theory.ShownRecords.{there, parts_there, parts_missing}
-use Rattle.dns_c.specs.PlainFields.{are_plain}
-use Rattle.dns_c.specs.Texts.{HasOtherField, data_octets, data_text, has_plain_fields, hex_octets}
+use Rattle.dns_c.specs.Texts.{data_octets, data_text}
 
 module _ (x : EncodedRecord) (read : IsRead x) where
   pub all_there : x.entry.rdata_end ≤ length x.octets
@@ -34,32 +31,8 @@ module _ (x : EncodedRecord) (read : IsRead x) where
       let parts = parts_there x read (type_layout x.entry.rtype) (parts_of (data_of r)) given.1 in
       ap (λ (n : ℕ). fields_line (named_parts (definitions_of n) (parts_of (data_of r)))) rtype ∙ ap (rdata_text x) (sym parts)
 
-  -- a field that isn't plain
-  pub other_field : (r : Record ParsedName FieldData) → GivesLaidOut rtype_of parts_of x.octets x.entry (type_layout x.entry.rtype) (Ok r) → are_plain (data_fields (data_of r)) ≡ false
-      → HasOtherField x.octets x.entry
-  other_field r given other =
-      let rtype : rtype_of (data_of r) ≡ x.entry.rtype = ap (λ item. item.rtype) given.0 in
-      let parts = parts_there x read (type_layout x.entry.rtype) (parts_of (data_of r)) given.1 in
-      ap (has_plain_fields x.entry.rtype) parts ∙ ap (λ (n : ℕ). are_plain (named_parts (definitions_of n) (parts_of (data_of r)))) (sym rtype) ∙ other
-
   -- the octets of malformed RDATA
   pub malformed : (e : ParseError) (octets : List ℕ) → GivesLaidOut rtype_of parts_of x.octets x.entry (type_layout x.entry.rtype) (Err e) → octets ≡ data_octets x.octets x.entry → opaque_text octets ≡ data_text x.octets x.entry
   malformed e octets given are =
       let missing = parts_missing x read (type_layout x.entry.rtype) (fault_of e) given in
       ap opaque_text are ∙ ap (rdata_text x) (sym missing)
-
--- the text of opaque octets, as it is written
-pub opaque_none : (octets : List ℕ) → octets ≡ [] → codes "\\# " ++ decimal (length octets) ≡ opaque_text octets
-opaque_none octets none = rw none (sym (append-nil (codes "\\# " ++ decimal 0)))
-
-pub opaque_some : (octets : List ℕ) → (octets ≡ [] → ⊥) → (codes "\\# " ++ decimal (length octets)) ++ codes " " ++ hex_octets octets ≡ opaque_text octets
-opaque_some [] some = absurd (some refl)
-opaque_some (o ∷ octets) some = append_assoc (codes "\\# " ++ decimal (length (o ∷ octets))) (codes " ") (hex_octets (o ∷ octets))
-
-pub no_octets : (octets : List ℕ) → (length octets == 0) ≡ true → octets ≡ []
-no_octets [] none = refl
-no_octets (o ∷ octets) none = absurd (grind (arith, nat_tests))
-
-pub some_octets : (octets : List ℕ) → (length octets == 0) ≡ false → octets ≡ [] → ⊥
-some_octets [] some none = cc
-some_octets (o ∷ octets) some none = cc

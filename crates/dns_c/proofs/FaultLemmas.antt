@@ -1,5 +1,5 @@
 -- Which faults have a number.
-use Rattle.std.proofs.Common.{◌≡◌, ◌+◌, ◌≤◌, ℕ, arith, Bool, true, false, List, Option, Some, None, ap, subst}
+use Rattle.std.proofs.Common.{◌≡◌, ◌+◌, ℕ, Bool, true, false, List, Option, Some, None, subst, arith, ◌≤◌}
 use Rattle.std.specs.Prelude.{Result, Ok, Err, if◌then◌else◌, nat_lt, slice_get}
 use Rattle.dns_octets.specs.declared.error.TheConstants.FormError.{BAD_LABEL}
 use Rattle.dns_name.specs.Names.{Fault, Faulty, head_at, head_of, pointer_of}
@@ -7,9 +7,7 @@ use Rattle.dns_name.specs.Names.Fault.{ShortInput, Form}
 use Rattle.dns_name.specs.declared.head.Head.{Head}
 use Rattle.dns_name.specs.declared.head.Head.TheVariants.{Root, Label}
 use Rattle.dns_question.specs.AfterNames.{FieldsFaultAt}
-use Rattle.dns_c.specs.Codes.{number_of, ReportsFault, IsReported}
-use Rattle.dns_c.specs.declared.code.Fault.{Fault as FaultGiven}
-use Rattle.dns_c.specs.declared.code.Fault.TheVariants as faults
+use Rattle.dns_c.specs.Codes.{ReportsFault, IsReported}
 
 -- nothing begins at an offset if an octet is missing or has the high bits 01 or 10
 missing : (f : Fault) → ShortInput ≡ f → IsReported f
@@ -56,9 +54,3 @@ reported_small ReportsFault.missing = omega arith
 reported_small ReportsFault.label = omega arith
 reported_small ReportsFault.pointer = omega arith
 reported_small ReportsFault.name = omega arith
-
-pub never_unformatted : {f : Fault} (fault : FaultGiven) → fault ≡ faults.Unformatted → ReportsFault f (number_of fault) → ⊥
-never_unformatted fault is h =
-    let small = reported_small h in
-    let n : number_of fault ≡ 22 = ap number_of is in
-    omega (arith, small, n)

@@ -1,13 +1,7 @@
--- Text that a buffer holds, and the text of a name label by label.
-use Rattle.std.proofs.Common.{◌≡◌, ◌∙◌, ℕ, ◌+◌, ◌-◌, ◌^◌, ◌<◌, ◌≤◌, min, List, [], ◌∷◌, ◌++◌, length, take, get_or, set, flat_map, ap, sym, subst, refl, arith, append_assoc, append-nil, length-append, ◌⊎◌, inl, inr, true, false}
-use Rattle.std.specs.Prelude.{All}
-use Rattle.std.specs.Char.{is_ascii_graphic}
-use Rattle.std.proofs.lemmas.Bool.Decides.{nat_tests}
-use Rattle.std.proofs.lemmas.List.{flat_map_more, take_all, take_more, take_more_set}
-use Rattle.std.proofs.lemmas.List.Elements.{All-head, All-tail}
-use Rattle.dns_name.specs.Names.{Labels, IsLabel, with_root}
-use Rattle.dns_name.specs.NameTexts.{dot, decimal_text, octet_text, label_text}
-use Rattle.dns_c.specs.Texts.{Holds, absolute_name}
+-- Text that a buffer holds.
+use Rattle.std.proofs.Common.{◌≡◌, ◌∙◌, ℕ, ◌+◌, ◌-◌, ◌^◌, ◌<◌, ◌≤◌, min, List, [], ◌∷◌, ◌++◌, length, take, set, ap, subst, refl, arith, length-append}
+use Rattle.std.proofs.lemmas.List.{take_more_set}
+use Rattle.dns_c.specs.Texts.{Holds}
 
 -- a buffer that holds a text holds an equal text
 pub holds_as : (out text same : List ℕ) (end : ℕ) → text ≡ same → Holds out text end → Holds out same end
@@ -50,50 +44,3 @@ all_held out text end wide small within h =
 pub terminated : (out text : List ℕ) (end : ℕ) → length out < 2 ^ 64 → end < length out → Holds out text end → take (end + 1) (set out end 0) ≡ text ++ 0 ∷ []
 terminated out text end wide within h =
     take_more_set out end 0 within ∙ ap (λ (t : List ℕ). t ++ 0 ∷ []) (all_held out text end wide (omega arith) (omega arith) h).1
-
--- the text of a name label by label, with a dot after each; the root label is skipped
-abbrev pub dotted : Labels → List ℕ
-dotted [] = []
-dotted ([] ∷ name) = dotted name
-dotted ((o ∷ label) ∷ name) = (label_text (o ∷ label) ++ dot ∷ []) ++ dotted name
-
-all_dotted : (label : List ℕ) (name : Labels) → All IsLabel (label ∷ name) → dotted (with_root (label ∷ name)) ≡ absolute_name (label ∷ name)
-all_dotted [] name h = let some = (All-head IsLabel [] name h).some in absurd (omega (arith, some))
-all_dotted (o ∷ label) [] h = append-nil (label_text (o ∷ label) ++ dot ∷ [])
-all_dotted (o ∷ label) (next ∷ name) h =
-    ap (λ (t : List ℕ). (label_text (o ∷ label) ++ dot ∷ []) ++ t) (all_dotted next name (All-tail IsLabel (o ∷ label) (next ∷ name) h))
-    ∙ simp append_assoc
-
-pub name_dotted : (name : Labels) → (name ≡ [] → ⊥) → All IsLabel name → dotted (with_root name) ≡ absolute_name name
-name_dotted [] some h = absurd (some refl)
-name_dotted (label ∷ name) some h = all_dotted label name h
-
--- a label and a dot are written
-pub one_dotted : (text label : List ℕ) (after : Labels) (whole : List ℕ) → (label ≡ [] → ⊥) → text ++ dotted (label ∷ after) ≡ whole → ((text ++ label_text label) ++ dot ∷ []) ++ dotted after ≡ whole
-one_dotted text [] after whole some e = absurd (some refl)
-one_dotted text (o ∷ label) after whole some e = simp append_assoc (simp append_assoc at e)
-
--- the root label is skipped
-pub root_skipped : (text label : List ℕ) (after : Labels) (whole : List ℕ) → label ≡ [] → text ++ dotted (label ∷ after) ≡ whole → text ++ dotted after ≡ whole
-root_skipped text [] after whole none e = e
-root_skipped text (o ∷ label) after whole none e = absurd (cc)
-
--- how an octet of a label is printed
-pub special_text : (o : ℕ) → (o ≡ 46) ⊎ ((o ≡ 46 → ⊥) × (o ≡ 92)) → 92 ∷ o ∷ [] ≡ octet_text o
-special_text o (inl is) = rw is refl
-special_text o (inr is) = rw is.1 refl
-
-pub graphic_text : (o : ℕ) → (o ≡ 46 → ⊥) → (o ≡ 92 → ⊥) → is_ascii_graphic o ≡ true → o ∷ [] ≡ octet_text o
-graphic_text o dot slash graphic = grind (arith, nat_tests)
-
-pub other_text : (o : ℕ) → (o ≡ 46 → ⊥) → (o ≡ 92 → ⊥) → is_ascii_graphic o ≡ false → decimal_text o ≡ octet_text o
-other_text o dot slash other = grind (arith, nat_tests)
-
--- elements that are written one by one
-module _ (text_of : ℕ → List ℕ) (text : List ℕ) (octets : List ℕ) (i : ℕ) where
-  pub more_text : i < length octets → (text ++ flat_map text_of (take i octets)) ++ text_of (get_or octets i 0) ≡ text ++ flat_map text_of (take (i + 1) octets)
-  more_text within =
-      flat_map_more text_of text (take i octets) (get_or octets i 0) ∙ ap (λ (t : List ℕ). text ++ flat_map text_of t) (sym (take_more octets i 0 within))
-
-  pub all_text : length octets ≤ i → text ++ flat_map text_of (take i octets) ≡ text ++ flat_map text_of octets
-  all_text past = ap (λ (t : List ℕ). text ++ flat_map text_of t) (take_all i octets past)

@@ -1,11 +1,11 @@
 -- Text that a sink was given.
 use Rattle.std.proofs.Common.{◌≡◌, ◌∙◌, ℕ, List, [], ◌∷◌, ◌++◌, ap, sym, subst, append_assoc, append-nil}
 use Rattle.std.specs.List.{FoldsTo, concat}
-use Rattle.std.specs.Fmt.{WritesInCalls, WritesText}
-use Rattle.std.specs.Prelude.{IfSome, Option, Some, None}
+use Rattle.std.specs.Fmt.{WritesInCalls}
 use Rattle.dns_c.specs.Sinks.{AppendsTo}
 use Rattle.dns_c.specs.Texts.{Holds}
 use Rattle.dns_c.specs.declared.sink.Sink.{Sink}
+use Rattle.dns_c.proofs.PieceLemmas.{empty_held}
 
 -- calls write their texts one after the other
 each_written : (parts : List (List ℕ)) (old new : Sink) → FoldsTo AppendsTo old parts new → AppendsTo old (concat parts) new
@@ -21,13 +21,13 @@ each_written (part ∷ parts) old new calls =
       text = λ text h. subst (λ (t : List ℕ). Holds new.out.now t new.end) (append_assoc text part (concat parts)) (others.text (text ++ part) (first.text text h));
     }
 
-pub all_written : (old new : Sink) (text : List ℕ) → WritesInCalls AppendsTo old text new → AppendsTo old text new
+all_written : (old new : Sink) (text : List ℕ) → WritesInCalls AppendsTo old text new → AppendsTo old text new
 all_written old new text calls = subst (λ (t : List ℕ). AppendsTo old t new) calls.whole (each_written calls.parts old new calls.calls)
 
--- A text that is written at the beginning, if it is known. `last` is what the buffer named `name` holds in the end.
-pub known_written : (old new : Sink) (written : Option (List ℕ)) (name : ℕ) (last : List ℕ) → (name ≡ new.out.ghost_name → last ≡ new.out.now) → name ≡ old.out.ghost_name
-    → WritesText AppendsTo old written new → Holds old.out.now [] old.end → IfSome written (λ text. Holds last text new.end)
-known_written old new None name last tie same writes none = tt
-known_written old new (Some text) name last tie same writes none =
+-- A text that is printed at the beginning. `last` is what the buffer named `name` holds in the end.
+pub printed : (old new : Sink) (text : List ℕ) (name : ℕ) (last : List ℕ) → (name ≡ new.out.ghost_name → last ≡ new.out.now) → name ≡ old.out.ghost_name → old.end ≡ 0 → WritesInCalls AppendsTo old text new
+    → Holds last text new.end
+printed old new text name last tie same start writes =
     let all = all_written old new text writes in
+    let none = subst (λ (end : ℕ). Holds old.out.now [] end) (sym start) (empty_held old.out.now) in
     subst (λ (out : List ℕ). Holds out text new.end) (sym (tie (same ∙ sym all.buffer))) (all.text [] none)

@@ -34,7 +34,6 @@ number_of faults.NotOpt = 18
 number_of faults.BadOption = 19
 number_of faults.NoName = 20
 number_of faults.BadData = 21
-number_of faults.Unformatted = 22
 
 -- the status of a call: 0 if there is an item, 1 at the end, otherwise the number of the fault
 abbrev pub code_of : Result Bool Fault → ℕ

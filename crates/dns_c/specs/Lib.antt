@@ -8,5 +8,4 @@ pub mod Built
 pub mod Opts
 pub mod DataNames
 pub mod Sinks
-pub mod PlainFields
 pub mod NewData

@@ -30,7 +30,6 @@ status_sentences =
     ∷ (number_of faults.BadOption, codes "an option is not whole within the RDATA")
     ∷ (number_of faults.NoName, codes "the RDATA has no such name")
     ∷ (number_of faults.BadData, codes "the octets are no RDATA of the record type")
-    ∷ (number_of faults.Unformatted, codes "the RDATA couldn't be formatted")
     ∷ []
 
 -- the text of a status

@@ -1,22 +1,16 @@
 -- Text in a caller's buffer, and the texts of record types, classes, names and RDATA. RFC 1035 section 5.1, RFC 3597 section 5.
-use Rattle.std.specs.Prelude.{◌≡◌, ℕ, ◌≤◌, ◌-◌, ◌^◌, Bool, true, false, List, [], ◌∷◌, ◌++◌, codes, drop, length, take, min, Option, Some, None}
-use Rattle.std.specs.List.{flat_map}
-use Rattle.dns_name.specs.Names.{Fault, Labels}
-use Rattle.dns_name.specs.NameTexts.{dot, name_text}
+use Rattle.std.specs.Prelude.{◌≡◌, ℕ, ◌≤◌, ◌-◌, ◌^◌, List, codes, drop, length, take, min, Option}
+use Rattle.dns_name.specs.Names.{Fault}
 use Rattle.dns_number.specs.NumberTexts.{number_text}
 use Rattle.dns_number.specs.Registry.{registered_classes, registered_types}
-use Rattle.dns_data.specs.Printing.{hex_octet}
 use Rattle.dns_item.specs.Items.{RecordEntry, ReadsRecord, RecordFaultAt}
 use Rattle.dns_item.specs.ParsedRecord.{EncodedRecord}
 use Rattle.dns_item.specs.RecordReading.{up_to_rdata_end}
 use Rattle.dns_wire.specs.Parts.{Part}
 use Rattle.dns_fields.specs.FieldData.{type_layout}
-use Rattle.dns_fields.specs.FieldParts.{named_parts}
-use Rattle.dns_fields.specs.Table.{definitions_of}
 use Rattle.dns_lines.specs.ZoneLines.{rdata_text}
 use Rattle.dns_tool.specs.Show.{data_parts}
 use Rattle.dns_c.specs.Codes.{ReportsFault}
-use Rattle.dns_c.specs.PlainFields.{are_plain}
 
 -- `end` is the length of the text, at most 2^64 - 1, and the buffer begins with the text if it is long enough
 pub record Holds (out text : List ℕ) (end : ℕ) : Type 0 where
@@ -31,14 +25,6 @@ type_text n = number_text registered_types (codes "TYPE") n
 abbrev pub class_text : ℕ → List ℕ
 class_text n = number_text registered_classes (codes "CLASS") n
 
--- the text of a name with its final dot
-abbrev pub absolute_name : Labels → List ℕ
-absolute_name name = name_text name ++ dot ∷ []
-
--- octets in hexadecimal, two digits each
-abbrev pub hex_octets : List ℕ → List ℕ
-hex_octets octets = flat_map hex_octet octets
-
 -- the record x can be read at p
 abbrev pub RecordAt : List ℕ → ℕ → RecordEntry → Type 0
 RecordAt b p x = (q : ℕ) × ReadsRecord b p q x
@@ -51,11 +37,6 @@ NoRecordAt b p n = (f : Fault) × RecordFaultAt b p f × ReportsFault f n
 abbrev pub data_octets : List ℕ → RecordEntry → List ℕ
 data_octets b x = drop x.rdata_start (up_to_rdata_end b x)
 
--- whether the fields of RDATA with these parts are all numbers, IPv4 addresses and names; malformed RDATA has no fields
-abbrev pub has_plain_fields : ℕ → Option (List Part) → Bool
-has_plain_fields rtype None = true
-has_plain_fields rtype (Some parts) = are_plain (named_parts (definitions_of rtype) parts)
-
 -- the parts of a record's RDATA as the fields of its type; none if it is malformed
 abbrev pub field_parts : EncodedRecord → Option (List Part)
 field_parts r = data_parts r (type_layout r.entry.rtype)
@@ -63,7 +44,3 @@ field_parts r = data_parts r (type_layout r.entry.rtype)
 -- the text of RDATA: its fields, or its octets if it is malformed
 abbrev pub data_text : List ℕ → RecordEntry → List ℕ
 data_text b x = let r : EncodedRecord = record { octets = b; entry = x } in rdata_text r (field_parts r)
-
--- the record x has RDATA with a field that is no number, IPv4 address or name
-abbrev pub HasOtherField : List ℕ → RecordEntry → Type 0
-HasOtherField b x = has_plain_fields x.rtype (field_parts (record { octets = b; entry = x })) ≡ false

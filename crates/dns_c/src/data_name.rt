@@ -1,5 +1,5 @@
 //! The names in RDATA.
-ghost use Rattle.std.specs.Prelude.{◌≡◌, ◌<◌, ◌≤◌, Some, length, true, false, IfErr, IfOk};
+ghost use Rattle.std.specs.Prelude.{◌≡◌, ◌≢◌, ◌<◌, ◌≤◌, Some, length, true, false, Err, IfErr, IfOk};
 ghost use Rattle.dns_name.specs.Names.{Labels, NameAt};
 ghost use Rattle.dns_c.specs.Codes.{number_of};
 ghost use Rattle.dns_c.specs.DataNames.{HasName, IsDataName, IsNoRdata, IsPlaceOf, IsRdata, LacksDataName, before_name, data_end, first_names};
@@ -89,12 +89,16 @@ fn place_in(octets: &[u8], rtype: u16, start: usize, index: usize, before: usize
     place
 }
 
-/// The offset of the name with this index in the RDATA of a record.
+/// The offset of the name with this index in the RDATA of a record. A question has no RDATA.
 pub(crate) fn data_name(octets: &[u8], item: &Item, index: usize) -> Result<usize, Fault>
+    ensures question { item.now.section ≡ 0 → result ≡ Err Fault.BadSection }
     ensures name { IfOk result (λ place. IsDataName octets.now item.now index place) }
-    ensures none { IfErr result (λ fault.
-        LacksDataName octets.now item.now index (number_of fault)) }
+    ensures none { IfErr result (λ fault. item.now.section ≢ 0
+        → LacksDataName octets.now item.now index (number_of fault)) }
 {
+    if item.section == 0 {
+        return Err(Fault::BadSection);
+    }
     let before = before_first(item.rtype, index)?;
     let end = data_end(octets, item)?;
     let seen = &octets[..end];

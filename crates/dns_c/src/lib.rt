@@ -10,17 +10,16 @@ mod build;
 mod code;
 mod data_name;
 mod data_text;
+pub mod laws;
 mod make;
 mod new_data;
 mod opts;
-mod pieces;
-mod plain_fields;
 mod sink;
 mod text;
 mod walk;
 mod words;
 
-ghost use Rattle.std.specs.Prelude.{◌≡◌, ◌≢◌, ◌⊎◌, ◌<◌, ◌≤◌, ◌+◌, ◌-◌, ◌^◌, ◌++◌, ◌∷◌, ℕ, [], length, take, min, get_or, None, true};
+ghost use Rattle.std.specs.Prelude.{◌≡◌, ◌≢◌, ◌⊎◌, ◌<◌, ◌≤◌, ◌+◌, ◌-◌, ◌^◌, ◌++◌, ◌∷◌, ℕ, [], length, take, replicate, min, get_or, None, true};
 ghost use Rattle.dns_name.specs.NameTexts.{SpellsName, name_text};
 ghost use Rattle.dns_name.specs.Names.{Labels, NameAt, NameEndsAt, uncompressed};
 ghost use Rattle.dns_wire.specs.Encoders.{Tree};
@@ -43,7 +42,7 @@ ghost use Rattle.dns_c.specs.Made.{AsksNothing, AsksOne, HoldsQuery, IsLonger, I
 ghost use Rattle.dns_c.specs.Opts.{HasFields, HoldsOpt, IsInData, IsOpt, LacksOption, data_from, option_at};
 ghost use Rattle.dns_c.specs.Statuses.{status_text};
 ghost use Rattle.dns_c.specs.Steps.{EndsFrom, IsOpen, Opens, Spans, GivesNext};
-ghost use Rattle.dns_c.specs.Texts.{HasOtherField, NoRecordAt, RecordAt, class_text, data_text, type_text};
+ghost use Rattle.dns_c.specs.Texts.{NoRecordAt, RecordAt, class_text, data_text, type_text};
 
 pub use build::NewItem;
 pub use code::Fault;
@@ -145,8 +144,7 @@ pub extern "C" fn dnsm_name_octets(
 }
 
 /// Writes the RDATA of a record in presentation format, and a zero octet: by the fields of its
-/// type, or as octets (RFC 3597 section 5) if it is malformed. `Unformatted` is never returned, as
-/// writing to the buffer never fails.
+/// type, or as octets (RFC 3597 section 5) if it is malformed.
 #[unsafe(no_mangle)]
 pub extern "C" fn dnsm_data_text(
     message: &[u8],
@@ -165,9 +163,7 @@ pub extern "C" fn dnsm_data_text(
         × (len.new ≡ min (length (data_text message.now x)) (2 ^ 64 - 1)) }
     ensures question { item.now.section ≡ 0 → result ≡ number_of Fault.BadSection }
     ensures no_record { item.now.section ≢ 0 → result ≢ 0 → result ≢ number_of Fault.NoRoom
-        → result ≢ number_of Fault.Unformatted → NoRecordAt message.now item.now.place result }
-    ensures unformatted { result ≡ number_of Fault.Unformatted → (x : RecordEntry)
-        × RecordAt message.now item.now.place x × HasOtherField message.now x }
+        → NoRecordAt message.now item.now.place result }
     ensures reported { result ≢ 0 → (fault : Fault) × (result ≡ number_of fault) }
 {
     match data_text::data(message, item, out) {
@@ -194,7 +190,7 @@ pub extern "C" fn dnsm_name_end(message: &[u8], place: usize, end: &mut usize) -
 }
 
 /// Sets `place` to the offset of the name with this index in the RDATA of a record. The name is read
-/// without the octets after the RDATA.
+/// without the octets after the RDATA. A question has no RDATA.
 #[unsafe(no_mangle)]
 pub extern "C" fn dnsm_data_name(
     message: &[u8],
@@ -202,13 +198,15 @@ pub extern "C" fn dnsm_data_name(
     index: usize,
     place: &mut usize,
 ) -> u32
+    ensures question { item.now.section ≡ 0 → result ≡ number_of Fault.BadSection }
     ensures name { result ≡ 0 → IsDataName message.now item.now index place.new }
     ensures read { result ≡ 0 → (name : Labels)
         × NameAt (up_to_data_end message.now item.now) place.new name
         × NameAt message.now place.new name }
     ensures within { result ≡ 0 → (item.now.«data» ≤ place.new)
         × (place.new < data_end item.now) }
-    ensures none { result ≢ 0 → LacksDataName message.now item.now index result }
+    ensures none { item.now.section ≢ 0 → result ≢ 0
+        → LacksDataName message.now item.now index result }
     ensures unchanged { result ≢ 0 → place.new ≡ place.old }
 {
     match data_name::data_name(message, item, index) {
@@ -438,13 +436,14 @@ pub extern "C" fn dnsm_build(
     }
 }
 
-/// Begins a message without items, limit or reserved octets. Writes nothing to the buffer.
+/// Begins a message without items, limit, reserved octets or hints. Writes nothing to the buffer.
 #[unsafe(no_mangle)]
 pub extern "C" fn dnsm_begin(draft: &mut Draft, out: &mut [u8], id: u16, flags: u16) -> u32
     ensures begun { result ≡ 0 → (s : State) → IsDraftOf out.old draft.new (up_to InBuilder s) }
     ensures header { result ≡ 0 → (draft.new.id ≡ id) × (draft.new.flags ≡ flags) }
     ensures settings { result ≡ 0 → (draft.new.limit ≡ usize.MAX) × (draft.new.reserved ≡ 0) }
     ensures section { result ≡ 0 → draft.new.section ≡ 0 }
+    ensures hints { result ≡ 0 → draft.new.hints ≡ replicate 64 0 }
     ensures no_room { result ≢ 0 → (result ≡ number_of Fault.NoRoom)
         × (length out.old < header_size) × (draft.new ≡ draft.old) }
     ensures same { out.new ≡ out.old }

@@ -9,7 +9,7 @@ ghost use Rattle.dns_c.specs.Texts.{Holds};
 
 use crate::code::Fault;
 use crate::data_name::data_end;
-use crate::pieces::{End, START, append_octets};
+use crate::sink::{End, START, append_octets};
 use crate::walk::Item;
 
 /// The record type of OPT.

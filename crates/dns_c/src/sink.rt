@@ -1,36 +1,45 @@
-//! A writer of text to the caller's buffer.
-ghost use Rattle.std.specs.Prelude.{IfSome};
+//! Text and octets in the caller's buffer.
+ghost use Rattle.std.specs.Prelude.{◌++◌, ℕ, List};
 ghost use Rattle.dns_c.specs.Texts.{Holds};
 
-use crate::pieces::{End, START, append_octets};
+use dns_print::TextWriter;
 use std::fmt;
-use std::fmt::Write;
 
-/// Appends text to a buffer, and counts also what doesn't fit. Appending never fails.
-#[derive(Drop)]
-struct Sink<'a> {
-    out: &'a mut [u8],
-    end: End,
+/// The length of a text, also if the buffer is too short for the text. At most `usize::MAX`.
+pub(crate) type End = usize;
+
+/// The length of the empty text.
+pub(crate) const START: End = 0;
+
+/// Appends octets to those in `out`.
+pub(crate) fn append_octets(octets: &[u8], out: &mut [u8], end: End) -> End
+    ensures { (text : List ℕ) → Holds out.old text end
+        → Holds out.new (text ++ octets.now) result }
+{
+    if end > out.len() || octets.len() > out.len() - end {
+        return end.saturating_add(octets.len());
+    }
+    let after = end + octets.len();
+    out[end..after].copy_from_slice(octets);
+    after
 }
 
-impl Write for Sink<'_> {
+/// A writer of text to a buffer. It also counts what doesn't fit, and never fails.
+#[derive(Drop)]
+pub(crate) struct Sink<'a> {
+    pub(crate) out: &'a mut [u8],
+    pub(crate) end: End,
+}
+
+impl TextWriter for Sink<'_> {
     ghost use Rattle.dns_c.specs.Sinks.{AppendsTo};
 
-    ghost write_str_gives = { AppendsTo };
+    ghost takes = { AppendsTo };
 
-    fn write_str(&mut self, text: &str) -> fmt::Result {
+    ghost MayFail = { ⊥ };
+
+    fn write_text(&mut self, text: &str) -> fmt::Result {
         self.end = append_octets(text.as_bytes(), self.out, self.end);
         Ok(())
-    }
-}
-
-/// Writes a value as `{}` does, at the beginning of `out`. Returns `None` if its `fmt` fails.
-pub(crate) fn write_value<D: fmt::Display + Drop>(value: D, out: &mut [u8]) -> Option<End>
-    ensures { IfSome result (λ end. IfSome (D.output value) (λ text. Holds out.new text end)) }
-{
-    let mut sink = Sink { out, end: START };
-    match write!(sink, "{value}") {
-        Ok(()) => Some(sink.end),
-        Err(_) => None,
     }
 }

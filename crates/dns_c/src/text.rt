@@ -1,23 +1,37 @@
 //! Text that is returned to the caller.
 ghost use Rattle.std.specs.Prelude.{◌≡◌, ◌≢◌, ◌<◌, ◌≤◌, ◌+◌, ◌-◌, ◌^◌, ◌++◌, ◌∷◌, ℕ, List, [], length, get_or, take, min, IfOk, IfErr};
 ghost use Rattle.dns_name.specs.Names.{Labels, NameAt};
+ghost use Rattle.dns_name.specs.NameTexts.{dotted_text};
+ghost use Rattle.dns_name.specs.ParsedName.{labels};
 ghost use Rattle.dns_c.specs.Codes.{number_of};
 ghost use Rattle.dns_c.specs.Made.{LacksName};
-ghost use Rattle.dns_c.specs.Texts.{Holds, absolute_name};
+ghost use Rattle.dns_c.specs.Texts.{Holds};
 
 use crate::code;
 use crate::code::Fault;
-use crate::pieces::{End, write_name};
+use crate::sink::{End, START, Sink};
 use crate::walk::name_at;
+use dns_name::{ParsedName, write_dotted_name};
 
 /// Writes the name at offset `place`, with a dot after each label.
 pub(crate) fn name(octets: &[u8], place: usize, out: &mut [u8]) -> Result<End, Fault>
     ensures text { IfOk result (λ end. (name : Labels) × NameAt octets.now place name
-        × Holds out.new (absolute_name name) end) }
+        × Holds out.new (dotted_text name) end) }
     ensures none { IfErr result (λ fault. LacksName octets.now place (number_of fault)) }
 {
     let name = name_at(octets, place)?;
     Ok(write_name(&name, out))
+}
+
+/// Writes a name with a dot after each label.
+fn write_name(name: &ParsedName<'_>, out: &mut [u8]) -> End
+    ensures { Holds out.new (dotted_text (labels name.now)) result }
+{
+    let mut sink = Sink { out, end: START };
+    let Ok(()) = write_dotted_name(&mut sink, name) else {
+        unreachable!()
+    };
+    sink.end
 }
 
 /// Terminates a text with a zero octet, sets `len` to its length, and returns the status.

@@ -1,24 +1,45 @@
 //! The text of record types, classes and statuses.
-ghost use Rattle.std.specs.Prelude.{◌≡◌, ◌++◌, decimal, option_map, unwrap_or};
+ghost use Rattle.std.specs.Prelude.{◌≡◌, ◌++◌, decimal, option_map, unwrap_or, OnErr};
+ghost use Rattle.dns_print.specs.Printing.{PrintsOnOk};
 ghost use Rattle.dns_number.specs.Mnemonics.{mnemonic};
 ghost use Rattle.dns_c.specs.Statuses.{status_sentences, status_text};
 ghost use Rattle.dns_c.specs.Texts.{Holds, class_text, type_text};
 
-use crate::pieces::{End, START, append_number, append_octets};
+use crate::sink::{End, START, Sink};
 use dns_number::{Class, Rtype};
+use dns_print::{TextWriter, write_number};
+use std::fmt;
+
+/// Prints `word`, or `other` followed by the number if there is none.
+#[tactic(auto, using(dns_print::proofs::theory::Prints::prints, std::proofs::lemmas::Grind::common_steps))]
+fn print_word<W: TextWriter>(
+    writer: &mut W,
+    word: Option<&str>,
+    other: &str,
+    number: u32,
+) -> fmt::Result
+    ensures text { PrintsOnOk W.takes writer.old result
+        (unwrap_or (option_map (λ word. word.now) word.entry) (other.now ++ decimal number))
+        writer.new }
+    ensures err { OnErr result W.MayFail }
+{
+    let Some(word) = word else {
+        writer.write_text(other)?;
+        return write_number(writer, u64::from(number));
+    };
+    writer.write_text(word)
+}
 
 /// Writes `word`, or `other` followed by the number if there is none.
-fn append_word(word: Option<&str>, other: &[u8], number: u32, out: &mut [u8]) -> End
+fn write_word(word: Option<&str>, other: &str, number: u32, out: &mut [u8]) -> End
     ensures { Holds out.new (unwrap_or (option_map (λ word. word.now) word.entry)
         (other.now ++ decimal number)) result }
 {
-    match word {
-        Some(word) => append_octets(word.as_bytes(), out, START),
-        None => {
-            let end = append_octets(other, out, START);
-            append_number(u64::from(number), out, end)
-        }
-    }
+    let mut sink = Sink { out, end: START };
+    let Ok(()) = print_word(&mut sink, word, other, number) else {
+        unreachable!()
+    };
+    sink.end
 }
 
 /// Writes a record type: its registered name, or `TYPE` and its number.
@@ -26,7 +47,7 @@ pub(crate) fn rtype(number: u16, out: &mut [u8]) -> End
     ensures { Holds out.new (type_text number) result }
 {
     let word = Rtype::from_int(number).registered_name();
-    append_word(word, b"TYPE", u32::from(number), out)
+    write_word(word, "TYPE", u32::from(number), out)
 }
 
 /// Writes a class: its registered name, or `CLASS` and its number.
@@ -34,7 +55,7 @@ pub(crate) fn class(number: u16, out: &mut [u8]) -> End
     ensures { Holds out.new (class_text number) result }
 {
     let word = Class::from_int(number).registered_name();
-    append_word(word, b"CLASS", u32::from(number), out)
+    write_word(word, "CLASS", u32::from(number), out)
 }
 
 /// The sentence that says what a status means, if there is such a status.
@@ -65,7 +86,6 @@ fn sentence(status: u32) -> Option<&'static str>
         19 => Some("an option is not whole within the RDATA"),
         20 => Some("the RDATA has no such name"),
         21 => Some("the octets are no RDATA of the record type"),
-        22 => Some("the RDATA couldn't be formatted"),
         _ => None,
     }
 }
@@ -74,5 +94,5 @@ fn sentence(status: u32) -> Option<&'static str>
 pub(crate) fn status(number: u32, out: &mut [u8]) -> End
     ensures { Holds out.new (status_text number) result }
 {
-    append_word(sentence(number), b"unknown status ", number, out)
+    write_word(sentence(number), "unknown status ", number, out)
 }

@@ -15,11 +15,12 @@
 
 mod draft;
 mod items;
+pub mod laws;
 mod names;
 mod octets;
 mod rdata;
 
-ghost use Rattle.std.specs.Prelude.{◌≡◌, ◌⊎◌, ◌+◌, ◌<◌, ◌≤◌, length, take, IfOk, IfErr, OnOk, OnErr};
+ghost use Rattle.std.specs.Prelude.{◌≡◌, ◌⊎◌, ◌+◌, ◌<◌, ◌≤◌, length, take, replicate, IfOk, IfErr, OnOk, OnErr};
 ghost use Rattle.dns_build.specs.State.{State, with_header, up_to, InBuilder};
 ghost use Rattle.dns_build.specs.MessageOf.{ReadsBack, PointsToLabels};
 ghost use Rattle.dns_code.specs.HeaderSection.{header_size};
@@ -31,13 +32,14 @@ ghost use Rattle.dns_put.specs.declared.draft.Draft.{Draft};
 pub use draft::{Draft, PutError, PutItem};
 use octets::{HEADER_LEN, put_octets};
 
-/// Begins a message without items, in a buffer of at least 12 octets. There is no limit, and no
-/// octet is reserved. Writes nothing to the buffer.
+/// Begins a message without items, in a buffer of at least 12 octets. There is no limit, no octet is
+/// reserved, and no hint of an older draft is left. Writes nothing to the buffer.
 pub fn begin(draft: &mut Draft, out: &[u8], id: u16, flags: u16) -> Result<(), PutError>
     ensures begun { OnOk result ((s : State) → IsDraftOf out.now draft.new (up_to InBuilder s)) }
     ensures header { OnOk result ((draft.new.id ≡ id) × (draft.new.flags ≡ flags)) }
     ensures settings { OnOk result ((draft.new.limit ≡ usize.MAX) × (draft.new.reserved ≡ 0)) }
     ensures section { OnOk result (draft.new.section ≡ 0) }
+    ensures hints { OnOk result (draft.new.hints ≡ replicate 64 0) }
     ensures no_room { IfErr result (λ error. (error ≡ PutError.NoRoom)
         × (length out.now < header_size)) }
     ensures same { OnErr result (draft.new ≡ draft.old) }

@@ -28,7 +28,6 @@ pub const DNSM_NOT_OPT: dnsm_status = 18;
 pub const DNSM_BAD_OPTION: dnsm_status = 19;
 pub const DNSM_NO_NAME: dnsm_status = 20;
 pub const DNSM_BAD_DATA: dnsm_status = 21;
-pub const DNSM_UNFORMATTED: dnsm_status = 22;
 
 pub const DNSM_QUESTION: u8 = 0;
 pub const DNSM_ANSWER: u8 = 1;
