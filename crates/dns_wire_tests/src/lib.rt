@@ -32,6 +32,8 @@ mod octets;
 #[cfg(test)]
 mod parser;
 #[cfg(test)]
+mod ranges;
+#[cfg(test)]
 mod registry;
 #[cfg(test)]
 mod serials;
