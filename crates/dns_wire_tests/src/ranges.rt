@@ -188,6 +188,26 @@ fn clones_vectors_of_many_octets(rt: HostRuntime) {
     }
 }
 
+/// Appends octets. Fails unless the capacity is then at most 512 octets, twice the old capacity or
+/// the length, whichever is more.
+fn assert_grows(rt: &impl Abort, target: &mut Vec<u8>, octets: &[u8]) {
+    let twice = target.capacity().saturating_mul(2);
+    target.append_slice(octets).expect(rt, "memory");
+    let most = twice.max(target.len()).max(512);
+    assert_same(rt, "the growth", target.capacity() <= most, true);
+}
+
+#[test]
+fn grows_by_no_more_than_its_size(rt: HostRuntime) {
+    for len in [1, 700] {
+        let octets = many_octets(&rt, rt.alloc(), len);
+        let mut target = Vec::new(rt.alloc());
+        for _ in 0..2000 {
+            assert_grows(&rt, &mut target, &octets);
+        }
+    }
+}
+
 /// Fails unless the target refuses two octets, and its target keeps its capacity and its content.
 fn assert_keeps_its_capacity(rt: &impl Abort, target: &mut StreamTarget<Vec<u8>>) {
     let capacity = target.as_target().capacity();
