@@ -8,7 +8,7 @@ import "unsafe"
 
 // Build writes a message, with its names compressed. `flags` are the third and fourth octets of the header, as QR|AA. The error is
 // BadText, LongData, BadData, TooMany or BadSection for an item that can't be written, or NoMemory. An item whose name is octets
-// has the errors of reading a name.
+// has the errors of reading a name, and BadText if octets follow it, or it has a compression pointer.
 func Build(id, flags uint16, items []NewItem) ([]byte, error) {
 	items, err := withTexts(items)
 	if err != nil {

@@ -34,9 +34,7 @@ func (i Item) Name() string {
 
 // NameOctets is its name, without compression pointers.
 func (i Item) NameOctets() []byte {
-	octets, err := written(func(out []byte, length *C.size_t) C.dnsm_status {
-		return C.dnsm_name_octets(pointer(i.octets), C.size_t(len(i.octets)), i.item.place, pointer(out), C.size_t(len(out)), length)
-	})
+	octets, err := nameOctets(i.octets, i.item.place)
 	if err != nil {
 		panic(err)
 	}

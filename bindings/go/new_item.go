@@ -3,6 +3,8 @@ package dnsm
 // #include <dnsm.h>
 import "C"
 
+import "bytes"
+
 // NewItem is a question or a record to write. The data is RDATA, with names in it uncompressed (NameFromText). A question has
 // neither TTL nor data.
 type NewItem struct {
@@ -23,10 +25,17 @@ func (i *NewItem) nameOctets() ([]byte, error) {
 }
 
 func (i *NewItem) nameText() (string, error) {
-	if i.Name == "" && i.NameOctets != nil {
-		return NameToText(i.NameOctets)
+	if i.Name != "" || i.NameOctets == nil {
+		return i.Name, nil
 	}
-	return i.Name, nil
+	read, err := nameOctets(i.NameOctets, 0)
+	if err != nil {
+		return "", err
+	}
+	if !bytes.Equal(read, i.NameOctets) {
+		return "", BadText
+	}
+	return NameToText(i.NameOctets)
 }
 
 // NameFromText is the octets of the name that a text represents, as in RDATA. The error is BadText if it represents none.
@@ -48,4 +57,11 @@ func nameText(octets []byte, offset C.size_t) (string, error) {
 		return C.dnsm_name_text(pointer(octets), C.size_t(len(octets)), offset, chars(out), C.size_t(len(out)), length)
 	})
 	return string(name), err
+}
+
+// nameOctets is the octets of the name at an offset, without compression pointers.
+func nameOctets(octets []byte, offset C.size_t) ([]byte, error) {
+	return written(func(out []byte, length *C.size_t) C.dnsm_status {
+		return C.dnsm_name_octets(pointer(octets), C.size_t(len(octets)), offset, pointer(out), C.size_t(len(out)), length)
+	})
 }

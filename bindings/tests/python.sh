@@ -5,7 +5,7 @@ installed() {
   rm -rf venv && "$python" -m venv venv && venv/bin/python -m pip install -q --no-index --find-links "$dist" dnsm &&
     shows venv/bin/python "$tests/examples/show.py" && writes venv/bin/python "$tests/examples/write.py" &&
     serves venv/bin/python "$tests/examples/serve.py" &&
-    (cd "$tests/tests" && "$room/python/venv/bin/python" -W error -m unittest -q test_dnsm)
+    (cd "$tests/tests" && "$room/python/venv/bin/python" -W error -m unittest -q test_dnsm test_whole)
 }
 
 # What pip says of the wheel: each file is in RECORD, and the version is that of dnsm.h.

@@ -60,9 +60,9 @@ old_processor() {
 }
 
 memory() {
-  linked memory || return
-  writes valgrind -q --leak-check=full memory/write 2>said.txt && shows valgrind -q --leak-check=full memory/show 2>>said.txt &&
-    serves valgrind -q --leak-check=full memory/serve 2>>said.txt && ! grep . said.txt
+  local checked='valgrind -q --leak-check=full --log-file=memory/%p.said'
+  linked memory && writes $checked memory/write && shows $checked memory/show && serves $checked memory/serve || return
+  ! cat memory/*.said | grep .
 }
 
 expect() {

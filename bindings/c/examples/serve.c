@@ -1,9 +1,11 @@
 /* Answers queries as a name server does over UDP: reads them from standard input, in hexadecimal, one a line, of any length, and
- * prints the responses. A question for AAAA gets 20 addresses. If these don't fit, the response has none of them, and TC is set. */
+ * prints the responses. A question for AAAA gets 20 addresses. If these don't fit, the response has none of them, and TC is set.
+ * A line that isn't in hexadecimal is reported on standard error, and then the exit status is 1. */
 #include <dnsm.h>
 
 #include <stdio.h>
 #include <stdlib.h>
+#include <string.h>
 
 enum { AAAA = 28, IN = 1, ADDRESSES = 20, TTL = 300 };
 /* The octets of an OPT record without options, of a message for a client without EDNS, and of the longest message sent. */
@@ -94,46 +96,70 @@ typedef struct octets {
     size_t len, room;
 } octets;
 
-static bool push(octets *to, uint8_t octet)
+/* Appends an octet. Ends the program if memory runs out. */
+static void push(octets *to, uint8_t octet)
 {
     if (to->len == to->room) {
-        const size_t room = to->room ? 2 * to->room : 512;
-        uint8_t *at = realloc(to->at, room);
-        if (!at)
-            return false;
-        to->at = at;
-        to->room = room;
+        to->room = to->room ? 2 * to->room : 512;
+        to->at = realloc(to->at, to->room);
+        if (!to->at) {
+            perror("no message");
+            exit(1);
+        }
     }
     to->at[to->len++] = octet;
-    return true;
 }
 
-/* Reads a line. Returns false at the end of the input, or if memory runs out. */
-static bool read_message(octets *to)
+/* A line of the input: the octets of a message in hexadecimal, or something else; or there is no more. */
+typedef enum line { MESSAGE, OTHER, NONE } line;
+
+/* Reads a line. */
+static line read_message(octets *to)
 {
-    char digits[3];
+    char digits[3] = "";
+    size_t odd = 0;
+    int next;
     to->len = 0;
-    while (scanf("%2[0-9A-Fa-f]", digits) == 1)
-        if (!push(to, (uint8_t)strtoul(digits, NULL, 16)))
-            return false;
-    scanf("%*[^\n]");
-    return getchar() == '\n' || to->len > 0;
+    while (!odd && scanf("%2[0-9A-Fa-f]", digits) == 1) {
+        odd = strlen(digits) % 2;
+        push(to, (uint8_t)strtoul(digits, NULL, 16));
+    }
+    next = getchar();
+    if (next == EOF && to->len == 0)
+        return NONE;
+    if (next == EOF || next == '\n')
+        return odd ? OTHER : MESSAGE;
+    while (next != EOF && next != '\n')
+        next = getchar();
+    return OTHER;
+}
+
+/* Prints the response to a query, or that there is none. */
+static void print_response(const octets *message)
+{
+    static uint8_t out[MOST];
+    query query;
+    size_t len;
+    if (read_query(message->at, message->len, &query) && respond(&query, out, &len) == DNSM_OK)
+        for (size_t i = 0; i < len; i++)
+            printf("%02x", out[i]);
+    else
+        printf("ignored");
+    printf("\n");
 }
 
 int main(void)
 {
-    static uint8_t out[MOST];
     octets message = {NULL, 0, 0};
-    while (read_message(&message)) {
-        query query;
-        size_t len;
-        if (read_query(message.at, message.len, &query) && respond(&query, out, &len) == DNSM_OK)
-            for (size_t i = 0; i < len; i++)
-                printf("%02x", out[i]);
-        else
-            printf("ignored");
-        printf("\n");
-    }
+    int failed = 0;
+    line kind;
+    for (unsigned long number = 1; (kind = read_message(&message)) != NONE; number++)
+        if (kind == MESSAGE) {
+            print_response(&message);
+        } else {
+            fprintf(stderr, "line %lu: not two hexadecimal digits for each octet\n", number);
+            failed = 1;
+        }
     free(message.at);
-    return 0;
+    return failed;
 }

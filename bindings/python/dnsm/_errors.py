@@ -53,7 +53,7 @@ class MalformedMessage(Error):
 
 
 class NameTextError(Error):
-    """A text, or octets for a builder, that are no valid name."""
+    """A text, or octets, that are no valid name to write."""
 
 
 class DataError(Error):

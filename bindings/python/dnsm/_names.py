@@ -4,6 +4,7 @@ from typing import Union
 
 from . import _calls
 from ._calls import Octets
+from ._errors import Status
 
 # A name to write: text, or the octets of an uncompressed name.
 Name = Union[str, Octets]
@@ -29,7 +30,14 @@ def name_octets(name: Name) -> bytes:
 
 def name_text(name: Name) -> bytes:
     """The text of a name to write, as the library takes it."""
-    return _text_octets(name if isinstance(name, str) else name_to_text(name))
+    return _text_octets(name if isinstance(name, str) else name_to_text(_checked(_calls.octets_of(name))))
+
+
+def _checked(octets: bytes) -> bytes:
+    """The octets, if they are one uncompressed name and no more."""
+    read = _calls.written(_calls.library.dnsm_name_octets, octets, len(octets), 0)
+    _calls.check(Status.OK if read == octets else Status.BAD_TEXT)
+    return octets
 
 
 def _text_octets(text: str) -> bytes:

@@ -40,7 +40,8 @@ def build(
     A question is a name, a name and its type, or both and its class; without them it is for A and IN. With `edns` an OPT record
     follows the other additional ones, and `rcode` may have twelve bits.
 
-    Raises `NameTextError`, `DataError` or `TooLong` for an item that can't be written.
+    Raises `NameTextError`, `DataError` or `TooLong` for an item that can't be written, and `MalformedMessage` for a name in octets
+    that can't be read.
     """
     if isinstance(questions, str):
         raise TypeError("questions have to be a list, and are a text")

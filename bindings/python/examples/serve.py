@@ -1,7 +1,9 @@
 """Answers queries as a name server does over UDP: reads them from standard input, in hexadecimal, one a line, and prints the
-responses. A question for AAAA gets 20 addresses. If these don't fit, the response has none of them, and TC is set."""
+responses. A question for AAAA gets 20 addresses. If these don't fit, the response has none of them, and TC is set. A line that
+isn't in hexadecimal is reported on standard error, and then the exit status is 1."""
 
 import sys
+from binascii import unhexlify
 from ipaddress import IPv6Address
 from typing import Optional
 
@@ -41,9 +43,22 @@ def respond(query: Message) -> Optional[bytes]:
     return builder.finish()
 
 
-for line in sys.stdin:
+def answer(octets: bytes) -> str:
+    """The response in hexadecimal, or that there is none."""
     try:
-        response = respond(Message.from_wire(bytes.fromhex(line)))
+        response = respond(Message.from_wire(octets))
     except Error:
         response = None
-    print(response.hex() if response else "ignored")
+    return response.hex() if response else "ignored"
+
+
+failed = False
+for number, line in enumerate(sys.stdin.buffer, 1):
+    try:
+        octets = unhexlify(line.rstrip(b"\n"))
+    except ValueError:
+        print(f"line {number}: not two hexadecimal digits for each octet", file=sys.stderr)
+        failed = True
+    else:
+        print(answer(octets))
+sys.exit(failed)

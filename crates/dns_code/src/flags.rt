@@ -59,17 +59,17 @@ impl fmt::Display for Flags {
     ghost styled_output = { λ flags _. Some (flags_text flags) };
 
     fn fmt<W: fmt::Write>(&self, f: &mut fmt::Formatter<W>) -> fmt::Result {
-        write_flags(f, self)
+        write_flags(f, *self)
     }
 }
 
-/// Prints the names of the flags that are set, separated by one space.
-fn write_flags<W: TextWriter>(f: &mut W, flags: &Flags) -> fmt::Result
-    ensures text { PrintsOnOk W.takes f.old result (flags_text flags.now) f.new }
+/// Prints the text of flags, as `{}` does: the names of those that are set, separated by one space.
+pub fn write_flags<W: TextWriter>(writer: &mut W, flags: Flags) -> fmt::Result
+    ensures text { PrintsOnOk W.takes writer.old result (flags_text flags) writer.new }
     ensures err { OnErr result W.MayFail }
 {
     write_names(
-        f,
+        writer,
         &[
             (flags.qr, "QR"),
             (flags.aa, "AA"),

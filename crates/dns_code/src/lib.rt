@@ -17,6 +17,6 @@ mod section;
 pub use counts::HeaderCounts;
 pub use dns_number::{Class, Opcode, OptRcode, OptionCode, Rcode, Rtype, class, rtype};
 pub use error::{CountOverflow, FlagsFromStrError};
-pub use flags::Flags;
+pub use flags::{Flags, write_flags};
 pub use header::Header;
 pub use section::HeaderSection;

@@ -1,12 +1,12 @@
 -- Host identities, and the names of servers.
 use Rattle.std.proofs.Common.{◌≡◌, ◌∙◌, ℕ, zero, suc, ◌<◌, ◌≤◌, List, [], ◌∷◌, ◌++◌, length, length-append, refl, ap, arith}
-use Rattle.std.specs.Prelude.{codes, Option, Some, None, Result, is_some}
+use Rattle.std.specs.Prelude.{codes, IfSome, OnErr, OnSome, Option, Some, None, Result, is_some}
 use Rattle.std.specs.Option.{option_and_then}
-use Rattle.std.specs.Fmt.{DisplaysOnOk, ◌++?◌}
+use Rattle.std.specs.Fmt.{◌++?◌}
 use Rattle.std.specs.declared.fmt.Error.{Error}
-use Rattle.std.specs.declared.fmt.Formatter.{Formatter}
 use Rattle.dns_name.specs.Names.{Labels, uncompressed}
 use Rattle.dns_name.proofs.theory.LabelsLemmas.{length-uncompressed}
+use Rattle.dns_print.specs.Printing.{PrintsOnOk}
 use Rattle.dns_fields_text.specs.GatewayTexts.{name_at}
 use Rattle.dns_fields_text.specs.ZoneNames.{zone_name_text}
 use Rattle.dns_fields_text.specs.HostIdentities.{servers_in, servers_text, identity_words, identity_parts}
@@ -56,8 +56,16 @@ some_after text None = refl
 some_after text (Some others) = refl
 
 -- a tag or a key of no octets has no word
-pub parts_displayed : {W : Type 0} (took : W → List ℕ → W → Type 0) (f g : Formatter W) (r : Result (Unit {0}) Error) (algorithm : ℕ) (tag key servers : List ℕ)
-    → DisplaysOnOk took f r (Some (identity_words algorithm tag key) ++? servers_text servers) g → DisplaysOnOk took f r (identity_parts algorithm tag key servers) g
-parts_displayed took f g r algorithm [] key servers d = tt
-parts_displayed took f g r algorithm (t ∷ tag) [] servers d = tt
-parts_displayed took f g r algorithm (t ∷ tag) (k ∷ key) servers d = d
+pub parts_displayed : {W : Type 0} (takes : W → List ℕ → W → Type 0) (f g : W) (r : Result (Unit {0}) Error) (algorithm : ℕ) (tag key servers : List ℕ)
+    → IfSome (Some (identity_words algorithm tag key) ++? servers_text servers) (λ text. PrintsOnOk takes f r text g)
+    → IfSome (identity_parts algorithm tag key servers) (λ text. PrintsOnOk takes f r text g)
+parts_displayed takes f g r algorithm [] key servers d = tt
+parts_displayed takes f g r algorithm (t ∷ tag) [] servers d = tt
+parts_displayed takes f g r algorithm (t ∷ tag) (k ∷ key) servers d = d
+
+-- the words fail only if the writer does
+pub parts_fail : (MayFail : Type 0) (r : Result (Unit {0}) Error) (algorithm : ℕ) (tag key servers : List ℕ)
+    → OnSome (Some (identity_words algorithm tag key) ++? servers_text servers) (OnErr r MayFail) → OnSome (identity_parts algorithm tag key servers) (OnErr r MayFail)
+parts_fail MayFail r algorithm [] key servers d = tt
+parts_fail MayFail r algorithm (t ∷ tag) [] servers d = tt
+parts_fail MayFail r algorithm (t ∷ tag) (k ∷ key) servers d = d

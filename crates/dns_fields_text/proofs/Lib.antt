@@ -1,4 +1,5 @@
 pub mod theory
+mod AddressTexts
 mod AllParts
 mod FieldsLemmas
 mod HostLemmas

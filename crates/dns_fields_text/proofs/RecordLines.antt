@@ -1,10 +1,8 @@
 -- The printed text of a record.
-use Rattle.std.proofs.Common.{◌≡◌, ℕ, List, ◌++◌, append_assoc, ap, codes}
-use Rattle.std.specs.Fmt.{◌++?◌}
-use Rattle.std.specs.Prelude.{Some}
+use Rattle.std.proofs.Common.{◌≡◌, ℕ, List, ◌++◌, append_assoc, codes}
 
--- five words, one after another
-pub printed_line : (owner ttl class rtype value : List ℕ)
-    → Some owner ++? (Some (codes " ") ++? (Some ttl ++? (Some (codes " ") ++? (Some class ++? (Some (codes " ") ++? (Some rtype ++? (Some (codes " ") ++? Some value)))))))
-    ≡ Some (owner ++ codes " " ++ ttl ++ codes " " ++ class ++ codes " " ++ rtype ++ codes " " ++ value)
-printed_line owner ttl class rtype value = ap Some (simp append_assoc)
+-- the words of a line, however they are joined
+pub line_parts : (owner ttl class rtype value : List ℕ)
+    → owner ++ (codes " " ++ ((ttl ++ codes " " ++ class ++ codes " ") ++ (rtype ++ codes " " ++ value)))
+    ≡ owner ++ codes " " ++ ttl ++ codes " " ++ class ++ codes " " ++ rtype ++ codes " " ++ value
+line_parts owner ttl class rtype value = simp append_assoc

@@ -1,6 +1,7 @@
 -- The types of bit maps.
-use Rattle.std.proofs.Common.{◌≡◌, ◌∙◌, ℕ, zero, suc, ◌+◌, ◌-◌, ◌*◌, ◌%◌, ◌<◌, ◌++◌, true, false, List, [], ◌∷◌, length, get_or, ap, refl, arith, leb, eqb, Some, None}
+use Rattle.std.proofs.Common.{◌≡◌, ◌∙◌, ℕ, zero, suc, ◌+◌, ◌-◌, ◌*◌, ◌%◌, ◌<◌, ◌≤◌, ◌++◌, true, false, List, [], ◌∷◌, length, get_or, take, drop, ap, refl, sym, arith, leb, eqb, Some, None}
 use Rattle.std.proofs.lemmas.Grind.{flat_map-append}
+use Rattle.std.proofs.lemmas.List.{take_rest}
 use Rattle.std.specs.List.{flat_map}
 use Rattle.std.specs.Prelude.{not}
 use Rattle.dns_fields_text.proofs.theory.BlockLemmas.{block_shrinks}
@@ -25,6 +26,14 @@ bit_clear zero first octet some clear = absurd (omega arith)
 bit_clear (suc count) first octet some clear =
     let same : count ≡ suc count - 1 = omega arith in
     rw clear (ap (λ n. types_text (bit_types n (first + 1) (octet % 128 * 2))) same)
+
+-- the types of the first octet, and then those of the octets after it
+pub octet_step : (first : ℕ) (octets : List ℕ) → 1 ≤ length octets
+    → types_text (bit_types 8 first (get_or octets 0 0)) ++ types_text (octet_types (first + 8) (take (length octets - 1) (drop 1 octets))) ≡ types_text (octet_types first octets)
+octet_step first [] some = absurd (omega arith)
+octet_step first (x ∷ octets) some =
+    ap (λ (xs : List ℕ). types_text (bit_types 8 first x) ++ types_text (octet_types (first + 8) xs)) (take_rest (x ∷ octets) 1)
+    ∙ sym (text_of_types (bit_types 8 first x) (octet_types (first + 8) octets))
 
 -- octets that begin with a block: the types of that block, and then those of the octets after it
 pub block_step : (octets : List ℕ) (first : ℕ) (block after : List ℕ) → block_at octets ≡ Some (record { first = first; octets = block }, after)

@@ -1,15 +1,42 @@
 //! Octets in base64 (RFC 4648 section 4).
-ghost use Rattle.std.specs.Fmt.{WritesOnOk};
+ghost use Rattle.std.specs.Prelude.{OnErr, ◌≤◌, length};
 ghost use Rattle.base64.specs.Engines.{standard};
 ghost use Rattle.base64.specs.GeneralPurpose.{encode_of};
+ghost use Rattle.dns_print.specs.Printing.{PrintsOnOk};
 
-use base64::display::Base64Display;
 use base64::engine::general_purpose::STANDARD;
-use std::fmt;
+use dns_print::TextWriter;
+use std::{fmt, str};
 
-/// Prints octets in base64.
-pub(crate) fn write_base64<W: fmt::Write>(f: &mut fmt::Formatter<W>, octets: &[u8]) -> fmt::Result
-    ensures { WritesOnOk W.write_str_gives f.old result (encode_of standard octets.now) f.new }
+/// The octets of a piece. They are a multiple of three, so only the last piece may need padding.
+const PIECE: usize = 768;
+
+/// The characters of a piece.
+const TEXT: usize = 1024;
+
+/// Prints the octets of a piece in base64, with padding.
+fn write_piece<W: TextWriter>(f: &mut W, octets: &[u8]) -> fmt::Result
+    requires { length octets.now ≤ 768 }
+    ensures text { PrintsOnOk W.takes f.old result (encode_of standard octets.now) f.new }
+    ensures err { OnErr result W.MayFail }
 {
-    write!(f, "{}", Base64Display::new(octets, &STANDARD))
+    let mut buffer = [0u8; TEXT];
+    let Ok(size) = STANDARD.encode_slice(octets, &mut buffer) else {
+        unreachable!();
+    };
+    let Ok(text) = str::from_utf8(&buffer[..size]) else {
+        unreachable!();
+    };
+    f.write_text(text)
+}
+
+/// Prints octets in base64, with padding.
+pub(crate) fn write_base64<W: TextWriter>(f: &mut W, octets: &[u8]) -> fmt::Result
+    ensures text { PrintsOnOk W.takes f.old result (encode_of standard octets.now) f.new }
+    ensures err { OnErr result W.MayFail }
+{
+    for piece in octets.chunks(PIECE) {
+        write_piece(f, piece)?;
+    }
+    Ok(())
 }

@@ -1,14 +1,14 @@
 //! Record data in presentation format (RFC 1035 section 5.1, RFC 3597 section 5).
-ghost use Rattle.std.specs.Prelude.{◌≡◌, [], Some, is_some};
-ghost use Rattle.std.specs.Fmt.{DisplaysOnOk, WritesOnOk};
+ghost use Rattle.std.specs.Prelude.{IfSome, OnErr, OnSome, ◌≡◌, [], Some, is_some};
 ghost use Rattle.dns_fields.specs.FieldParts.{named_part};
+ghost use Rattle.dns_print.specs.Printing.{PrintsOnOk};
 ghost use Rattle.dns_fields_text.specs.DataTexts.{data_fields, data_line};
 ghost use Rattle.dns_fields_text.specs.FieldTexts.{field_text, fields_text, space_before};
 
 use crate::field::{begins_with_space, has_text, write_text};
 use crate::unknown::write_unknown;
 use dns_fields::{Field, FieldData, Kind};
-use dns_print::write_value;
+use dns_print::TextWriter;
 use std::fmt;
 
 /// Record data that prints in presentation format: its fields, separated by spaces. If a field has no
@@ -30,32 +30,33 @@ fn is_printable(data: &FieldData<'_>) -> bool
 }
 
 /// Prints the separator, unless the text of the field begins with a space.
-fn write_space<W: fmt::Write>(f: &mut fmt::Formatter<W>, kind: Kind, separator: &str) -> fmt::Result
-    ensures { WritesOnOk W.write_str_gives f.old result (space_before kind separator.now) f.new }
+#[tactic(auto, using(dns_print::proofs::theory::Prints::prints, std::proofs::lemmas::Grind::common_steps))]
+fn write_space<W: TextWriter>(f: &mut W, kind: Kind, separator: &str) -> fmt::Result
+    ensures text { PrintsOnOk W.takes f.old result (space_before kind separator.now) f.new }
+    ensures err { OnErr result W.MayFail }
 {
     if begins_with_space(kind) {
         return Ok(());
     }
-    f.write_str(separator)
+    f.write_text(separator)
 }
 
 /// Prints a field after its space.
-fn write_field<W: fmt::Write>(
-    f: &mut fmt::Formatter<W>,
-    separator: &str,
-    field: &Field<'_>,
-) -> fmt::Result
-    ensures { DisplaysOnOk W.write_str_gives f.old result
-        (field_text separator.now (named_part field.now)) f.new }
+fn write_field<W: TextWriter>(f: &mut W, separator: &str, field: &Field<'_>) -> fmt::Result
+    ensures text { IfSome (field_text separator.now (named_part field.now))
+        (λ text. PrintsOnOk W.takes f.old result text f.new) }
+    ensures err { OnSome (field_text separator.now (named_part field.now))
+        (OnErr result W.MayFail) }
 {
     write_space(f, field.kind, separator)?;
     write_text(f, field.kind, &field.value())
 }
 
 /// Prints the fields, separated by spaces.
-fn write_fields<W: fmt::Write>(f: &mut fmt::Formatter<W>, data: &FieldData<'_>) -> fmt::Result
-    ensures { DisplaysOnOk W.write_str_gives f.old result (fields_text [] (data_fields data.now))
-        f.new }
+fn write_fields<W: TextWriter>(f: &mut W, data: &FieldData<'_>) -> fmt::Result
+    ensures text { IfSome (fields_text [] (data_fields data.now))
+        (λ text. PrintsOnOk W.takes f.old result text f.new) }
+    ensures err { OnSome (fields_text [] (data_fields data.now)) (OnErr result W.MayFail) }
 {
     let mut separator = "";
     for field in data.fields() {
@@ -65,19 +66,17 @@ fn write_fields<W: fmt::Write>(f: &mut fmt::Formatter<W>, data: &FieldData<'_>) 
     Ok(())
 }
 
-/// Record data that prints as `DataText` does if a formatter has no options.
-#[derive(Clone, Copy)]
-struct PlainData<'d, 'a>(&'d FieldData<'a>);
-
-impl fmt::Display for PlainData<'_, '_> {
-    ghost output = { λ text. Some (data_line text.0.now) };
-
-    fn fmt<W: fmt::Write>(&self, f: &mut fmt::Formatter<W>) -> fmt::Result {
-        if is_printable(self.0) {
-            write_fields(f, self.0)
-        } else {
-            write_unknown(f, self.0)
-        }
+/// Prints record data in presentation format: its fields, separated by spaces. If a field has no
+/// presentation format, the data prints as `write_opaque` prints its octets, with names uncompressed
+/// (RFC 1035 section 5.1, RFC 3597 section 5).
+pub fn write_data_text<W: TextWriter>(f: &mut W, data: &FieldData<'_>) -> fmt::Result
+    ensures text { PrintsOnOk W.takes f.old result (data_line data.now) f.new }
+    ensures err { OnErr result W.MayFail }
+{
+    if is_printable(data) {
+        write_fields(f, data)
+    } else {
+        write_unknown(f, data)
     }
 }
 
@@ -87,6 +86,6 @@ impl fmt::Display for DataText<'_, '_> {
     ghost styled_output = { λ text _. Some (data_line text.0.now) };
 
     fn fmt<W: fmt::Write>(&self, f: &mut fmt::Formatter<W>) -> fmt::Result {
-        write_value(f, PlainData(self.0))
+        write_data_text(f, self.0)
     }
 }

@@ -1,24 +1,34 @@
 //! Fields in presentation format (RFC 1035 section 5.1).
-ghost use Rattle.std.specs.Prelude.{◌≡◌, IfSome, is_some};
-ghost use Rattle.std.specs.Fmt.{DisplaysOnOk, WritesOnOk};
+ghost use Rattle.std.specs.Prelude.{OnErr, OnSome, ◌≡◌, ◌++◌, IfSome, codes, is_some};
 ghost use Rattle.dns_fields.specs.Values.{value_shown};
+ghost use Rattle.dns_fields.specs.declared.kind.Kind.TheVariants as Kind;
+ghost use Rattle.dns_print.specs.Printing.{PrintsOnOk};
 ghost use Rattle.dns_fields_text.specs.FieldTexts.{begins_with_space, ipv4_of, ipv6_of, number_text, octets_text, parameters_text, prefixes_text, salt_text, sized_text, string_text, strings_text, value_text};
+ghost use Rattle.dns_fields_text.specs.GatewayTexts.{gateway_text, relay_text};
+ghost use Rattle.dns_fields_text.specs.HostIdentities.{identity_text};
+ghost use Rattle.dns_fields_text.specs.ItemsLeft.{parameter_item};
+ghost use Rattle.dns_fields_text.specs.Parameters.{parameter_word};
 
+use crate::address;
 use crate::base64_text::write_base64;
 use crate::gateway::{GatewayAndKey, Relay, write_key};
 use crate::host_identity::HostIdentity;
-use crate::parameter::ParameterText;
-use crate::parameters::Parameters;
-use crate::prefix::PrefixText;
+use crate::parameter::write_parameter;
+use crate::parameters::{Parameter, Parameters};
+use crate::prefix::{PrefixText, write_prefix};
 use crate::prefixes::AddressPrefixes;
 use crate::strings::Strings;
-use crate::type_map::{SmallTypeMap, TypeMap};
-use crate::type_name::TypeName;
-use crate::zone_name::ZoneName;
+use crate::type_map::{SmallTypeMap, write_type_map};
+use crate::type_name::write_type_name;
+use crate::zone_name::write_zone_name;
 use dns_fields::{Kind, Value};
-use dns_value_text::{Base32, Eui, Hex, Location, Locator64, Quoted, Tag, Timestamp};
+use dns_print::TextWriter;
+use dns_value_text::{
+    Location, Tag, Timestamp, write_base32, write_eui, write_hex, write_locator, write_quoted,
+    write_timestamp,
+};
 use std::fmt;
-use std::net::{Ipv4Addr, Ipv6Addr};
+use std::net::Ipv6Addr;
 
 /// Whether all address prefixes have a presentation format.
 fn are_printable(octets: &[u8]) -> bool
@@ -98,158 +108,251 @@ pub(crate) fn begins_with_space(kind: Kind) -> bool
 }
 
 /// Prints character strings in quotes, separated by spaces.
-fn write_strings<W: fmt::Write>(f: &mut fmt::Formatter<W>, octets: &[u8]) -> fmt::Result
-    ensures { WritesOnOk W.write_str_gives f.old result (strings_text octets.now) f.new }
+fn write_strings<W: TextWriter>(f: &mut W, octets: &[u8]) -> fmt::Result
+    ensures text { PrintsOnOk W.takes f.old result (strings_text octets.now) f.new }
+    ensures err { OnErr result W.MayFail }
 {
     let mut separator = "";
     for string in Strings::new(octets) {
-        f.write_str(separator)?;
-        write!(f, "{}", Quoted(string))?;
+        f.write_text(separator)?;
+        write_quoted(f, string)?;
         separator = " ";
     }
     Ok(())
 }
 
 /// Prints address prefixes, separated by spaces.
-fn write_prefixes<W: fmt::Write>(f: &mut fmt::Formatter<W>, octets: &[u8]) -> fmt::Result
-    ensures { DisplaysOnOk W.write_str_gives f.old result (prefixes_text octets.now) f.new }
+fn write_prefixes<W: TextWriter>(f: &mut W, octets: &[u8]) -> fmt::Result
+    ensures text { IfSome (prefixes_text octets.now)
+        (λ text. PrintsOnOk W.takes f.old result text f.new) }
+    ensures err { OnSome (prefixes_text octets.now) (OnErr result W.MayFail) }
 {
     let mut separator = "";
     for prefix in AddressPrefixes::new(octets) {
-        f.write_str(separator)?;
-        write!(f, "{}", PrefixText(prefix))?;
+        f.write_text(separator)?;
+        write_prefix(f, &prefix)?;
         separator = " ";
     }
     Ok(())
 }
 
+/// Prints a service parameter after a space.
+#[tactic(auto, using(dns_print::proofs::theory::Prints::prints, std::proofs::lemmas::Grind::common_steps))]
+fn write_next_parameter<W: TextWriter>(f: &mut W, parameter: Parameter<'_>) -> fmt::Result
+    ensures text { PrintsOnOk W.takes f.old result
+        (codes " " ++ parameter_word (parameter_item parameter.entry)) f.new }
+    ensures err { OnErr result W.MayFail }
+{
+    f.write_text(" ")?;
+    write_parameter(f, parameter)
+}
+
 /// Prints service parameters, each after a space.
-fn write_parameters<W: fmt::Write>(f: &mut fmt::Formatter<W>, octets: &[u8]) -> fmt::Result
-    ensures { WritesOnOk W.write_str_gives f.old result (parameters_text octets.now) f.new }
+fn write_parameters<W: TextWriter>(f: &mut W, octets: &[u8]) -> fmt::Result
+    ensures text { PrintsOnOk W.takes f.old result (parameters_text octets.now) f.new }
+    ensures err { OnErr result W.MayFail }
 {
     for parameter in Parameters::new(octets) {
-        write!(f, " {}", ParameterText(parameter))?;
+        write_next_parameter(f, parameter)?;
     }
     Ok(())
 }
 
 /// Prints hexadecimal digits, or a hyphen if there are no octets.
-fn write_salt<W: fmt::Write>(f: &mut fmt::Formatter<W>, octets: &[u8]) -> fmt::Result
-    ensures { WritesOnOk W.write_str_gives f.old result (salt_text octets.now) f.new }
+#[tactic(auto, using(dns_print::proofs::theory::Prints::prints, std::proofs::lemmas::Grind::common_steps))]
+fn write_salt<W: TextWriter>(f: &mut W, octets: &[u8]) -> fmt::Result
+    ensures text { PrintsOnOk W.takes f.old result (salt_text octets.now) f.new }
+    ensures err { OnErr result W.MayFail }
 {
     if octets.is_empty() {
-        return f.write_char('-');
+        return f.write_text("-");
     }
-    write!(f, "{}", Hex(octets))
+    write_hex(f, octets)
 }
 
 /// Prints the number of octets, and the octets in base64 if there are any.
-fn write_sized<W: fmt::Write>(f: &mut fmt::Formatter<W>, octets: &[u8]) -> fmt::Result
-    ensures { WritesOnOk W.write_str_gives f.old result (sized_text octets.now) f.new }
+#[tactic(auto, using(dns_print::proofs::theory::Prints::prints, std::proofs::lemmas::Grind::common_steps))]
+fn write_sized<W: TextWriter>(f: &mut W, octets: &[u8]) -> fmt::Result
+    ensures text { PrintsOnOk W.takes f.old result (sized_text octets.now) f.new }
+    ensures err { OnErr result W.MayFail }
 {
-    write!(f, "{}", octets.len())?;
+    dns_print::write_number(f, octets.len() as u64)?;
     write_key(f, octets)
 }
 
-/// Prints a string by the kind of its field.
-fn write_string<W: fmt::Write>(f: &mut fmt::Formatter<W>, kind: Kind, octets: &[u8]) -> fmt::Result
-    ensures { DisplaysOnOk W.write_str_gives f.old result (string_text kind octets.now) f.new }
+/// Prints octets that are letters and digits.
+fn write_tag<W: TextWriter>(f: &mut W, octets: &[u8]) -> fmt::Result
+    ensures text { IfSome (string_text Kind.Tag octets.now)
+        (λ text. PrintsOnOk W.takes f.old result text f.new) }
+    ensures err { OnSome (string_text Kind.Tag octets.now) (OnErr result W.MayFail) }
 {
-    match kind {
-        Kind::Tag => match Tag::from_octets(octets) {
-            Some(tag) => write!(f, "{tag}"),
-            None => Err(fmt::Error),
-        },
-        Kind::Salt => write_salt(f, octets),
-        Kind::Hash => write!(f, "{}", Base32(octets)),
-        _ => write!(f, "{}", Quoted(octets)),
+    match Tag::from_octets(octets) {
+        Some(tag) => tag.write(f),
+        None => Err(fmt::Error),
     }
 }
 
-/// Prints a value, or fails if there is none.
-fn write_known<W: fmt::Write, T: fmt::Display + Drop>(
-    f: &mut fmt::Formatter<W>,
-    value: Option<T>,
-) -> fmt::Result
-    ensures { IfSome value (λ known. DisplaysOnOk W.write_str_gives f.old result (T.output known)
-        f.new) }
+/// Prints a string by the kind of its field.
+fn write_string<W: TextWriter>(f: &mut W, kind: Kind, octets: &[u8]) -> fmt::Result
+    ensures text { IfSome (string_text kind octets.now)
+        (λ text. PrintsOnOk W.takes f.old result text f.new) }
+    ensures err { OnSome (string_text kind octets.now) (OnErr result W.MayFail) }
 {
-    match value {
-        Some(value) => write!(f, "{value}"),
+    match kind {
+        Kind::Tag => write_tag(f, octets),
+        Kind::Salt => write_salt(f, octets),
+        Kind::Hash => write_base32(f, octets),
+        _ => write_quoted(f, octets),
+    }
+}
+
+/// Prints a location.
+fn write_location<W: TextWriter>(f: &mut W, octets: &[u8]) -> fmt::Result
+    ensures text { IfSome (octets_text Kind.Location octets.now)
+        (λ text. PrintsOnOk W.takes f.old result text f.new) }
+    ensures err { OnSome (octets_text Kind.Location octets.now) (OnErr result W.MayFail) }
+{
+    match Location::from_octets(octets) {
+        Some(location) => location.write(f),
+        None => Err(fmt::Error),
+    }
+}
+
+/// Prints a bit map of the types from 0 to 127.
+fn write_small_map<W: TextWriter>(f: &mut W, octets: &[u8]) -> fmt::Result
+    ensures text { IfSome (octets_text Kind.SmallTypeBitMap octets.now)
+        (λ text. PrintsOnOk W.takes f.old result text f.new) }
+    ensures err { OnSome (octets_text Kind.SmallTypeBitMap octets.now) (OnErr result W.MayFail) }
+{
+    match SmallTypeMap::from_octets(octets) {
+        Some(map) => map.write(f),
+        None => Err(fmt::Error),
+    }
+}
+
+/// Prints a gateway and a public key.
+fn write_gateway<W: TextWriter>(f: &mut W, octets: &[u8]) -> fmt::Result
+    ensures text { IfSome (gateway_text octets.now)
+        (λ text. PrintsOnOk W.takes f.old result text f.new) }
+    ensures err { OnSome (gateway_text octets.now) (OnErr result W.MayFail) }
+{
+    match GatewayAndKey::from_octets(octets) {
+        Some(gateway) => gateway.write(f),
+        None => Err(fmt::Error),
+    }
+}
+
+/// Prints a relay.
+fn write_relay<W: TextWriter>(f: &mut W, octets: &[u8]) -> fmt::Result
+    ensures text { IfSome (relay_text octets.now)
+        (λ text. PrintsOnOk W.takes f.old result text f.new) }
+    ensures err { OnSome (relay_text octets.now) (OnErr result W.MayFail) }
+{
+    match Relay::from_octets(octets) {
+        Some(relay) => relay.write(f),
+        None => Err(fmt::Error),
+    }
+}
+
+/// Prints a host identity.
+fn write_identity<W: TextWriter>(f: &mut W, octets: &[u8]) -> fmt::Result
+    ensures text { IfSome (identity_text octets.now)
+        (λ text. PrintsOnOk W.takes f.old result text f.new) }
+    ensures err { OnSome (identity_text octets.now) (OnErr result W.MayFail) }
+{
+    match HostIdentity::from_octets(octets) {
+        Some(identity) => identity.write(f),
         None => Err(fmt::Error),
     }
 }
 
 /// Prints octets by the kind of their field.
-fn write_octets<W: fmt::Write>(f: &mut fmt::Formatter<W>, kind: Kind, octets: &[u8]) -> fmt::Result
-    ensures { DisplaysOnOk W.write_str_gives f.old result (octets_text kind octets.now) f.new }
+fn write_octets<W: TextWriter>(f: &mut W, kind: Kind, octets: &[u8]) -> fmt::Result
+    ensures text { IfSome (octets_text kind octets.now)
+        (λ text. PrintsOnOk W.takes f.old result text f.new) }
+    ensures err { OnSome (octets_text kind octets.now) (OnErr result W.MayFail) }
 {
     match kind {
-        Kind::Eui48 | Kind::Eui64 => write!(f, "{}", Eui(octets)),
-        Kind::Locator64 => write_known(f, octets.try_into().ok().map(Locator64)),
-        Kind::Location => write_known(f, Location::from_octets(octets)),
+        Kind::Eui48 | Kind::Eui64 => write_eui(f, octets),
+        Kind::Locator64 => write_locator(f, octets),
+        Kind::Location => write_location(f, octets),
         Kind::Strings => write_strings(f, octets),
-        Kind::Text => write!(f, "{}", Quoted(octets)),
-        Kind::Hexadecimal => write!(f, "{}", Hex(octets)),
+        Kind::Text => write_quoted(f, octets),
+        Kind::Hexadecimal => write_hex(f, octets),
         Kind::Base64 => write_base64(f, octets),
-        Kind::TypeBitMap => write!(f, "{}", TypeMap(octets)),
-        Kind::SmallTypeBitMap => write_known(f, SmallTypeMap::from_octets(octets)),
+        Kind::TypeBitMap => write_type_map(f, octets),
+        Kind::SmallTypeBitMap => write_small_map(f, octets),
         Kind::ServiceParameters => write_parameters(f, octets),
         Kind::AddressPrefixes => write_prefixes(f, octets),
-        Kind::GatewayAndKey => write_known(f, GatewayAndKey::from_octets(octets)),
-        Kind::Relay => write_known(f, Relay::from_octets(octets)),
-        Kind::HostIdentity => write_known(f, HostIdentity::from_octets(octets)),
+        Kind::GatewayAndKey => write_gateway(f, octets),
+        Kind::Relay => write_relay(f, octets),
+        Kind::HostIdentity => write_identity(f, octets),
         _ => Err(fmt::Error),
     }
 }
 
-/// Prints a number by the kind of its field.
-fn write_number<W: fmt::Write>(f: &mut fmt::Formatter<W>, kind: Kind, number: u64) -> fmt::Result
-    ensures { DisplaysOnOk W.write_str_gives f.old result (number_text kind number) f.new }
+/// Prints a time in fourteen digits.
+fn write_time<W: TextWriter>(f: &mut W, number: u64) -> fmt::Result
+    ensures text { IfSome (number_text Kind.Time number)
+        (λ text. PrintsOnOk W.takes f.old result text f.new) }
+    ensures err { OnSome (number_text Kind.Time number) (OnErr result W.MayFail) }
 {
-    match kind {
-        Kind::Time => write_known(f, u32::try_from(number).ok().map(Timestamp)),
-        _ => write!(f, "{number}"),
+    match u32::try_from(number) {
+        Ok(time) => write_timestamp(f, Timestamp(time)),
+        Err(_) => Err(fmt::Error),
     }
 }
 
-/// Prints a value of a field of this kind.
-pub(crate) fn write_text<W: fmt::Write>(
-    f: &mut fmt::Formatter<W>,
-    kind: Kind,
-    value: &Value<'_>,
-) -> fmt::Result
-    ensures { DisplaysOnOk W.write_str_gives f.old result
-        (value_text kind (value_shown value.now)) f.new }
+/// Prints a number by the kind of its field.
+fn write_number<W: TextWriter>(f: &mut W, kind: Kind, number: u64) -> fmt::Result
+    ensures text { IfSome (number_text kind number)
+        (λ text. PrintsOnOk W.takes f.old result text f.new) }
+    ensures err { OnSome (number_text kind number) (OnErr result W.MayFail) }
 {
-    match value {
-        Value::Number(number) => write_number(f, kind, *number),
-        Value::RecordType(rtype) => write!(f, "{}", TypeName(*rtype)),
-        Value::Ipv4(octets) => write_ipv4(f, octets),
-        Value::Ipv6(octets) => write_ipv6(f, octets),
-        Value::Name(name) => write!(f, "{}", ZoneName(*name)),
-        Value::String(octets) => write_string(f, kind, octets),
-        Value::Sized(octets) => write_sized(f, octets),
-        Value::Octets(octets) => write_octets(f, kind, octets),
+    match kind {
+        Kind::Time => write_time(f, number),
+        _ => dns_print::write_number(f, number),
     }
 }
 
 /// Prints the IPv4 address of four octets.
-fn write_ipv4<W: fmt::Write>(f: &mut fmt::Formatter<W>, octets: &[u8]) -> fmt::Result
-    ensures { DisplaysOnOk W.write_str_gives f.old result (ipv4_of octets.now) f.new }
+fn write_ipv4<W: TextWriter>(f: &mut W, octets: &[u8]) -> fmt::Result
+    ensures text { IfSome (ipv4_of octets.now)
+        (λ text. PrintsOnOk W.takes f.old result text f.new) }
+    ensures err { OnSome (ipv4_of octets.now) (OnErr result W.MayFail) }
 {
     match <[u8; 4]>::try_from(octets) {
-        Ok(octets) => write!(f, "{}", Ipv4Addr::from(octets)),
+        Ok(octets) => address::write_ipv4(f, octets),
         Err(_) => Err(fmt::Error),
     }
 }
 
 /// Prints the IPv6 address of sixteen octets.
-fn write_ipv6<W: fmt::Write>(f: &mut fmt::Formatter<W>, octets: &[u8]) -> fmt::Result
-    ensures { DisplaysOnOk W.write_str_gives f.old result (ipv6_of octets.now) f.new }
+fn write_ipv6<W: TextWriter>(f: &mut W, octets: &[u8]) -> fmt::Result
+    ensures text { IfSome (ipv6_of octets.now)
+        (λ text. PrintsOnOk W.takes f.old result text f.new) }
+    ensures err { OnSome (ipv6_of octets.now) (OnErr result W.MayFail) }
 {
     match <[u8; 16]>::try_from(octets) {
-        Ok(octets) => write!(f, "{}", Ipv6Addr::from(octets)),
+        Ok(octets) => address::write_ipv6(f, Ipv6Addr::from(octets)),
         Err(_) => Err(fmt::Error),
+    }
+}
+
+/// Prints a value of a field of this kind, if it has a presentation format.
+pub(crate) fn write_text<W: TextWriter>(f: &mut W, kind: Kind, value: &Value<'_>) -> fmt::Result
+    ensures text { IfSome (value_text kind (value_shown value.now))
+        (λ text. PrintsOnOk W.takes f.old result text f.new) }
+    ensures err { OnSome (value_text kind (value_shown value.now)) (OnErr result W.MayFail) }
+{
+    match value {
+        Value::Number(number) => write_number(f, kind, *number),
+        Value::RecordType(rtype) => write_type_name(f, *rtype),
+        Value::Ipv4(octets) => write_ipv4(f, octets),
+        Value::Ipv6(octets) => write_ipv6(f, octets),
+        Value::Name(name) => write_zone_name(f, name),
+        Value::String(octets) => write_string(f, kind, octets),
+        Value::Sized(octets) => write_sized(f, octets),
+        Value::Octets(octets) => write_octets(f, kind, octets),
     }
 }

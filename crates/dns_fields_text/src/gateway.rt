@@ -1,15 +1,17 @@
 //! Gateways and relays (RFC 4025 section 3.1, RFC 8777 section 4.3.1).
-ghost use Rattle.std.specs.Prelude.{◌≡◌, IfSome, MatchOption, None, Some, is_some};
-ghost use Rattle.std.specs.Fmt.{WritesOnOk};
+ghost use Rattle.std.specs.Prelude.{OnErr, ◌≡◌, ◌++◌, IfSome, MatchOption, None, Some, codes, decimal, is_some};
 ghost use Rattle.std.specs.Net.Addr.{segments_of};
 ghost use Rattle.std.specs.Net.Text.{ipv4_text, ipv6_text};
 ghost use Rattle.dns_name.specs.NameReading.{name_labels};
-ghost use Rattle.dns_fields_text.specs.GatewayTexts.{gateway_at, gateway_text, key_text, name_at, relay_text, word_at};
+ghost use Rattle.dns_print.specs.Printing.{PrintsOnOk};
+ghost use Rattle.dns_fields_text.specs.GatewayTexts.{gateway_at, gateway_text, key_text, name_at, relay_text, relay_words, word_at};
 ghost use Rattle.dns_fields_text.specs.GatewayValues.{SplitsGateway, gateway_shown, gateway_word, relay_shown};
 
+use crate::address::{write_ipv4, write_ipv6};
 use crate::base64_text::write_base64;
-use crate::zone_name::ZoneName;
+use crate::zone_name::write_zone_name;
 use dns_name::{Name, ParsedName, Parser, ToName};
+use dns_print::{TextWriter, write_number};
 use std::fmt;
 use std::net::{Ipv4Addr, Ipv6Addr};
 
@@ -78,17 +80,16 @@ fn split_gateway(gateway_type: u8, octets: &[u8]) -> Option<(Gateway<'_>, &[u8])
     }
 }
 
-/// A dot, an address, or a name and a dot.
-impl fmt::Display for Gateway<'_> {
-    ghost output = { λ gateway. Some (gateway_word gateway) };
-
-    fn fmt<W: fmt::Write>(&self, f: &mut fmt::Formatter<W>) -> fmt::Result {
-        match self {
-            Gateway::Nothing => f.write_char('.'),
-            Gateway::Ipv4(address) => write!(f, "{address}"),
-            Gateway::Ipv6(address) => write!(f, "{address}"),
-            Gateway::Name(name) => write!(f, "{}", ZoneName(name.as_parsed())),
-        }
+/// Prints a dot, an address, or a name and a dot.
+fn write_gateway<W: TextWriter>(f: &mut W, gateway: &Gateway<'_>) -> fmt::Result
+    ensures text { PrintsOnOk W.takes f.old result (gateway_word gateway.now) f.new }
+    ensures err { OnErr result W.MayFail }
+{
+    match gateway {
+        Gateway::Nothing => f.write_text("."),
+        Gateway::Ipv4(address) => write_ipv4(f, address.octets()),
+        Gateway::Ipv6(address) => write_ipv6(f, *address),
+        Gateway::Name(name) => write_zone_name(f, &name.as_parsed()),
     }
 }
 
@@ -124,23 +125,54 @@ impl<'a> GatewayAndKey<'a> {
 }
 
 /// Prints a public key in base64 after a space; nothing if there are no octets.
-pub(crate) fn write_key<W: fmt::Write>(f: &mut fmt::Formatter<W>, key: &[u8]) -> fmt::Result
-    ensures { WritesOnOk W.write_str_gives f.old result (key_text key.now) f.new }
+#[tactic(auto, using(dns_print::proofs::theory::Prints::prints, std::proofs::lemmas::Grind::common_steps))]
+pub(crate) fn write_key<W: TextWriter>(f: &mut W, key: &[u8]) -> fmt::Result
+    ensures text { PrintsOnOk W.takes f.old result (key_text key.now) f.new }
+    ensures err { OnErr result W.MayFail }
 {
     if key.is_empty() {
         return Ok(());
     }
-    f.write_char(' ')?;
+    f.write_text(" ")?;
     write_base64(f, key)
 }
 
-/// The words, each after a space. A key of no octets has no word.
-impl fmt::Display for GatewayAndKey<'_> {
-    ghost output = { λ value. Some (gateway_shown value) };
+/// Prints a number after a space.
+#[tactic(auto, using(dns_print::proofs::theory::Prints::prints, std::proofs::lemmas::Grind::common_steps))]
+fn write_spaced<W: TextWriter>(f: &mut W, number: u8) -> fmt::Result
+    ensures text { PrintsOnOk W.takes f.old result (codes " " ++ decimal number) f.new }
+    ensures err { OnErr result W.MayFail }
+{
+    f.write_text(" ")?;
+    write_number(f, u64::from(number))
+}
 
-    fn fmt<W: fmt::Write>(&self, f: &mut fmt::Formatter<W>) -> fmt::Result {
-        write!(f, " {} {}", self.gateway_type, self.algorithm)?;
-        write!(f, " {}", self.gateway)?;
+/// Prints two numbers and a gateway, each after a space.
+#[tactic(auto, using(dns_print::proofs::theory::Prints::prints, std::proofs::lemmas::Grind::common_steps))]
+fn write_words<W: TextWriter>(
+    f: &mut W,
+    first: u8,
+    second: u8,
+    gateway: &Gateway<'_>,
+) -> fmt::Result
+    ensures text { PrintsOnOk W.takes f.old result
+        (relay_words first second (gateway_word gateway.now)) f.new }
+    ensures err { OnErr result W.MayFail }
+{
+    write_spaced(f, first)?;
+    write_spaced(f, second)?;
+    f.write_text(" ")?;
+    write_gateway(f, gateway)
+}
+
+impl GatewayAndKey<'_> {
+    /// Prints the words, each after a space. A key of no octets has no word.
+    #[tactic(auto, using(dns_print::proofs::theory::Prints::prints, std::proofs::lemmas::Grind::common_steps))]
+    pub(crate) fn write<W: TextWriter>(&self, f: &mut W) -> fmt::Result
+        ensures text { PrintsOnOk W.takes f.old result (gateway_shown self.now) f.new }
+        ensures err { OnErr result W.MayFail }
+    {
+        write_words(f, self.gateway_type, self.algorithm, &self.gateway)?;
         write_key(f, self.key)
     }
 }
@@ -174,12 +206,12 @@ impl<'a> Relay<'a> {
     }
 }
 
-/// The words, each after a space.
-impl fmt::Display for Relay<'_> {
-    ghost output = { λ value. Some (relay_shown value) };
-
-    fn fmt<W: fmt::Write>(&self, f: &mut fmt::Formatter<W>) -> fmt::Result {
-        write!(f, " {} {}", self.discovery, self.relay_type)?;
-        write!(f, " {}", self.relay)
+impl Relay<'_> {
+    /// Prints the words, each after a space.
+    pub(crate) fn write<W: TextWriter>(&self, f: &mut W) -> fmt::Result
+        ensures text { PrintsOnOk W.takes f.old result (relay_shown self.now) f.new }
+        ensures err { OnErr result W.MayFail }
+    {
+        write_words(f, self.discovery, self.relay_type, &self.relay)
     }
 }

@@ -1,14 +1,18 @@
 //! Host identities (RFC 8005 section 6).
-ghost use Rattle.std.specs.Prelude.{◌≡◌, IfSome, Some, is_some};
-ghost use Rattle.std.specs.Fmt.{DisplaysOnOk, WritesOnOk};
+ghost use Rattle.std.specs.Prelude.{OnErr, OnSome, ◌≡◌, ◌++◌, IfSome, codes, decimal, is_some};
+ghost use Rattle.dns_name.specs.NameReading.{name_labels};
+ghost use Rattle.dns_print.specs.Printing.{PrintsOnOk};
+ghost use Rattle.dns_value_text.specs.Hex.{hex_text};
 ghost use Rattle.dns_fields_text.specs.HostIdentities.{identity_text, identity_words, servers_text};
 ghost use Rattle.dns_fields_text.specs.IdentityValues.{identity_shown};
+ghost use Rattle.dns_fields_text.specs.ZoneNames.{zone_name_text};
 
 use crate::base64_text::write_base64;
 use crate::gateway::split_name;
-use crate::zone_name::ZoneName;
-use dns_name::ToName;
-use dns_value_text::Hex;
+use crate::zone_name::write_zone_name;
+use dns_name::{Name, ToName};
+use dns_print::{TextWriter, write_number};
+use dns_value_text::write_hex;
 use std::fmt;
 
 /// An algorithm, a host identity tag, a public key and the names of rendezvous servers.
@@ -63,40 +67,65 @@ impl<'a> HostIdentity<'a> {
     }
 }
 
-/// Prints an algorithm, a tag and a public key, separated by spaces.
-fn write_words<W: fmt::Write>(
-    f: &mut fmt::Formatter<W>,
-    algorithm: u8,
-    tag: &[u8],
-    key: &[u8],
-) -> fmt::Result
-    ensures { WritesOnOk W.write_str_gives f.old result (identity_words algorithm tag.now key.now)
-        f.new }
+/// Prints an algorithm and a tag, each before a space.
+#[tactic(auto, using(dns_print::proofs::theory::Prints::prints, std::proofs::lemmas::Grind::common_steps))]
+fn write_tag<W: TextWriter>(f: &mut W, algorithm: u8, tag: &[u8]) -> fmt::Result
+    ensures text { PrintsOnOk W.takes f.old result
+        (decimal algorithm ++ codes " " ++ hex_text tag.now ++ codes " ") f.new }
+    ensures err { OnErr result W.MayFail }
 {
-    write!(f, "{algorithm} {} ", Hex(tag))?;
+    write_number(f, u64::from(algorithm))?;
+    f.write_text(" ")?;
+    write_hex(f, tag)?;
+    f.write_text(" ")
+}
+
+/// Prints an algorithm, a tag and a public key, separated by spaces.
+#[tactic(auto, using(dns_print::proofs::theory::Prints::prints, std::proofs::lemmas::Grind::common_steps))]
+fn write_words<W: TextWriter>(f: &mut W, algorithm: u8, tag: &[u8], key: &[u8]) -> fmt::Result
+    ensures text { PrintsOnOk W.takes f.old result
+        (identity_words algorithm tag.now key.now) f.new }
+    ensures err { OnErr result W.MayFail }
+{
+    write_tag(f, algorithm, tag)?;
     write_base64(f, key)
 }
 
+/// Prints a name after a space.
+#[tactic(auto, using(dns_print::proofs::theory::Prints::prints, std::proofs::lemmas::Grind::common_steps))]
+fn write_server<W: TextWriter>(f: &mut W, server: &Name<&[u8]>) -> fmt::Result
+    ensures text { PrintsOnOk W.takes f.old result
+        (codes " " ++ zone_name_text (name_labels server.now)) f.new }
+    ensures err { OnErr result W.MayFail }
+{
+    f.write_text(" ")?;
+    write_zone_name(f, &server.as_parsed())
+}
+
 /// Prints consecutive names, each after a space.
-fn write_servers<W: fmt::Write>(f: &mut fmt::Formatter<W>, octets: &[u8]) -> fmt::Result
-    ensures { DisplaysOnOk W.write_str_gives f.old result (servers_text octets.now) f.new }
+fn write_servers<W: TextWriter>(f: &mut W, octets: &[u8]) -> fmt::Result
+    ensures text { IfSome (servers_text octets.now)
+        (λ text. PrintsOnOk W.takes f.old result text f.new) }
+    ensures err { OnSome (servers_text octets.now) (OnErr result W.MayFail) }
 {
     let mut left = octets;
     'servers: while !left.is_empty() {
         let Some((server, after)) = split_name(left) else {
             return Err(fmt::Error);
         };
-        write!(f, " {}", ZoneName(server.as_parsed()))?;
+        write_server(f, &server)?;
         left = after;
     }
     Ok(())
 }
 
-/// The words, separated by spaces.
-impl fmt::Display for HostIdentity<'_> {
-    ghost output = { λ value. identity_shown value };
-
-    fn fmt<W: fmt::Write>(&self, f: &mut fmt::Formatter<W>) -> fmt::Result {
+impl HostIdentity<'_> {
+    /// Prints the words, separated by spaces.
+    pub(crate) fn write<W: TextWriter>(&self, f: &mut W) -> fmt::Result
+        ensures text { IfSome (identity_shown self.now)
+            (λ text. PrintsOnOk W.takes f.old result text f.new) }
+        ensures err { OnSome (identity_shown self.now) (OnErr result W.MayFail) }
+    {
         write_words(f, self.algorithm, self.tag, self.key)?;
         write_servers(f, self.servers)
     }

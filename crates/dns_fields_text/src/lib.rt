@@ -1,7 +1,8 @@
 //! Record data of each type of the table of `dns_fields` in presentation format (RFC 1035 section 5.1).
-//! Printing allocates no memory.
+//! Printing allocates no memory. It goes to any `TextWriter`, and fails only if the writer does.
 #![tactic(auto)]
 
+mod address;
 mod base64_text;
 mod data_text;
 mod field;
@@ -20,14 +21,15 @@ mod types;
 mod unknown;
 mod zone_name;
 
-pub use data_text::DataText;
-pub use parameter::ParameterText;
+pub use data_text::{DataText, write_data_text};
+pub use parameter::{ParameterText, write_parameter};
 pub use parameters::{Parameter, Parameters};
-pub use prefix::PrefixText;
+pub use prefix::{PrefixText, write_prefix};
 pub use prefixes::{AddressPrefix, AddressPrefixes};
-pub use record_text::RecordText;
+pub use record_text::{RecordText, write_record_text};
 pub use strings::Strings;
-pub use type_map::{SmallTypeMap, TypeMap};
-pub use type_name::TypeName;
+pub use type_map::{SmallTypeMap, TypeMap, write_type_map};
+pub use type_name::{TypeName, write_type_name};
 pub use types::Types;
+pub use unknown::write_opaque;
 pub use zone_name::{ZoneName, write_zone_name};

@@ -1,18 +1,19 @@
 //! Service parameters (RFC 9460 sections 2.1, 2.2 and 7; dohpath: RFC 9461 section 5; ohttp: RFC 9540
 //! section 4).
-ghost use Rattle.std.specs.Prelude.{◌≡◌, ◌++◌, Some, codes, length, option_map, true};
-ghost use Rattle.std.specs.Fmt.{WritesOnOk};
+ghost use Rattle.std.specs.Prelude.{OnErr, ◌≡◌, ◌++◌, Some, codes, decimal, length, option_map, true};
 ghost use Rattle.std.specs.List.{list_all};
+ghost use Rattle.dns_print.specs.Printing.{PrintsOnOk};
 ghost use Rattle.dns_fields_text.specs.Parameters.{are_keys, are_protocols, has_named_value, ipv4_hints, ipv6_hints, is_bare, key_name, key_word, keys_text, named_value, other_value, parameter_word, port_text, protocols};
 ghost use Rattle.dns_fields_text.specs.ItemsLeft.{parameter_item};
 
+use crate::address::{write_ipv4, write_ipv6};
 use crate::base64_text::write_base64;
 use crate::parameters::Parameter;
 use crate::strings::Strings;
-use dns_print::write_value;
-use dns_value_text::Quoted;
+use dns_print::{TextWriter, write_number};
+use dns_value_text::write_quoted;
 use std::fmt;
-use std::net::{Ipv4Addr, Ipv6Addr};
+use std::net::Ipv6Addr;
 
 /// A service parameter that prints by the name of its key if the value is well-formed for that key,
 /// else by the number of the key.
@@ -37,24 +38,36 @@ pub(crate) fn name_of(key: u16) -> Option<&'static str>
     }
 }
 
+/// Prints `key` and the number of a key.
+#[tactic(auto, using(dns_print::proofs::theory::Prints::prints, std::proofs::lemmas::Grind::common_steps))]
+fn write_numbered_key<W: TextWriter>(f: &mut W, key: u16) -> fmt::Result
+    ensures text { PrintsOnOk W.takes f.old result (codes "key" ++ decimal key) f.new }
+    ensures err { OnErr result W.MayFail }
+{
+    f.write_text("key")?;
+    write_number(f, u64::from(key))
+}
+
 /// Prints a key: its name, else `key` and its number.
-fn write_key<W: fmt::Write>(f: &mut fmt::Formatter<W>, key: u16) -> fmt::Result
-    ensures { WritesOnOk W.write_str_gives f.old result (key_word key) f.new }
+fn write_key<W: TextWriter>(f: &mut W, key: u16) -> fmt::Result
+    ensures text { PrintsOnOk W.takes f.old result (key_word key) f.new }
+    ensures err { OnErr result W.MayFail }
 {
     match name_of(key) {
-        Some(name) => f.write_str(name),
-        None => write!(f, "key{key}"),
+        Some(name) => f.write_text(name),
+        None => write_numbered_key(f, key),
     }
 }
 
 /// Prints keys, separated by commas.
-fn write_keys<W: fmt::Write>(f: &mut fmt::Formatter<W>, value: &[u8]) -> fmt::Result
-    ensures { WritesOnOk W.write_str_gives f.old result (keys_text value.now) f.new }
+fn write_keys<W: TextWriter>(f: &mut W, value: &[u8]) -> fmt::Result
+    ensures text { PrintsOnOk W.takes f.old result (keys_text value.now) f.new }
+    ensures err { OnErr result W.MayFail }
 {
     let mut separator = "";
     let mut left = value;
     'keys: while let Some((key, after)) = left.split_first_chunk::<2>() {
-        f.write_str(separator)?;
+        f.write_text(separator)?;
         write_key(f, u16::from_be_bytes(*key))?;
         separator = ",";
         left = after;
@@ -63,14 +76,15 @@ fn write_keys<W: fmt::Write>(f: &mut fmt::Formatter<W>, value: &[u8]) -> fmt::Re
 }
 
 /// Prints IPv4 addresses, separated by commas.
-fn write_ipv4_hints<W: fmt::Write>(f: &mut fmt::Formatter<W>, value: &[u8]) -> fmt::Result
-    ensures { WritesOnOk W.write_str_gives f.old result (ipv4_hints value.now) f.new }
+fn write_ipv4_hints<W: TextWriter>(f: &mut W, value: &[u8]) -> fmt::Result
+    ensures text { PrintsOnOk W.takes f.old result (ipv4_hints value.now) f.new }
+    ensures err { OnErr result W.MayFail }
 {
     let mut separator = "";
     let mut left = value;
     'addresses: while let Some((octets, after)) = left.split_first_chunk::<4>() {
-        f.write_str(separator)?;
-        write!(f, "{}", Ipv4Addr::from(*octets))?;
+        f.write_text(separator)?;
+        write_ipv4(f, *octets)?;
         separator = ",";
         left = after;
     }
@@ -78,14 +92,15 @@ fn write_ipv4_hints<W: fmt::Write>(f: &mut fmt::Formatter<W>, value: &[u8]) -> f
 }
 
 /// Prints IPv6 addresses, separated by commas.
-fn write_ipv6_hints<W: fmt::Write>(f: &mut fmt::Formatter<W>, value: &[u8]) -> fmt::Result
-    ensures { WritesOnOk W.write_str_gives f.old result (ipv6_hints value.now) f.new }
+fn write_ipv6_hints<W: TextWriter>(f: &mut W, value: &[u8]) -> fmt::Result
+    ensures text { PrintsOnOk W.takes f.old result (ipv6_hints value.now) f.new }
+    ensures err { OnErr result W.MayFail }
 {
     let mut separator = "";
     let mut left = value;
     'addresses: while let Some((octets, after)) = left.split_first_chunk::<16>() {
-        f.write_str(separator)?;
-        write!(f, "{}", Ipv6Addr::from(*octets))?;
+        f.write_text(separator)?;
+        write_ipv6(f, Ipv6Addr::from(*octets))?;
         separator = ",";
         left = after;
     }
@@ -121,9 +136,11 @@ fn are_protocols(value: &[u8]) -> bool
 }
 
 /// Prints octets as they are.
-fn write_plain<W: fmt::Write>(f: &mut fmt::Formatter<W>, octets: &[u8]) -> fmt::Result
+#[tactic(auto, using(dns_print::proofs::theory::Prints::prints, std::proofs::lemmas::Grind::common_steps))]
+fn write_plain<W: TextWriter>(f: &mut W, octets: &[u8]) -> fmt::Result
     requires { list_all is_bare octets.now ≡ true }
-    ensures { WritesOnOk W.write_str_gives f.old result octets.now f.new }
+    ensures text { PrintsOnOk W.takes f.old result octets.now f.new }
+    ensures err { OnErr result W.MayFail }
 {
     for octet in octets {
         f.write_char(char::from(*octet))?;
@@ -132,13 +149,14 @@ fn write_plain<W: fmt::Write>(f: &mut fmt::Formatter<W>, octets: &[u8]) -> fmt::
 }
 
 /// Prints protocol names, separated by commas.
-fn write_protocols<W: fmt::Write>(f: &mut fmt::Formatter<W>, value: &[u8]) -> fmt::Result
+fn write_protocols<W: TextWriter>(f: &mut W, value: &[u8]) -> fmt::Result
     requires { are_protocols value.now ≡ true }
-    ensures { WritesOnOk W.write_str_gives f.old result (protocols value.now) f.new }
+    ensures text { PrintsOnOk W.takes f.old result (protocols value.now) f.new }
+    ensures err { OnErr result W.MayFail }
 {
     let mut separator = "";
     for name in Strings::new(value) {
-        f.write_str(separator)?;
+        f.write_text(separator)?;
         write_plain(f, name)?;
         separator = ",";
     }
@@ -179,18 +197,16 @@ fn has_named_value(key: u16, value: &[u8]) -> bool
 }
 
 /// Prints the value of a key with a name, after an equals sign; nothing if the key has no value.
-fn write_named_value<W: fmt::Write>(
-    f: &mut fmt::Formatter<W>,
-    key: u16,
-    value: &[u8],
-) -> fmt::Result
+#[tactic(auto, using(dns_print::proofs::theory::Prints::prints, std::proofs::lemmas::Grind::common_steps))]
+fn write_named_value<W: TextWriter>(f: &mut W, key: u16, value: &[u8]) -> fmt::Result
     requires { has_named_value key value.now ≡ true }
-    ensures { WritesOnOk W.write_str_gives f.old result (named_value key value.now) f.new }
+    ensures text { PrintsOnOk W.takes f.old result (named_value key value.now) f.new }
+    ensures err { OnErr result W.MayFail }
 {
     if key == 2 || key == 8 {
         return Ok(());
     }
-    f.write_char('=')?;
+    f.write_text("=")?;
     match key {
         0 => write_keys(f, value),
         1 => write_alpn(f, value),
@@ -198,56 +214,62 @@ fn write_named_value<W: fmt::Write>(
         4 => write_ipv4_hints(f, value),
         5 => write_base64(f, value),
         6 => write_ipv6_hints(f, value),
-        _ => write!(f, "{}", Quoted(value)),
+        _ => write_quoted(f, value),
     }
 }
 
 /// Prints a number of two octets.
-fn write_port<W: fmt::Write>(f: &mut fmt::Formatter<W>, value: &[u8]) -> fmt::Result
+#[tactic(auto, using(dns_print::proofs::theory::Prints::prints, std::proofs::lemmas::Grind::common_steps))]
+fn write_port<W: TextWriter>(f: &mut W, value: &[u8]) -> fmt::Result
     requires { length value.now ≡ 2 }
-    ensures { WritesOnOk W.write_str_gives f.old result (port_text value.now) f.new }
+    ensures text { PrintsOnOk W.takes f.old result (port_text value.now) f.new }
+    ensures err { OnErr result W.MayFail }
 {
-    write!(f, "{}", u16::from_be_bytes([value[0], value[1]]))
+    write_number(f, u64::from(u16::from_be_bytes([value[0], value[1]])))
 }
 
 /// Prints protocol names in quotes.
-fn write_alpn<W: fmt::Write>(f: &mut fmt::Formatter<W>, value: &[u8]) -> fmt::Result
+#[tactic(auto, using(dns_print::proofs::theory::Prints::prints, std::proofs::lemmas::Grind::common_steps))]
+fn write_alpn<W: TextWriter>(f: &mut W, value: &[u8]) -> fmt::Result
     requires { are_protocols value.now ≡ true }
-    ensures { WritesOnOk W.write_str_gives f.old result
+    ensures text { PrintsOnOk W.takes f.old result
         (codes "\"" ++ protocols value.now ++ codes "\"") f.new }
+    ensures err { OnErr result W.MayFail }
 {
-    f.write_char('"')?;
+    f.write_text("\"")?;
     write_protocols(f, value)?;
-    f.write_char('"')
+    f.write_text("\"")
 }
 
 /// Prints the value of a parameter by the number of its key, after an equals sign; nothing if it is
 /// empty.
-fn write_other_value<W: fmt::Write>(f: &mut fmt::Formatter<W>, value: &[u8]) -> fmt::Result
-    ensures { WritesOnOk W.write_str_gives f.old result (other_value value.now) f.new }
+#[tactic(auto, using(dns_print::proofs::theory::Prints::prints, std::proofs::lemmas::Grind::common_steps))]
+fn write_other_value<W: TextWriter>(f: &mut W, value: &[u8]) -> fmt::Result
+    ensures text { PrintsOnOk W.takes f.old result (other_value value.now) f.new }
+    ensures err { OnErr result W.MayFail }
 {
     if value.is_empty() {
         return Ok(());
     }
-    write!(f, "={}", Quoted(value))
+    f.write_text("=")?;
+    write_quoted(f, value)
 }
 
-/// A parameter that prints as `ParameterText` does if a formatter has no options.
-#[derive(Clone, Copy)]
-struct PlainParameter<'a>(Parameter<'a>);
-
-impl fmt::Display for PlainParameter<'_> {
-    ghost output = { λ text. Some (parameter_word (parameter_item text.0)) };
-
-    fn fmt<W: fmt::Write>(&self, f: &mut fmt::Formatter<W>) -> fmt::Result {
-        let Parameter { key, value } = self.0;
-        if has_named_value(key, value) {
-            write_key(f, key)?;
-            return write_named_value(f, key, value);
-        }
-        write!(f, "key{key}")?;
-        write_other_value(f, value)
+/// Prints a service parameter by the name of its key if the value is well-formed for that key, else by
+/// the number of the key (RFC 9460 section 2.1).
+#[tactic(auto, using(dns_print::proofs::theory::Prints::prints, std::proofs::lemmas::Grind::common_steps))]
+pub fn write_parameter<W: TextWriter>(f: &mut W, parameter: Parameter<'_>) -> fmt::Result
+    ensures text { PrintsOnOk W.takes f.old result
+        (parameter_word (parameter_item parameter.entry)) f.new }
+    ensures err { OnErr result W.MayFail }
+{
+    let Parameter { key, value } = parameter;
+    if has_named_value(key, value) {
+        write_key(f, key)?;
+        return write_named_value(f, key, value);
     }
+    write_numbered_key(f, key)?;
+    write_other_value(f, value)
 }
 
 impl fmt::Display for ParameterText<'_> {
@@ -256,6 +278,6 @@ impl fmt::Display for ParameterText<'_> {
     ghost styled_output = { λ text _. Some (parameter_word (parameter_item text.0)) };
 
     fn fmt<W: fmt::Write>(&self, f: &mut fmt::Formatter<W>) -> fmt::Result {
-        write_value(f, PlainParameter(self.0))
+        write_parameter(f, self.0)
     }
 }

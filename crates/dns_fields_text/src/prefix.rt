@@ -1,13 +1,14 @@
 //! Address prefixes in presentation format (RFC 3123 section 5).
-ghost use Rattle.std.specs.Prelude.{◌≡◌, ◌≤◌, length, true};
-ghost use Rattle.std.specs.Fmt.{WritesOnOk};
-ghost use Rattle.dns_fields_text.specs.Prefixes.{address_text, fits, has_word, is_trimmed, padded, prefix_text, sign};
+ghost use Rattle.std.specs.Prelude.{OnErr, OnSome, IfSome, ◌≡◌, ◌≤◌, ◌++◌, codes, decimal, length, true};
+ghost use Rattle.dns_print.specs.Printing.{PrintsOnOk};
+ghost use Rattle.dns_fields_text.specs.Prefixes.{address_text, fits, has_word, is_trimmed, padded, prefix_text, prefix_word, sign};
 ghost use Rattle.dns_fields_text.specs.ItemsLeft.{prefix_item};
 
+use crate::address::{write_ipv4, write_ipv6};
 use crate::prefixes::AddressPrefix;
-use dns_print::write_value;
+use dns_print::{TextWriter, write_number};
 use std::fmt;
-use std::net::{Ipv4Addr, Ipv6Addr};
+use std::net::Ipv6Addr;
 
 /// The address family of IPv4.
 const IPV4: u16 = 1;
@@ -63,18 +64,16 @@ fn padded<const N: usize>(octets: &[u8]) -> [u8; N]
 }
 
 /// Prints the address.
-fn write_address<W: fmt::Write>(
-    f: &mut fmt::Formatter<W>,
-    prefix: &AddressPrefix<'_>,
-) -> fmt::Result
+#[tactic(auto, using(dns_print::proofs::theory::Prints::prints, std::proofs::lemmas::Grind::common_steps))]
+fn write_address<W: TextWriter>(f: &mut W, prefix: &AddressPrefix<'_>) -> fmt::Result
     requires { has_word (prefix_item prefix.now) ≡ true }
-    ensures { WritesOnOk W.write_str_gives f.old result (address_text (prefix_item prefix.now))
-        f.new }
+    ensures text { PrintsOnOk W.takes f.old result (address_text (prefix_item prefix.now)) f.new }
+    ensures err { OnErr result W.MayFail }
 {
     if prefix.family == IPV4 {
-        write!(f, "{}", Ipv4Addr::from(padded::<4>(prefix.address)))
+        write_ipv4(f, padded::<4>(prefix.address))
     } else {
-        write!(f, "{}", Ipv6Addr::from(padded::<16>(prefix.address)))
+        write_ipv6(f, Ipv6Addr::from(padded::<16>(prefix.address)))
     }
 }
 
@@ -85,21 +84,55 @@ fn sign(prefix: &AddressPrefix<'_>) -> &'static str
     if prefix.negated { "!" } else { "" }
 }
 
-/// Prints a prefix that has a presentation format.
-fn write_prefix<W: fmt::Write>(f: &mut fmt::Formatter<W>, prefix: &AddressPrefix<'_>) -> fmt::Result
-    requires { has_word (prefix_item prefix.now) ≡ true }
-    ensures { WritesOnOk W.write_str_gives f.old result (prefix_text (prefix_item prefix.now))
-        f.new }
+/// Prints the family and a colon.
+#[tactic(auto, using(dns_print::proofs::theory::Prints::prints, std::proofs::lemmas::Grind::common_steps))]
+fn write_family<W: TextWriter>(f: &mut W, family: u16) -> fmt::Result
+    ensures text { PrintsOnOk W.takes f.old result (decimal family ++ codes ":") f.new }
+    ensures err { OnErr result W.MayFail }
 {
-    f.write_str(sign(prefix))?;
-    write!(f, "{}:", prefix.family)?;
+    write_number(f, u64::from(family))?;
+    f.write_text(":")
+}
+
+/// Prints a slash and the size.
+#[tactic(auto, using(dns_print::proofs::theory::Prints::prints, std::proofs::lemmas::Grind::common_steps))]
+fn write_size<W: TextWriter>(f: &mut W, size: u8) -> fmt::Result
+    ensures text { PrintsOnOk W.takes f.old result (codes "/" ++ decimal size) f.new }
+    ensures err { OnErr result W.MayFail }
+{
+    f.write_text("/")?;
+    write_number(f, u64::from(size))
+}
+
+/// Prints a prefix that has a presentation format.
+fn write_known<W: TextWriter>(f: &mut W, prefix: &AddressPrefix<'_>) -> fmt::Result
+    requires { has_word (prefix_item prefix.now) ≡ true }
+    ensures text { PrintsOnOk W.takes f.old result (prefix_text (prefix_item prefix.now)) f.new }
+    ensures err { OnErr result W.MayFail }
+{
+    f.write_text(sign(prefix))?;
+    write_family(f, prefix.family)?;
     write_address(f, prefix)?;
-    write!(f, "/{}", prefix.size)
+    write_size(f, prefix.size)
+}
+
+/// Prints an address prefix: an exclamation mark if it is negated, the family, a colon, the address, a
+/// slash and the size (RFC 3123 section 5). Fails without printing if the prefix has no presentation
+/// format.
+pub fn write_prefix<W: TextWriter>(f: &mut W, prefix: &AddressPrefix<'_>) -> fmt::Result
+    ensures text { IfSome (prefix_word (prefix_item prefix.now))
+        (λ text. PrintsOnOk W.takes f.old result text f.new) }
+    ensures err { OnSome (prefix_word (prefix_item prefix.now)) (OnErr result W.MayFail) }
+{
+    if has_word(prefix) {
+        write_known(f, prefix)
+    } else {
+        Err(fmt::Error)
+    }
 }
 
 impl PrefixText<'_> {
     ghost use Rattle.std.specs.Prelude.{is_some};
-    ghost use Rattle.dns_fields_text.specs.Prefixes.{prefix_word};
 
     /// Whether the prefix has a presentation format.
     pub fn is_printable(&self) -> bool
@@ -109,32 +142,12 @@ impl PrefixText<'_> {
     }
 }
 
-/// A prefix that prints as `PrefixText` does if a formatter has no options.
-#[derive(Clone, Copy)]
-struct PlainPrefix<'a>(AddressPrefix<'a>);
-
-impl fmt::Display for PlainPrefix<'_> {
-    ghost use Rattle.dns_fields_text.specs.Prefixes.{prefix_word};
-
-    ghost output = { λ text. prefix_word (prefix_item text.0) };
-
-    fn fmt<W: fmt::Write>(&self, f: &mut fmt::Formatter<W>) -> fmt::Result {
-        if has_word(&self.0) {
-            write_prefix(f, &self.0)
-        } else {
-            Err(fmt::Error)
-        }
-    }
-}
-
 impl fmt::Display for PrefixText<'_> {
-    ghost use Rattle.dns_fields_text.specs.Prefixes.{prefix_word};
-
     ghost output = { λ text. prefix_word (prefix_item text.0) };
 
     ghost styled_output = { λ text _. prefix_word (prefix_item text.0) };
 
     fn fmt<W: fmt::Write>(&self, f: &mut fmt::Formatter<W>) -> fmt::Result {
-        write_value(f, PlainPrefix(self.0))
+        write_prefix(f, &self.0)
     }
 }

@@ -1,13 +1,14 @@
 //! Type bit maps (RFC 4034 section 4.1.2, RFC 2535 section 5.2).
-ghost use Rattle.std.specs.Prelude.{◌≡◌, ◌+◌, ◌*◌, ◌≤◌, length, Some, true};
-ghost use Rattle.std.specs.Fmt.{WritesOnOk};
+ghost use Rattle.std.specs.Prelude.{OnErr, ◌≡◌, ◌+◌, ◌*◌, ◌≤◌, ◌++◌, codes, length, Some, true};
+ghost use Rattle.dns_print.specs.Printing.{PrintsOnOk};
 ghost use Rattle.dns_fields_text.specs.TypeMaps.{bit_types, is_small_map, map_types, octet_types, types_text};
+ghost use Rattle.dns_fields_text.specs.TypeNames.{type_word};
 ghost use Rattle.dns_fields_text.specs.Blocks.{SplitsBlock};
 
-use crate::type_name::TypeName;
+use crate::type_name::write_type_name;
 use crate::types::Types;
 use dns_number::Rtype;
-use dns_print::write_value;
+use dns_print::TextWriter;
 use std::fmt;
 
 /// A type bit map: blocks of a window number, a length and bits. It prints as the types whose bits are
@@ -35,31 +36,39 @@ impl<'a> TypeMap<'a> {
     }
 }
 
+/// Prints a type after a space.
+#[tactic(auto, using(dns_print::proofs::theory::Prints::prints, std::proofs::lemmas::Grind::common_steps))]
+fn write_spaced_type<W: TextWriter>(f: &mut W, rtype: Rtype) -> fmt::Result
+    ensures text { PrintsOnOk W.takes f.old result (codes " " ++ type_word rtype) f.new }
+    ensures err { OnErr result W.MayFail }
+{
+    f.write_text(" ")?;
+    write_type_name(f, rtype)
+}
+
 /// Prints the types of the `count` high bits of an octet, from `first` on, each after a space.
-fn write_bits<W: fmt::Write>(
-    f: &mut fmt::Formatter<W>,
-    count: u8,
-    first: u32,
-    octet: u8,
-) -> fmt::Result
+#[tactic(auto, using(dns_print::proofs::theory::Prints::prints, crate::proofs::TypeMapLemmas::bit_set, crate::proofs::TypeMapLemmas::bit_clear))]
+fn write_bits<W: TextWriter>(f: &mut W, count: u8, first: u32, octet: u8) -> fmt::Result
     requires { first + count ≤ 65536 }
-    ensures { WritesOnOk W.write_str_gives f.old result (types_text (bit_types count first octet))
-        f.new }
+    ensures text { PrintsOnOk W.takes f.old result
+        (types_text (bit_types count first octet)) f.new }
+    ensures err { OnErr result W.MayFail }
 {
     if count == 0 {
         return Ok(());
     }
     if octet >= 128 {
-        write!(f, " {}", TypeName(Rtype::from_int(first as u16)))?;
+        write_spaced_type(f, Rtype::from_int(first as u16))?;
     }
     write_bits(f, count - 1, first + 1, octet % 128 * 2)
 }
 
 /// Prints the types of octets with a bit for each type from `first` on, each after a space.
-fn write_octets<W: fmt::Write>(f: &mut fmt::Formatter<W>, first: u32, octets: &[u8]) -> fmt::Result
+fn write_octets<W: TextWriter>(f: &mut W, first: u32, octets: &[u8]) -> fmt::Result
     requires { first + 8 * length octets.now ≤ 65536 }
-    ensures { WritesOnOk W.write_str_gives f.old result (types_text (octet_types first octets.now))
-        f.new }
+    ensures text { PrintsOnOk W.takes f.old result
+        (types_text (octet_types first octets.now)) f.new }
+    ensures err { OnErr result W.MayFail }
 {
     let [octet, after @ ..] = octets else {
         return Ok(());
@@ -82,21 +91,18 @@ pub(crate) fn split_block(octets: &[u8]) -> Option<(u32, &[u8], &[u8])>
     Some((u32::from(*window) * 256, block, after))
 }
 
-/// A type bit map that prints as `TypeMap` does if a formatter has no options.
-#[derive(Clone, Copy)]
-struct PlainMap<'a>(&'a [u8]);
-
-impl fmt::Display for PlainMap<'_> {
-    ghost output = { λ map. Some (types_text (map_types map.0.now)) };
-
-    fn fmt<W: fmt::Write>(&self, f: &mut fmt::Formatter<W>) -> fmt::Result {
-        let mut left = self.0;
-        'windows: while let Some((first, block, after)) = split_block(left) {
-            write_octets(f, first, block)?;
-            left = after;
-        }
-        Ok(())
+/// Prints the types of a type bit map, each after a space, up to the first block that is malformed
+/// (RFC 4034 section 4.1.2).
+pub fn write_type_map<W: TextWriter>(f: &mut W, octets: &[u8]) -> fmt::Result
+    ensures text { PrintsOnOk W.takes f.old result (types_text (map_types octets.now)) f.new }
+    ensures err { OnErr result W.MayFail }
+{
+    let mut left = octets;
+    'windows: while let Some((first, block, after)) = split_block(left) {
+        write_octets(f, first, block)?;
+        left = after;
     }
+    Ok(())
 }
 
 impl fmt::Display for TypeMap<'_> {
@@ -105,7 +111,7 @@ impl fmt::Display for TypeMap<'_> {
     ghost styled_output = { λ map _. Some (types_text (map_types map.0.now)) };
 
     fn fmt<W: fmt::Write>(&self, f: &mut fmt::Formatter<W>) -> fmt::Result {
-        write_value(f, PlainMap(self.0))
+        write_type_map(f, self.0)
     }
 }
 
@@ -137,17 +143,16 @@ impl<'a> SmallTypeMap<'a> {
     }
 }
 
-/// A bit map that prints as `SmallTypeMap` does if a formatter has no options.
-#[derive(Clone, Copy)]
-struct PlainSmallMap<'a>(SmallTypeMap<'a>);
-
-impl fmt::Display for PlainSmallMap<'_> {
+impl SmallTypeMap<'_> {
     ghost use Rattle.dns_fields_text.specs.SmallMaps.{small_octets};
 
-    ghost output = { λ map. Some (types_text (octet_types 0 (small_octets map.0))) };
-
-    fn fmt<W: fmt::Write>(&self, f: &mut fmt::Formatter<W>) -> fmt::Result {
-        write_octets(f, 0, self.0.octets)
+    /// Prints the types whose bits are set, each after a space (RFC 2535 section 5.2).
+    pub fn write<W: TextWriter>(&self, f: &mut W) -> fmt::Result
+        ensures text { PrintsOnOk W.takes f.old result
+            (types_text (octet_types 0 (small_octets self.now))) f.new }
+        ensures err { OnErr result W.MayFail }
+    {
+        write_octets(f, 0, self.octets)
     }
 }
 
@@ -159,6 +164,6 @@ impl fmt::Display for SmallTypeMap<'_> {
     ghost styled_output = { λ map _. Some (types_text (octet_types 0 (small_octets map))) };
 
     fn fmt<W: fmt::Write>(&self, f: &mut fmt::Formatter<W>) -> fmt::Result {
-        write_value(f, PlainSmallMap(*self))
+        self.write(f)
     }
 }

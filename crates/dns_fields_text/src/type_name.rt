@@ -1,11 +1,11 @@
 //! Record types as words (RFC 3597 section 5).
-ghost use Rattle.std.specs.Prelude.{Some, ◌≡◌, option_map};
+ghost use Rattle.std.specs.Prelude.{OnErr, Some, ◌≡◌, option_map};
 ghost use Rattle.dns_print.specs.Printing.{PrintsOnOk};
 ghost use Rattle.dns_fields_text.specs.TypeNames.{mnemonic, mnemonic_in, mnemonics, type_word};
 
 use dns_fields::{Kind, TABLE};
-use dns_number::Rtype;
-use dns_print::{TextWriter, write_value};
+use dns_number::{Rtype, write_rtype};
+use dns_print::TextWriter;
 use std::fmt;
 
 /// A record type that prints as its mnemonic in the table of `dns_fields`, else as `Rtype` does.
@@ -34,13 +34,15 @@ fn mnemonic_of(rtype: u16) -> Option<&'static str>
     mnemonic_in(TABLE, rtype)
 }
 
-/// Prints a record type as its mnemonic in the table, else as `Rtype` does.
-fn write_type<W: TextWriter>(f: &mut W, rtype: Rtype) -> fmt::Result
-    ensures { PrintsOnOk W.takes f.old result (type_word rtype) f.new }
+/// Prints a record type as its mnemonic in the table of `dns_fields`, else as `Rtype` does (RFC 3597
+/// section 5).
+pub fn write_type_name<W: TextWriter>(f: &mut W, rtype: Rtype) -> fmt::Result
+    ensures text { PrintsOnOk W.takes f.old result (type_word rtype) f.new }
+    ensures err { OnErr result W.MayFail }
 {
     match mnemonic_of(rtype.to_int()) {
         Some(mnemonic) => f.write_text(mnemonic),
-        None => write_value(f, rtype),
+        None => write_rtype(f, rtype),
     }
 }
 
@@ -50,6 +52,6 @@ impl fmt::Display for TypeName {
     ghost styled_output = { λ name _. Some (type_word name.0) };
 
     fn fmt<W: fmt::Write>(&self, f: &mut fmt::Formatter<W>) -> fmt::Result {
-        write_type(f, self.0)
+        write_type_name(f, self.0)
     }
 }

@@ -1,6 +1,5 @@
 //! Record data without a presentation format (RFC 3597 section 5).
-ghost use Rattle.std.specs.Prelude.{◌≡◌, length};
-ghost use Rattle.std.specs.Fmt.{WritesOnOk};
+ghost use Rattle.std.specs.Prelude.{OnErr, ◌≡◌, ◌++◌, codes, decimal, length};
 ghost use Rattle.std.specs.List.{flat_map};
 ghost use Rattle.dns_data.specs.Printing.{hex_octet, opaque_text};
 ghost use Rattle.dns_fields.specs.DataOrders.{part_octets};
@@ -9,9 +8,12 @@ ghost use Rattle.dns_fields_text.specs.DataTexts.{data_fields};
 ghost use Rattle.dns_fields_text.specs.FieldTexts.{fields_octets};
 ghost use Rattle.dns_name.specs.Names.{framed, uncompressed};
 ghost use Rattle.dns_name.specs.ParsedName.{label_octets, labels};
+ghost use Rattle.dns_print.specs.Printing.{PrintsOnOk};
 
 use dns_fields::{Encoded, FieldData};
 use dns_name::Label;
+use dns_print::{TextWriter, write_number};
+use dns_value_text::write_hex_octet;
 use dns_wire::ParsedName;
 use std::fmt;
 
@@ -36,37 +38,35 @@ fn data_size(data: &FieldData<'_>) -> usize
     size
 }
 
-/// Prints an octet as two lowercase hexadecimal digits.
-fn write_octet<W: fmt::Write>(f: &mut fmt::Formatter<W>, octet: u8) -> fmt::Result
-    ensures { WritesOnOk W.write_str_gives f.old result (hex_octet octet) f.new }
-{
-    write!(f, "{octet:02x}")
-}
-
 /// Prints octets in hexadecimal digits.
-fn write_octets<W: fmt::Write>(f: &mut fmt::Formatter<W>, octets: &[u8]) -> fmt::Result
-    ensures { WritesOnOk W.write_str_gives f.old result (flat_map hex_octet octets.now) f.new }
+#[tactic(auto, using(dns_print::proofs::theory::Prints::prints, std::proofs::lemmas::Grind::common_steps))]
+fn write_octets<W: TextWriter>(f: &mut W, octets: &[u8]) -> fmt::Result
+    ensures text { PrintsOnOk W.takes f.old result (flat_map hex_octet octets.now) f.new }
+    ensures err { OnErr result W.MayFail }
 {
     for octet in octets {
-        write_octet(f, *octet)?;
+        write_hex_octet(f, false, *octet)?;
     }
     Ok(())
 }
 
 /// Prints a label after its length, in hexadecimal digits.
-fn write_label<W: fmt::Write>(f: &mut fmt::Formatter<W>, label: Label<'_>) -> fmt::Result
-    ensures { WritesOnOk W.write_str_gives f.old result
+#[tactic(auto, using(dns_print::proofs::theory::Prints::prints, std::proofs::lemmas::Grind::common_steps))]
+fn write_label<W: TextWriter>(f: &mut W, label: Label<'_>) -> fmt::Result
+    ensures text { PrintsOnOk W.takes f.old result
         (flat_map hex_octet (framed (label_octets label.entry))) f.new }
+    ensures err { OnErr result W.MayFail }
 {
     let octets = label.as_slice();
-    write_octet(f, octets.len() as u8)?;
+    write_hex_octet(f, false, octets.len() as u8)?;
     write_octets(f, octets)
 }
 
 /// Prints the octets of a name, uncompressed, in hexadecimal digits.
-fn write_name<W: fmt::Write>(f: &mut fmt::Formatter<W>, name: &ParsedName<'_>) -> fmt::Result
-    ensures { WritesOnOk W.write_str_gives f.old result
+fn write_name<W: TextWriter>(f: &mut W, name: &ParsedName<'_>) -> fmt::Result
+    ensures text { PrintsOnOk W.takes f.old result
         (flat_map hex_octet (uncompressed (labels name.now))) f.new }
+    ensures err { OnErr result W.MayFail }
 {
     for label in name.iter_labels() {
         write_label(f, label)?;
@@ -75,9 +75,10 @@ fn write_name<W: fmt::Write>(f: &mut fmt::Formatter<W>, name: &ParsedName<'_>) -
 }
 
 /// Prints the octets of a field in hexadecimal digits.
-fn write_field<W: fmt::Write>(f: &mut fmt::Formatter<W>, encoded: &Encoded<'_>) -> fmt::Result
-    ensures { WritesOnOk W.write_str_gives f.old result
+fn write_field<W: TextWriter>(f: &mut W, encoded: &Encoded<'_>) -> fmt::Result
+    ensures text { PrintsOnOk W.takes f.old result
         (flat_map hex_octet (part_octets (part_of encoded.now))) f.new }
+    ensures err { OnErr result W.MayFail }
 {
     match encoded {
         Encoded::Octets(octets) => write_octets(f, octets),
@@ -86,9 +87,10 @@ fn write_field<W: fmt::Write>(f: &mut fmt::Formatter<W>, encoded: &Encoded<'_>) 
 }
 
 /// Prints the octets of all fields in hexadecimal digits.
-fn write_data<W: fmt::Write>(f: &mut fmt::Formatter<W>, data: &FieldData<'_>) -> fmt::Result
-    ensures { WritesOnOk W.write_str_gives f.old result
+fn write_data<W: TextWriter>(f: &mut W, data: &FieldData<'_>) -> fmt::Result
+    ensures text { PrintsOnOk W.takes f.old result
         (flat_map hex_octet (fields_octets (data_fields data.now))) f.new }
+    ensures err { OnErr result W.MayFail }
 {
     for field in data.fields() {
         write_field(f, &field.encoded)?;
@@ -96,19 +98,43 @@ fn write_data<W: fmt::Write>(f: &mut fmt::Formatter<W>, data: &FieldData<'_>) ->
     Ok(())
 }
 
-/// Prints `\#`, the number of octets, and the octets in hexadecimal digits if there are any.
-pub(crate) fn write_unknown<W: fmt::Write>(
-    f: &mut fmt::Formatter<W>,
-    data: &FieldData<'_>,
-) -> fmt::Result
-    ensures { WritesOnOk W.write_str_gives f.old result
+/// Prints `\#` and the number of octets.
+#[tactic(auto, using(dns_print::proofs::theory::Prints::prints, std::proofs::lemmas::Grind::common_steps))]
+fn write_size<W: TextWriter>(f: &mut W, size: usize) -> fmt::Result
+    ensures text { PrintsOnOk W.takes f.old result (codes "\\# " ++ decimal size) f.new }
+    ensures err { OnErr result W.MayFail }
+{
+    f.write_text("\\# ")?;
+    write_number(f, size as u64)
+}
+
+/// Prints the octets of all fields as `write_opaque` does.
+#[tactic(auto, using(dns_print::proofs::theory::Prints::prints, crate::proofs::OctetLemmas::opaque_none, crate::proofs::OctetLemmas::opaque_some))]
+pub(crate) fn write_unknown<W: TextWriter>(f: &mut W, data: &FieldData<'_>) -> fmt::Result
+    ensures text { PrintsOnOk W.takes f.old result
         (opaque_text (fields_octets (data_fields data.now))) f.new }
+    ensures err { OnErr result W.MayFail }
 {
     let size = data_size(data);
-    write!(f, "\\# {size}")?;
+    write_size(f, size)?;
     if size == 0 {
         return Ok(());
     }
-    f.write_char(' ')?;
+    f.write_text(" ")?;
     write_data(f, data)
+}
+
+/// Prints octets as RDATA without a presentation format: `\#`, the number of octets, and the octets in
+/// lowercase hexadecimal digits if there are any (RFC 3597 section 5).
+#[tactic(auto, using(dns_print::proofs::theory::Prints::prints, crate::proofs::OctetLemmas::opaque_none, crate::proofs::OctetLemmas::opaque_some))]
+pub fn write_opaque<W: TextWriter>(f: &mut W, octets: &[u8]) -> fmt::Result
+    ensures text { PrintsOnOk W.takes f.old result (opaque_text octets.now) f.new }
+    ensures err { OnErr result W.MayFail }
+{
+    write_size(f, octets.len())?;
+    if octets.is_empty() {
+        return Ok(());
+    }
+    f.write_text(" ")?;
+    write_octets(f, octets)
 }

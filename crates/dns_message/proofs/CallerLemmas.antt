@@ -14,8 +14,8 @@ pub use Rattle.dns_wire.proofs.theory.NameSizes.{names_are_short}
 pub use Rattle.dns_wire.proofs.theory.NameSizes.{parts_are_short}
 -- `data_in` is the result of reading RDATA by a layout, and there is no other.
 pub use Rattle.dns_item.proofs.theory.TypedLemmas.{data_is_parsed}
--- Reading a record by a layout returns what `laid_out` says, if the RDATA is all there.
-pub use Rattle.dns_item.proofs.theory.TypedLemmas.{laid_out-returned}
+-- Reading a record by a layout returns what `laid_out` says, if the RDATA is all there; the second also if it isn't.
+pub use Rattle.dns_item.proofs.theory.TypedLemmas.{laid_out-returned, laid_out-read}
 -- A section of records has one start, or one error, of an entry before it.
 pub use Rattle.dns_section.proofs.theory.StartLemmas.{start_or_fault}
 -- What a cursor at the start of a section has left is the section's reading.

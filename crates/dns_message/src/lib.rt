@@ -234,8 +234,8 @@ pub mod data {
 /// RDATA from presentation format (RFC 1035 section 5.1), by the words of a line:
 ///
 /// ```rust
-/// let words = split_words(alloc, text)?;
-/// let data = from_text(alloc, Rtype::from_int(*rtype), words.as_slice())?;
+/// let words = split_words(alloc, line)?;
+/// from_text(alloc, rtype, words.as_slice())
 /// ```
 ///
 /// RDATA from native values, one for each field; the calls of `make` are for one type each:
@@ -297,7 +297,7 @@ pub mod serial {
 /// }
 /// ```
 pub mod script {
-    pub use dns_script::{Call, OptPlan, Reply, Stage, run, step};
+    pub use dns_script::{Call, OptPlan, Reply, Stage, laws, run, step};
 }
 
 /// The targets that messages are written to.

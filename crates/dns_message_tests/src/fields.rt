@@ -1,8 +1,11 @@
-//! RDATA as named fields: the example of the module `fields` of `dns_message`.
-use crate::asserts::assert_holds;
-use dns_message::fields::{FieldData, Value};
+//! RDATA as named fields, and RDATA from text: the examples of the module `fields` of `dns_message`.
+use crate::asserts::{assert_holds, assert_octets};
+use dns_message::code::Rtype;
+use dns_message::data::ComposeRecordData;
+use dns_message::fields::{FieldData, OwnedFieldData, TextError, Value, from_text, split_words};
 use dns_message::message::Message;
 use dns_message::name::{Name, ParsedName, ToNameExt};
+use std::alloc::Global;
 
 /// The first name in RDATA, such as the exchange of MX or the target of SRV.
 fn first_name<'a>(data: &FieldData<'a>) -> Option<ParsedName<'a>> {
@@ -28,4 +31,22 @@ fn finds_the_exchange(rt: HostRuntime) {
     let expected = Name::from_octets(b"\x01b\x01a\x07example\x00".as_slice());
     let is_it = exchange.octets_eq(&expected.expect(&rt, "a name"));
     assert_holds(&rt, "the exchange", is_it);
+}
+
+/// RDATA from what a line of a zone file has after the record type.
+fn data_of_line(alloc: Global, rtype: Rtype, line: &str) -> Result<OwnedFieldData, TextError> {
+    let words = split_words(alloc, line)?;
+    from_text(alloc, rtype, words.as_slice())
+}
+
+#[test]
+fn reads_a_line(rt: HostRuntime) {
+    let data = data_of_line(rt.alloc(), Rtype::MX, "10 b.a.example. ; the exchange");
+    let mut octets = Vec::new(rt.alloc());
+    let data = data.expect(&rt, "MX data");
+    data.compose_rdata(&mut octets).expect(&rt, "memory");
+    let expected = b"\x00\x0A\x01b\x01a\x07example\x00";
+    assert_octets(&rt, "the RDATA", &octets, expected);
+    let error = data_of_line(rt.alloc(), Rtype::MX, "ten b.a.example.").err();
+    assert_holds(&rt, "a bad word", error == Some(TextError::BadWord));
 }

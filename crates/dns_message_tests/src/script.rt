@@ -1,5 +1,6 @@
 //! Histories: ten lists of calls, from each stage and over each target, after which the builder has
-//! the same items. The octets are the same.
+//! the same items. The octets are the same: a literal, which is the plain encoding of the items by
+//! `dns_plain`.
 ghost use Rattle.std.specs.Prelude.{◌≡◌};
 ghost use Rattle.dns_message.specs.Targets.{Plain};
 
@@ -14,6 +15,7 @@ use dns_message::target::{
     CloneTarget, Composer, FingerprintCompressor, HashCompressor, StaticCompressor, StreamTarget,
     TreeCompressor,
 };
+use dns_plain::{Part, PlainMessage, QuestionItem, RecordItem, Rule, encode};
 use std::alloc::Global;
 use std::process::Abort;
 
@@ -149,6 +151,54 @@ const NS: &[u8] = b"\x02ns\x07example\x03com\x00";
 const NS_WWW: &[u8] = b"\x02ns\x03www\x07example\x03com\x00";
 
 const A_NS_WWW: &[u8] = b"\x01a\x02ns\x03www\x07example\x03com\x00";
+
+/// An NS record of `dns_plain`. The array has the server.
+fn plain_server<'a>(owner: &'a [u8], parts: &'a [Part<'a>; 1]) -> RecordItem<'a> {
+    RecordItem {
+        owner,
+        rtype: 2,
+        class: 1,
+        ttl: 60,
+        parts,
+    }
+}
+
+/// The OPT record: a payload size of 1,232, rcode 19 and DO.
+const PLAIN_OPT: RecordItem<'static> = RecordItem {
+    owner: b"\x00",
+    rtype: 41,
+    class: 1232,
+    ttl: 0x0100_8000,
+    parts: &[],
+};
+
+/// The plain encoding of the items that the message has at the end.
+fn plain_octets(rt: &impl Abort, alloc: Global, rule: Rule) -> Vec<u8> {
+    let answer = [Part::CompressibleName(NS)];
+    let authority = [Part::CompressibleName(NS_WWW)];
+    let additional = [Part::CompressibleName(A_NS_WWW)];
+    let message = PlainMessage {
+        header: [0, 0, 0, 3],
+        questions: &[QuestionItem {
+            name: EXAMPLE,
+            rtype: 2,
+            class: 1,
+        }],
+        answers: &[plain_server(EXAMPLE, &answer)],
+        authorities: &[plain_server(WWW, &authority)],
+        additionals: &[plain_server(NS, &additional), PLAIN_OPT],
+    };
+    encode(alloc, rule, &message).expect(rt, "memory")
+}
+
+#[test]
+fn the_octets_are_the_plain_encoding(rt: HostRuntime) {
+    let alloc = rt.alloc();
+    assert_eq!(rt; plain_octets(&rt, alloc, Rule::Plain).as_slice(), PLAIN.as_slice());
+    for rule in [Rule::Static, Rule::Tree, Rule::Hash] {
+        assert_eq!(rt; plain_octets(&rt, alloc, rule).as_slice(), COMPRESSED.as_slice());
+    }
+}
 
 fn name(rt: &impl Abort, octets: &[u8]) -> Owner {
     let octets = ArrayVec::try_from(octets).expect(rt, "a capacity");

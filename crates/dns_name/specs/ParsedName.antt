@@ -12,6 +12,10 @@ use Rattle.dns_name.specs.declared.label_iter.LabelIter.{LabelIter}
 abbrev pub labels : ParsedName → Labels
 labels name = name.name_at.0.0
 
+-- The name is read in these octets, and its own encoding begins at this offset in them.
+abbrev pub BeginsAt : List ℕ → ℕ → ParsedName → Type 0
+BeginsAt b p name = (name.octets.now ≡ b) × (name.pos ≡ p)
+
 -- The octets at the name's offset are its uncompressed octets.
 abbrev pub IsFlat : ParsedName → Type 0
 IsFlat name = (after : List ℕ) × (drop name.pos name.octets.now ≡ uncompressed (labels name) ++ after)

@@ -1,8 +1,8 @@
 //! Parsing of names that may point to a cached name.
-ghost use Rattle.std.specs.Prelude.{ℕ, List};
+ghost use Rattle.std.specs.Prelude.{ℕ, List, IfOk};
 ghost use Rattle.dns_name.specs.Names.{NameAt};
 ghost use Rattle.dns_name.specs.CachedNames.{IsCached};
-ghost use Rattle.dns_name.specs.ParsedName.{labels, ParsesName, ReadsEncoded};
+ghost use Rattle.dns_name.specs.ParsedName.{labels, BeginsAt, ParsesName, ReadsEncoded};
 ghost use Rattle.dns_name.specs.Parsers.{seen, offset};
 
 use crate::cached_name::CachedName;
@@ -23,6 +23,7 @@ pub fn parse_cached<'a>(
     requires cached { IsCached (seen parser.old) cached.old }
     ensures reads { ParsesName parser.old parser.new result }
     ensures name { ReadsEncoded (seen parser.old) (offset parser.old) result }
+    ensures begins { IfOk result (BeginsAt (seen parser.old) (offset parser.old)) }
     ensures cached { IsCached (seen parser.old) cached.new }
 {
     let octets = &parser.octets[..parser.end];

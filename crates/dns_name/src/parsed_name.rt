@@ -1,4 +1,4 @@
-ghost use Rattle.std.specs.Prelude.{◌≡◌, ℕ, List, ◌+◌, ◌↔◌, ◌≤◌, IsTrue, IsSome, IfSome, [], length};
+ghost use Rattle.std.specs.Prelude.{◌≡◌, ℕ, List, ◌+◌, ◌↔◌, ◌≤◌, IsTrue, IsSome, IfOk, IfSome, [], length};
 ghost use Rattle.dns_name.specs.Unique.{NameOfSizeAndCount, NameOfSizeAndCount-prop};
 
 use crate::cached_name::CachedName;
@@ -35,7 +35,7 @@ impl<'a> ParsedName<'a> {
     ghost use Rattle.dns_name.specs.Names.{Labels, uncompressed, with_root, NameAt};
     ghost use Rattle.dns_name.specs.Parsers.{seen, offset};
     ghost use Rattle.dns_name.specs.CachedNames.{IsCached, ArrivesOrFails, MeasuresOrFails};
-    ghost use Rattle.dns_name.specs.ParsedName.{labels, ParsesName, SkipsName, ReadsEncoded, IsFlat, labels_left};
+    ghost use Rattle.dns_name.specs.ParsedName.{labels, BeginsAt, ParsesName, SkipsName, ReadsEncoded, IsFlat, labels_left};
     ghost use Rattle.dns_name.specs.Uncompressed.{WholeName};
 
     /// Reads the name at the parser's offset and moves past its encoding.
@@ -50,6 +50,7 @@ impl<'a> ParsedName<'a> {
     pub fn parse(parser: &mut Parser<'a>) -> Result<ParsedName<'a>, ParseError>
         ensures reads { ParsesName parser.old parser.new result }
         ensures name { ReadsEncoded (seen parser.old) (offset parser.old) result }
+        ensures begins { IfOk result (BeginsAt (seen parser.old) (offset parser.old)) }
     {
         parse_cached(parser, &mut CachedName::new())
     }

@@ -9,11 +9,11 @@ ghost use Rattle.dns_number.specs.Mnemonics.{type_mnemonics, class_mnemonics};
 ghost use Rattle.dns_number.specs.Registry.{numbers, type_numbers, registered_types, registered_classes, registered_opcodes, registered_rcodes, registered_opt_rcodes, registered_options};
 ghost use Rattle.dns_number.specs.Tables.{table, is_distinct};
 
-use crate::class::Class;
+use crate::class::{Class, FromStrError as ClassError};
 use crate::opcode::Opcode;
 use crate::option_code::OptionCode;
 use crate::rcode::{OptRcode, Rcode};
-use crate::rtype::Rtype;
+use crate::rtype::{FromStrError as TypeError, Rtype};
 use std::hash::Hash;
 
 /// The printed text of each record type and each class, named or not, reads back as that number.
@@ -307,7 +307,8 @@ pub fn registered_names_differ()
     ensures options { IsTrue (is_distinct registered_options) }
 {}
 
-/// Two types, classes or codes are equal if and only if their numbers are.
+/// Two types, classes or codes are equal if and only if their numbers are. Two errors of reading a
+/// type are equal, and so are two of reading a class.
 pub fn number_equality()
     ensures types { (a b : _) → IsTrue (⟦<Rtype as PartialEq>⟧.eq a b) ↔ (a ≡ b) }
     ensures classes { (a b : _) → IsTrue (⟦<Class as PartialEq>⟧.eq a b) ↔ (a ≡ b) }
@@ -315,6 +316,8 @@ pub fn number_equality()
     ensures rcodes { (a b : _) → IsTrue (⟦<Rcode as PartialEq>⟧.eq a b) ↔ (a ≡ b) }
     ensures opt_rcodes { (a b : _) → IsTrue (⟦<OptRcode as PartialEq>⟧.eq a b) ↔ (a ≡ b) }
     ensures options { (a b : _) → IsTrue (⟦<OptionCode as PartialEq>⟧.eq a b) ↔ (a ≡ b) }
+    ensures type_errors { (a b : _) → IsTrue (⟦<TypeError as PartialEq>⟧.eq a b) ↔ (a ≡ b) }
+    ensures class_errors { (a b : _) → IsTrue (⟦<ClassError as PartialEq>⟧.eq a b) ↔ (a ≡ b) }
 {}
 
 /// Types, classes and codes are ordered by their numbers.
@@ -349,7 +352,7 @@ pub fn number_hashes()
     ensures options { ⟦<OptionCode as Hash>⟧.hash_input ≡ fed.u16 }
 {}
 
-/// A clone has the same number.
+/// A clone has the same number, or is the same error.
 pub fn number_clones()
     ensures types { (a b : _) → ⟦<Rtype as Clone>⟧.is_clone a b → b ≡ a }
     ensures classes { (a b : _) → ⟦<Class as Clone>⟧.is_clone a b → b ≡ a }
@@ -357,6 +360,8 @@ pub fn number_clones()
     ensures rcodes { (a b : _) → ⟦<Rcode as Clone>⟧.is_clone a b → b ≡ a }
     ensures opt_rcodes { (a b : _) → ⟦<OptRcode as Clone>⟧.is_clone a b → b ≡ a }
     ensures options { (a b : _) → ⟦<OptionCode as Clone>⟧.is_clone a b → b ≡ a }
+    ensures type_errors { (a b : _) → ⟦<TypeError as Clone>⟧.is_clone a b → b ≡ a }
+    ensures class_errors { (a b : _) → ⟦<ClassError as Clone>⟧.is_clone a b → b ≡ a }
 {}
 
 /// A clone never fails.
@@ -367,4 +372,6 @@ pub fn number_clones_never_fail()
     ensures rcodes { (a : _) → ⟦<Rcode as Clone>⟧.is_infallible a }
     ensures opt_rcodes { (a : _) → ⟦<OptRcode as Clone>⟧.is_infallible a }
     ensures options { (a : _) → ⟦<OptionCode as Clone>⟧.is_infallible a }
+    ensures type_errors { (a : _) → ⟦<TypeError as Clone>⟧.is_infallible a }
+    ensures class_errors { (a : _) → ⟦<ClassError as Clone>⟧.is_infallible a }
 {}

@@ -1,5 +1,5 @@
 -- The header of an OPT record: the fields in its class and its TTL. RFC 6891 sections 6.1.2 and 6.1.3.
-use Rattle.std.specs.Prelude.{ℕ, Bool, ◌+◌, ◌*◌, ◌/◌, ◌%◌, ◌==◌, if◌then◌else◌}
+use Rattle.std.specs.Prelude.{ℕ, Bool, false, ◌+◌, ◌*◌, ◌/◌, ◌%◌, ◌==◌, if◌then◌else◌}
 use Rattle.dns_opt.specs.declared.header.OptHeader.{OptHeader}
 
 -- the fields: the UDP payload size in octets, the upper eight bits of the rcode, the version, DO, and the 15 bits Z
@@ -30,6 +30,10 @@ class_of header = header.udp_payload_size
 
 abbrev pub ttl_of : OptHeader → ℕ
 ttl_of header = header.ttl
+
+-- each field is 0, and DO is clear
+abbrev pub no_fields : OptFields
+no_fields = record { udp_payload_size = 0; ext = 0; version = 0; dnssec_ok = false; z = 0 }
 
 -- the fields of a header
 abbrev pub fields : OptHeader → OptFields

@@ -3,6 +3,7 @@
 ghost use Rattle.std.specs.Prelude.{◌≡◌, ◌↔◌, IsTrue};
 ghost use Rattle.dns_opt.specs.Equality.{addresses_equal, subnets_equal, cookies_equal, errors_equal, known_data_equal};
 ghost use Rattle.dns_opt.specs.Laws.{OptionsAreOne, OptionsAreReadBack};
+ghost use Rattle.dns_opt.specs.OptHeader.{fields, no_fields};
 
 use crate::error::{BadOptData, LongOptData};
 use crate::header::OptHeader;
@@ -65,4 +66,9 @@ pub fn option_clones_never_fail()
     ensures options { (a : _) → ⟦<OptionIter<'static> as Clone>⟧.is_infallible a }
     ensures long { (a : _) → ⟦<LongOptData as Clone>⟧.is_infallible a }
     ensures bad { (a : _) → ⟦<BadOptData as Clone>⟧.is_infallible a }
+{}
+
+/// By default each field of an OPT record's header is 0 (RFC 6891 section 6.1.3).
+pub fn header_default()
+    ensures { (header : _) → ⟦<OptHeader as Default>⟧.is_default header → fields header ≡ no_fields }
 {}

@@ -5,10 +5,11 @@ ghost use Rattle.dns_opt.specs.OptionsOf.{are_options, options_in};
 
 use crate::options::{
     append_joined_option, append_numbers_option, append_option, append_zeros_option,
+    replace_options,
 };
 use dns_code::{Header, OptRcode, OptionCode};
 use dns_item::OptRecord;
-use dns_opt::{ComposeOptData, OptHeader, OptionIter};
+use dns_opt::{ComposeOptData, OptHeader};
 use dns_wire::{AppendError, Octets};
 use std::alloc::Global;
 
@@ -36,8 +37,7 @@ impl OptBuilder {
     ghost use Rattle.std.specs.List.{flat_map};
     ghost use Rattle.dns_code.specs.Header.{fields as header_fields};
     ghost use Rattle.dns_opt.specs.OptHeader.{fields as opt_fields};
-    ghost use Rattle.dns_opt.specs.OptionIter.{options_left};
-    ghost use Rattle.dns_opt_builder.specs.Gathered.{gathered, nothing_gathered, opt_size, option_octets, with_extended_rcode};
+    ghost use Rattle.dns_opt_builder.specs.Gathered.{gathered, nothing_gathered, opt_size, option_capacity, option_octets, with_extended_rcode};
     ghost use Rattle.dns_opt_builder.specs.Additions.{Adds};
     ghost use Rattle.dns_item.specs.OptRecord.{opt_item};
 
@@ -146,7 +146,8 @@ impl OptBuilder {
 
     /// Replaces the fields and the options by those of an OPT record. The copy of the header stays.
     ///
-    /// The only error is `OutOfMemory`, and then nothing changes. Without options it doesn't fail.
+    /// The only error is `OutOfMemory`, and then nothing changes. It never fails if the octets of
+    /// the options fit without an allocation, as no options do.
     pub fn clone_from<Octs: Octets>(&mut self, opt: &OptRecord<Octs>) -> Result<(), AppendError>
         ensures cloned { OnOk result (gathered self.new ≡ record (gathered self.old) {
           fields = (opt_item opt.now).fields;
@@ -154,29 +155,13 @@ impl OptBuilder {
         }) }
         ensures refused { OnErr result (gathered self.new ≡ gathered self.old) }
         ensures memory { IfErr result (λ error. error ≡ AppendError.OutOfMemory) }
-        ensures full { OnErr result (0 < length (opt_item opt.now).options) }
+        ensures full { OnErr result (option_capacity self.old
+            < length (encode_options (opt_item opt.now).options)) }
     {
         let record = opt.as_record();
-        let mut cloned = OptBuilder::new(*self.octets.allocator(), self.header);
-        cloned.opt_header = OptHeader::from_fields(record.class(), record.ttl().as_secs());
-        cloned.append_all(opt.opt().iter())?;
-        *self = cloned;
-        Ok(())
-    }
-
-    /// Adds the options of an iterator, up to the first that can't be added.
-    fn append_all(&mut self, options: OptionIter) -> Result<(), AppendError>
-        ensures added { OnOk result (gathered self.new ≡ record (gathered self.old) {
-          options = (gathered self.old).options ++ options_left options.entry;
-        }) }
-        ensures short { result ≡ Err AppendError.ShortBuf → 65535 < length (encode_options
-            ((gathered self.old).options ++ options_left options.entry)) }
-        ensures full { OnErr result (0 < length
-            ((gathered self.old).options ++ options_left options.entry)) }
-    {
-        for (code, octets) in options {
-            self.push_raw_option(code, octets)?;
-        }
+        let opt_header = OptHeader::from_fields(record.class(), record.ttl().as_secs());
+        replace_options(&mut self.octets, opt.opt().data().octets())?;
+        self.opt_header = opt_header;
         Ok(())
     }
 

@@ -1,5 +1,5 @@
 //! Appending to lists of options (RFC 6891 section 6.1.2). Nothing changes on error.
-ghost use Rattle.std.specs.Prelude.{◌≡◌, ◌+◌, ◌<◌, ◌≤◌, ◌++◌, length, vec_len, vec_capacity, OnOk, OnErr, Some, true, replicate};
+ghost use Rattle.std.specs.Prelude.{◌≡◌, ◌+◌, ◌<◌, ◌≤◌, ◌++◌, length, vec_len, vec_capacity, OnOk, OnErr, IfErr, Some, true, replicate, ℕ, slice_index};
 ghost use Rattle.std.specs.Int.{to_be_bytes, w16};
 ghost use Rattle.std.specs.List.{flat_map};
 ghost use Rattle.dns_wire.specs.Targets.{AppendReturns};
@@ -72,6 +72,22 @@ pub(crate) fn append_numbers_option(
     for number in numbers {
         append_reserved(list, &number.to_be_bytes());
     }
+    Ok(())
+}
+
+/// Replaces the list by octets.
+pub(crate) fn replace_options(list: &mut Vec<u8>, octets: &[u8]) -> Result<(), AppendError>
+    ensures ok { OnOk result (list.new.items ≡ octets.now) }
+    ensures err { OnErr result (list.new.items ≡ list.old.items) }
+    ensures memory { IfErr result (λ error. error ≡ AppendError.OutOfMemory) }
+    ensures full { OnErr result (vec_capacity list.old < length octets.now) }
+    ensures in_range { (k : ℕ) → slice_index octets.now k < 256 }
+{
+    if list.len() < octets.len() {
+        list.reserve(octets.len() - list.len())?;
+    }
+    list.clear();
+    append_reserved(list, octets);
     Ok(())
 }
 

@@ -1,3 +1,6 @@
 mod EntrySteps
+mod ItemSteps
+mod MessageSteps
 mod NameSteps
 mod SectionSteps
+mod TableSteps

@@ -1,11 +1,12 @@
 //! Writers of text, and values printed to them.
 //!
 //! What is printed here is the same under any options of a formatter, as a width or `#`. A function
-//! that prints to any writer fails only if the writer does.
+//! that prints to any writer fails only if the writer does, except `write_value`: the `Display` of
+//! its value may fail by itself.
 #![tactic(auto)]
 
 mod value;
 mod writer;
 
-pub use value::{write_number, write_value};
+pub use value::{write_ipv4, write_number, write_value};
 pub use writer::TextWriter;

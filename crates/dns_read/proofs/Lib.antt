@@ -2,6 +2,7 @@ mod HeaderLemmas
 pub mod theory
 mod MessageIterLemmas
 mod KeptErrorLemmas
+mod PositionLemmas
 mod RecordSearchLemmas
 mod NthNameLemmas
 mod ReadingItems

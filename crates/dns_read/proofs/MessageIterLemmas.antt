@@ -47,17 +47,17 @@ nothing_mapped : (b : List ℕ) (xs : List (Result RecordEntry Fault)) → map (
 nothing_mapped b [] e = refl
 nothing_mapped b (x ∷ xs) e = absurd (cc)
 
-no_records : (b : List ℕ) (n p : ℕ) → records_in b n p ≡ [] → n ≡ 0
+pub no_records : (b : List ℕ) (n p : ℕ) → records_in b n p ≡ [] → n ≡ 0
 unfolding records_in
 no_records b zero p e = refl
 no_records b (suc n) p e = absurd (has_item n p (records_from b (suc n) p) ((records_from_are_read b).reading (suc n) p) (nothing_mapped b (records_from b (suc n) p) e))
 
 -- skipping no entries ends where it began, and never fails
-stays : {Skips : ℕ → ℕ → Type 0} (n p q : ℕ) → Skipped Skips n p q → n ≡ 0 → p ≡ q
+pub stays : {Skips : ℕ → ℕ → Type 0} (n p q : ℕ) → Skipped Skips n p q → n ≡ 0 → p ≡ q
 stays n p q no_more e = refl
 stays n p q (more h x) e = absurd (cc)
 
-never_stops : {Skips : ℕ → ℕ → Type 0} {FaultOf : ℕ → Fault → Type 0} (n p : ℕ) (f : Fault) → StopsSkipping Skips FaultOf n p f → n ≡ 0 → ⊥
+pub never_stops : {Skips : ℕ → ℕ → Type 0} {FaultOf : ℕ → Fault → Type 0} (n p : ℕ) (f : Fault) → StopsSkipping Skips FaultOf n p f → n ≡ 0 → ⊥
 never_stops n p f (here h) e = absurd (cc)
 never_stops n p f (stops_after h x) e = absurd (cc)
 

@@ -3,7 +3,7 @@
 -- `b` is the octets of the message.
 use Rattle.std.specs.Bool.{⊤}
 use Rattle.std.specs.Iterator.{YieldsFirstBy}
-use Rattle.std.specs.Prelude.{◌≡◌, ℕ, ◌⊎◌, List, [], ◌∷◌, Option, Some, None, option_and_then, option_map, IfSome, Result, Ok, Err, IsOk}
+use Rattle.std.specs.Prelude.{◌≡◌, ℕ, ◌⊎◌, List, [], ◌∷◌, Option, Some, None, option_and_then, option_map, IfSome, MatchOption, Result, Ok, Err, IsOk}
 use Rattle.std.specs.List.{AllByRecursion}
 use Rattle.std.specs.Option.{option_map_or}
 use Rattle.dns_name.specs.Names.{Fault, fault_of}
@@ -106,18 +106,23 @@ GivesErrorAgain new None = ⊤
 abbrev pub position_in : MessageIter → Option ℕ
 position_in it = option_map position it.cursor
 
--- An iterator that yielded a record is where the record ends.
-abbrev pub IsAfterRecord : MessageIter → Option (Result (ParsedRecord × Section) ParseError) → Type 0
-IsAfterRecord new (Some (Ok x)) = position_in new ≡ Some (parsed_entry x.0).rdata_end
-IsAfterRecord new (Some (Err e)) = ⊤
-IsAfterRecord new None = ⊤
+-- Where the iterator is after a call of `next`: after the record that it yielded. An error leaves it at the record that can't be read; the same error again ends it, and then it is nowhere.
+abbrev pub MovesPastItem : MessageIter → MessageIter → Option (Result (ParsedRecord × Section) ParseError) → Type 0
+MovesPastItem old new (Some (Ok x)) = position_in new ≡ Some (parsed_entry x.0).rdata_end
+MovesPastItem old new (Some (Err e)) = MatchOption (kept_error old) (position_in new ≡ position_in old) (λ _. position_in new ≡ None)
+MovesPastItem old new None = position_in new ≡ None
+
+-- an iterator over all items of a message, at the start of the answer section, or at the end if that has no start
+pub record BeginsMessage (b : List ℕ) (it : MessageIter) : Type 0 where
+  pub items : items_left it ≡ message_items b
+  pub starts : position_in it ≡ start_of Answer b
 
 -- what a call of `next` returns, and the iterator after it
 pub record GivesNext (old : MessageIter) (result : Option (Result (ParsedRecord × Section) ParseError)) (new : MessageIter) : Type 0 where
   pub steps : YieldsFirstBy item_result items_left old result new
   pub again : IfSome (kept_error old) (λ e. result ≡ Some (Err e))
   pub kept : GivesErrorAgain new result
-  pub moves : IsAfterRecord new result
+  pub moves : MovesPastItem old new result
 
 -- If two consecutive calls yield errors, the second error equals the first, including its text.
 abbrev pub SecondErrorIsFirst : Type 0

@@ -18,10 +18,13 @@ pub struct MessageIter<'a> {
 
 impl<'a> MessageIter<'a> {
     ghost use Rattle.std.specs.Iterator.{YieldsFirstBy};
-    ghost use Rattle.dns_read.specs.MessageIter.{item_result, items_left, kept_error, position_in, GivesErrorAgain, IsAfterRecord};
+    ghost use Rattle.dns_read.specs.MessageIter.{item_result, items_left, kept_error, position_in, GivesErrorAgain, MovesPastItem};
 
     /// The offset after the record that was yielded last, in octets from the start of the message.
     /// Before the first record it is the start of the answer section. Returns `None` at the end.
+    ///
+    /// After an error it is where the record that can't be read begins, and `None` once the error
+    /// was yielded again.
     pub fn pos(&self) -> Option<usize>
         ensures { result ≡ position_in self.now }
     {
@@ -36,7 +39,7 @@ impl<'a> MessageIter<'a> {
         ensures steps { YieldsFirstBy item_result items_left self.old result self.new }
         ensures again { IfSome (kept_error self.old) (λ e. result ≡ Some (Err e)) }
         ensures kept { GivesErrorAgain self.new result }
-        ensures moves { IsAfterRecord self.new result }
+        ensures moves { MovesPastItem self.old self.new result }
     {
         while let Some(mut cursor) = self.cursor {
             match cursor.next() {
@@ -80,8 +83,10 @@ impl<'a> Iterator for MessageIter<'a> {
 
 impl<Octs: Octets> Message<Octs> {
     ghost use Rattle.dns_read.specs.Message.{message_octets};
-    ghost use Rattle.dns_read.specs.MessageIter.{items_left, message_items};
+    ghost use Rattle.dns_read.specs.MessageIter.{items_left, message_items, position_in};
+    ghost use Rattle.dns_read.specs.SectionStarts.{start_of};
     ghost use Rattle.dns_section.specs.Sections.{answer_count, authority_count, additional_count};
+    ghost use Rattle.dns_section.specs.declared.section.Section.TheVariants.{Answer};
 
     /// Iterates over the records of the answer, authority and additional sections.
     ///
@@ -91,6 +96,7 @@ impl<Octs: Octets> Message<Octs> {
         ensures count { length (items_left result) ≤ answer_count (message_octets self.now)
             + authority_count (message_octets self.now)
             + additional_count (message_octets self.now) + 1 }
+        ensures starts { position_in result ≡ start_of Answer (message_octets self.now) }
     {
         MessageIter {
             cursor: self.answer().ok(),
@@ -101,14 +107,13 @@ impl<Octs: Octets> Message<Octs> {
 /// The same as the method `iter`.
 impl<'a, Octs: Octets> IntoIterator for &'a Message<Octs> {
     ghost use Rattle.dns_read.specs.Message.{message_octets};
-    ghost use Rattle.dns_read.specs.MessageIter.{items_left, message_items};
+    ghost use Rattle.dns_read.specs.MessageIter.{BeginsMessage};
 
     type Item = Result<(ParsedRecord<'a>, Section), ParseError>;
 
     type IntoIter = MessageIter<'a>;
 
-    ghost into_iter_gives = { λ message it.
-        items_left it ≡ message_items (message_octets message.now) };
+    ghost into_iter_gives = { λ message it. BeginsMessage (message_octets message.now) it };
 
     fn into_iter(self) -> MessageIter<'a> {
         self.iter()

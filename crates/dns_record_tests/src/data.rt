@@ -4,7 +4,7 @@ use dns_code::{Class, Rtype};
 use dns_data::{A, Cname, LongRecordData, Ns, ParseRecordData, Soa, UnknownRecordData};
 use dns_item::record::RecordParseError;
 use dns_item::{Record, Ttl};
-use dns_opt::LongOptData;
+use dns_opt::{BadOptData, LongOptData};
 use dns_wire::{Name, ParseError, ParsedName, Parser, ShortBuf};
 use std::process::Abort;
 
@@ -92,5 +92,12 @@ fn prints_errors_of_buffers_and_options(rt: HostRuntime) {
         "an option",
         &LongOptData,
         "option data too long",
+    );
+    assert_prints(
+        &rt,
+        alloc,
+        "a kind of option",
+        &BadOptData,
+        "malformed option data",
     );
 }

@@ -18,6 +18,7 @@
 #![tactic(auto)]
 
 mod form;
+pub mod laws;
 mod octets;
 mod row;
 mod shown;

@@ -8,6 +8,7 @@
 //! are in its table). The contract is `Runs` of `specs/Script.antt`; `step` makes one call.
 #![tactic(auto)]
 
+pub mod laws;
 mod opt_plan;
 mod script;
 mod stage;

@@ -83,6 +83,8 @@ impl<'a> ParseRecordData<'a> for KnownData<ParsedName<'a>> {
 impl<N: fmt::Display> fmt::Display for KnownData<N> {
     ghost output = { known_text N.output };
 
+    ghost styled_output = { λ value _. known_text N.output value };
+
     fn fmt<W: fmt::Write>(&self, f: &mut fmt::Formatter<W>) -> fmt::Result {
         match self {
             KnownData::A(data) => data.fmt(f),

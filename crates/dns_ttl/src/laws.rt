@@ -6,16 +6,20 @@ ghost use Rattle.std.specs.Ordering.{nat_cmp};
 use crate::ttl::Ttl;
 use std::hash::Hash;
 
-/// The seconds of `SECOND`, `MINUTE`, `HOUR` and `DAY`.
-pub fn ttl_units() -> [u32; 4]
-    ensures { result ≡ 1 ∷ 60 ∷ 3600 ∷ 86400 ∷ [] }
+/// The seconds of `SECOND`, `MINUTE`, `HOUR` and `DAY`, then of `ZERO`, `MAX` and `CAP` (RFC 2181
+/// section 8, RFC 8767 section 4).
+pub fn ttl_units() -> ([u32; 4], [u32; 3])
+    ensures units { result.0 ≡ 1 ∷ 60 ∷ 3600 ∷ 86400 ∷ [] }
+    ensures bounds { result.1 ≡ 0 ∷ 4294967295 ∷ 604800 ∷ [] }
 {
-    [
+    let units = [
         Ttl::SECOND.as_secs(),
         Ttl::MINUTE.as_secs(),
         Ttl::HOUR.as_secs(),
         Ttl::DAY.as_secs(),
-    ]
+    ];
+    let bounds = [Ttl::ZERO.as_secs(), Ttl::MAX.as_secs(), Ttl::CAP.as_secs()];
+    (units, bounds)
 }
 
 /// Two TTLs are equal if and only if their seconds are.

@@ -1,4 +1,5 @@
 mod Base32Lemmas
+mod Base64Words
 mod HexTexts
 mod HexWords
 mod StringSteps

@@ -10,6 +10,14 @@ ReadsOctets Represents result =
     MatchResult result (λ octets. Represents octets.items)
     (λ error. (error ≡ OutOfMemory) ⊎ ((error ≡ BadWord) × ((octets : List ℕ) → ¬ Represents octets)))
 
+-- The word represents octets.
+abbrev pub RepresentsSome : (List ℕ → Type 0) → Type 0
+RepresentsSome Represents = (octets : List ℕ) × Represents octets
+
+-- The word represents n octets.
+abbrev pub RepresentsCount : (List ℕ → Type 0) → ℕ → Type 0
+RepresentsCount Represents n = (octets : List ℕ) × Represents octets × (length octets ≡ n)
+
 -- The word represents octets, at least one: they take memory.
 abbrev pub TakesMemory : (List ℕ → Type 0) → Type 0
 TakesMemory Represents = (octets : List ℕ) × Represents octets × (0 < length octets)

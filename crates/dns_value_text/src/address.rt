@@ -5,7 +5,7 @@ ghost use Rattle.std.specs.List.{flat_map};
 ghost use Rattle.dns_print.specs.Printing.{PrintsOnOk};
 ghost use Rattle.dns_value_text.specs.Addresses.{eui_text, hyphen_pair, locator_text, low_pair};
 
-use crate::hexadecimal::write_pair;
+use crate::hexadecimal::write_hex_octet;
 use dns_print::TextWriter;
 use std::fmt;
 
@@ -26,7 +26,7 @@ fn write_hyphen_pair<W: TextWriter>(f: &mut W, octet: u8) -> fmt::Result
     ensures err { OnErr result W.MayFail }
 {
     f.write_text("-")?;
-    write_pair(f, false, octet)
+    write_hex_octet(f, false, octet)
 }
 
 /// Prints each octet after a hyphen.
@@ -41,16 +41,16 @@ fn write_hyphen_pairs<W: TextWriter>(f: &mut W, octets: &[u8]) -> fmt::Result
     Ok(())
 }
 
-/// Prints octets as pairs of digits, separated by hyphens.
+/// Prints octets as pairs of lowercase hexadecimal digits, separated by hyphens (RFC 7043).
 #[tactic(auto, using(dns_print::proofs::theory::Prints::prints, std::proofs::lemmas::Grind::common_steps))]
-fn write_eui<W: TextWriter>(f: &mut W, octets: &[u8]) -> fmt::Result
+pub fn write_eui<W: TextWriter>(f: &mut W, octets: &[u8]) -> fmt::Result
     ensures text { PrintsOnOk W.takes f.old result (eui_text octets.now) f.new }
     ensures err { OnErr result W.MayFail }
 {
     let [first, after @ ..] = octets else {
         return Ok(());
     };
-    write_pair(f, false, *first)?;
+    write_hex_octet(f, false, *first)?;
     write_hyphen_pairs(f, after)
 }
 
@@ -70,13 +70,14 @@ fn write_group<W: TextWriter>(f: &mut W, high: u8, low: u8) -> fmt::Result
     ensures text { PrintsOnOk W.takes f.old result (low_pair high ++ low_pair low) f.new }
     ensures err { OnErr result W.MayFail }
 {
-    write_pair(f, false, high)?;
-    write_pair(f, false, low)
+    write_hex_octet(f, false, high)?;
+    write_hex_octet(f, false, low)
 }
 
-/// Prints groups of two octets, separated by colons.
+/// Prints octets as hexadecimal numbers of four digits, separated by colons (RFC 6742 section 2.1.2).
+/// Prints nothing of a last octet alone.
 #[tactic(auto, using(dns_print::proofs::theory::Prints::prints, std::proofs::lemmas::Grind::common_steps))]
-fn write_groups<W: TextWriter>(f: &mut W, octets: &[u8]) -> fmt::Result
+pub fn write_locator<W: TextWriter>(f: &mut W, octets: &[u8]) -> fmt::Result
     ensures text { PrintsOnOk W.takes f.old result (locator_text octets.now) f.new }
     ensures err { OnErr result W.MayFail }
 {
@@ -85,7 +86,7 @@ fn write_groups<W: TextWriter>(f: &mut W, octets: &[u8]) -> fmt::Result
         [high, low, after @ ..] => {
             write_group(f, *high, *low)?;
             f.write_text(":")?;
-            write_groups(f, after)
+            write_locator(f, after)
         }
         _ => Ok(()),
     }
@@ -97,6 +98,6 @@ impl fmt::Display for Locator64 {
     ghost styled_output = { λ locator _. Some (locator_text locator.0) };
 
     fn fmt<W: fmt::Write>(&self, f: &mut fmt::Formatter<W>) -> fmt::Result {
-        write_groups(f, &self.0)
+        write_locator(f, &self.0)
     }
 }

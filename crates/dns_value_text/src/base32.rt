@@ -56,9 +56,9 @@ fn write_last<W: TextWriter>(f: &mut W, octets: &[u8]) -> fmt::Result
     }
 }
 
-/// Prints octets in base32.
+/// Prints octets in base32: digits 0 to 9 and A to V, without padding (RFC 4648 section 7).
 #[tactic(auto, using(dns_print::proofs::theory::Prints::prints, std::proofs::lemmas::Grind::common_steps))]
-fn write_octets<W: TextWriter>(f: &mut W, octets: &[u8]) -> fmt::Result
+pub fn write_base32<W: TextWriter>(f: &mut W, octets: &[u8]) -> fmt::Result
     ensures text { PrintsOnOk W.takes f.old result (base32_text octets.now) f.new }
     ensures err { OnErr result W.MayFail }
 {
@@ -67,7 +67,7 @@ fn write_octets<W: TextWriter>(f: &mut W, octets: &[u8]) -> fmt::Result
     }
     let (group, after) = octets.split_at(5);
     write_digits(f, 8, number_of(group))?;
-    write_octets(f, after)
+    write_base32(f, after)
 }
 
 impl fmt::Display for Base32<'_> {
@@ -76,6 +76,6 @@ impl fmt::Display for Base32<'_> {
     ghost styled_output = { λ base32 _. Some (base32_text base32.0.now) };
 
     fn fmt<W: fmt::Write>(&self, f: &mut fmt::Formatter<W>) -> fmt::Result {
-        write_octets(f, self.0)
+        write_base32(f, self.0)
     }
 }

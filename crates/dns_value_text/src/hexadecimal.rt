@@ -35,9 +35,9 @@ fn write_digit<W: TextWriter>(f: &mut W, upper: bool, number: u8) -> fmt::Result
     f.write_char(digit(upper, number))
 }
 
-/// Prints an octet as two hexadecimal digits.
+/// Prints an octet as two hexadecimal digits, in uppercase or lowercase.
 #[tactic(auto, using(dns_print::proofs::theory::Prints::prints, std::proofs::lemmas::Grind::common_steps))]
-pub(crate) fn write_pair<W: TextWriter>(f: &mut W, upper: bool, octet: u8) -> fmt::Result
+pub fn write_hex_octet<W: TextWriter>(f: &mut W, upper: bool, octet: u8) -> fmt::Result
     ensures text { PrintsOnOk W.takes f.old result
         (digit_glyph upper (octet / 16) ∷ digit_glyph upper (octet % 16) ∷ []) f.new }
     ensures err { OnErr result W.MayFail }
@@ -46,14 +46,14 @@ pub(crate) fn write_pair<W: TextWriter>(f: &mut W, upper: bool, octet: u8) -> fm
     write_digit(f, upper, octet % 16)
 }
 
-/// Prints octets as two uppercase hexadecimal digits each.
+/// Prints octets as two uppercase hexadecimal digits each (RFC 4648 section 8).
 #[tactic(auto, using(dns_print::proofs::theory::Prints::prints, std::proofs::lemmas::Grind::common_steps))]
-fn write_pairs<W: TextWriter>(f: &mut W, octets: &[u8]) -> fmt::Result
+pub fn write_hex<W: TextWriter>(f: &mut W, octets: &[u8]) -> fmt::Result
     ensures text { PrintsOnOk W.takes f.old result (hex_text octets.now) f.new }
     ensures err { OnErr result W.MayFail }
 {
     for octet in octets {
-        write_pair(f, true, *octet)?;
+        write_hex_octet(f, true, *octet)?;
     }
     Ok(())
 }
@@ -64,6 +64,6 @@ impl fmt::Display for Hex<'_> {
     ghost styled_output = { λ hex _. Some (hex_text hex.0.now) };
 
     fn fmt<W: fmt::Write>(&self, f: &mut fmt::Formatter<W>) -> fmt::Result {
-        write_pairs(f, self.0)
+        write_hex(f, self.0)
     }
 }

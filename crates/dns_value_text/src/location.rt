@@ -214,8 +214,9 @@ fn write_position<W: TextWriter>(f: &mut W, latitude: u32, longitude: u32) -> fm
 impl Location {
     ghost use Rattle.dns_value_text.specs.LocationItems.{location_item, location_text};
 
-    /// Prints latitude, longitude, altitude, size, and horizontal and vertical precision.
-    fn write<W: TextWriter>(&self, f: &mut W) -> fmt::Result
+    /// Prints latitude, longitude, altitude, size, and horizontal and vertical precision (RFC 1876
+    /// section 3).
+    pub fn write<W: TextWriter>(&self, f: &mut W) -> fmt::Result
         ensures text { PrintsOnOk W.takes f.old result (location_text (location_item self.now))
             f.new }
         ensures err { OnErr result W.MayFail }

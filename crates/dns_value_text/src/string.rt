@@ -53,9 +53,9 @@ fn write_octets<W: TextWriter>(f: &mut W, octets: &[u8]) -> fmt::Result
     Ok(())
 }
 
-/// Prints octets in quotes.
+/// Prints octets in quotes, with escapes (RFC 1035 section 5.1).
 #[tactic(auto, using(dns_print::proofs::theory::Prints::prints, std::proofs::lemmas::Grind::common_steps))]
-fn write_quoted<W: TextWriter>(f: &mut W, octets: &[u8]) -> fmt::Result
+pub fn write_quoted<W: TextWriter>(f: &mut W, octets: &[u8]) -> fmt::Result
     ensures text { PrintsOnOk W.takes f.old result (quoted octets.now) f.new }
     ensures err { OnErr result W.MayFail }
 {
@@ -130,6 +130,18 @@ fn write_ascii<W: TextWriter>(f: &mut W, octets: &[u8]) -> fmt::Result
     Ok(())
 }
 
+impl Tag<'_> {
+    ghost use Rattle.dns_value_text.specs.Tags.{tag_octets};
+
+    /// Prints the letters and digits (RFC 8659 section 4.1).
+    pub fn write<W: TextWriter>(&self, f: &mut W) -> fmt::Result
+        ensures text { PrintsOnOk W.takes f.old result (tag_octets self.now) f.new }
+        ensures err { OnErr result W.MayFail }
+    {
+        write_ascii(f, self.octets)
+    }
+}
+
 impl fmt::Display for Tag<'_> {
     ghost use Rattle.dns_value_text.specs.Tags.{tag_octets};
 
@@ -138,6 +150,6 @@ impl fmt::Display for Tag<'_> {
     ghost styled_output = { λ tag _. Some (tag_octets tag) };
 
     fn fmt<W: fmt::Write>(&self, f: &mut fmt::Formatter<W>) -> fmt::Result {
-        write_ascii(f, self.octets)
+        self.write(f)
     }
 }

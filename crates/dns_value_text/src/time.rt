@@ -118,16 +118,16 @@ fn write_clock<W: TextWriter>(f: &mut W, seconds: u32) -> fmt::Result
     write_two_digits(f, seconds % 60)
 }
 
-/// Prints a time in fourteen digits.
+/// Prints a time in fourteen digits (RFC 4034 section 3.2).
 #[tactic(auto, using(dns_print::proofs::theory::Prints::prints, std::proofs::lemmas::Grind::common_steps))]
-fn write_time<W: TextWriter>(f: &mut W, time: u32) -> fmt::Result
-    ensures text { PrintsOnOk W.takes f.old result (time_text time) f.new }
+pub fn write_timestamp<W: TextWriter>(f: &mut W, time: Timestamp) -> fmt::Result
+    ensures text { PrintsOnOk W.takes f.old result (time_text time.0) f.new }
     ensures err { OnErr result W.MayFail }
 {
-    let in_year = year_of(137, FIRST_YEAR, time / 86400);
+    let in_year = year_of(137, FIRST_YEAR, time.0 / 86400);
     let in_month = month_of(&month_sizes(in_year.period), 1, in_year.day);
     write_date(f, in_year.period, in_month.period, in_month.day + 1)?;
-    write_clock(f, time)
+    write_clock(f, time.0)
 }
 
 impl fmt::Display for Timestamp {
@@ -136,6 +136,6 @@ impl fmt::Display for Timestamp {
     ghost styled_output = { λ time _. Some (time_text time.0) };
 
     fn fmt<W: fmt::Write>(&self, f: &mut fmt::Formatter<W>) -> fmt::Result {
-        write_time(f, self.0)
+        write_timestamp(f, *self)
     }
 }

@@ -84,11 +84,11 @@ pub trait CloneTarget: Composer + Sized {
 /// message over UDP (RFC 1035 section 4.2.1).
 const FIRST_CAPACITY: usize = 512;
 
-/// Reserves the first capacity of a vector without capacity, if that allocation succeeds.
+/// Reserves the first 512 octets of a vector without capacity, if that allocation succeeds.
 fn reserve_first(octets: &mut Vec<u8>)
     ensures items { octets.new.items ≡ octets.old.items }
     ensures capacity { vec_capacity octets.old ≤ vec_capacity octets.new }
-    ensures bounded { vec_capacity octets.new ≤ max (vec_capacity octets.old) FIRST_CAPACITY }
+    ensures bounded { vec_capacity octets.new ≤ max (vec_capacity octets.old) 512 }
 {
     if octets.capacity() == 0 {
         // If this allocation fails, a smaller one may still succeed.

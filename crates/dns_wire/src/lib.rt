@@ -19,6 +19,7 @@ pub use dns_name::{
 };
 pub use dns_octets::{
     AppendError, BufferFrom, FormError, Octets, OctetsFrom, OctetsMut, ParseError, ShortBuf,
+    laws as error_laws, value_laws,
 };
 pub use stream_target::StreamTarget;
 pub use to_name::ToNameExt;

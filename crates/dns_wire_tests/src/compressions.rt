@@ -1,10 +1,12 @@
 //! The compressors beside every possible compression of small lists of names (RFC 1035 section
 //! 4.1.4).
 //!
-//! A compression is one free choice for each name: all its labels, or its first k >= 0 labels and a
+//! What is written is compared with the plain encoding of `dns_plain`, octet for octet, and its
+//! length with that of each compression. A compression is one free choice for each name: all its labels, or its first k >= 0 labels and a
 //! pointer to a suffix of an earlier name.
-use crate::asserts::assert_same;
+use crate::asserts::{assert_octets, assert_same};
 use crate::steps::append_name;
+use dns_plain::{PlainTarget, Rule};
 use dns_target::{FingerprintCompressor, HashCompressor, StaticCompressor, TreeCompressor};
 use dns_wire::Composer;
 use std::alloc::Global;
@@ -81,12 +83,22 @@ fn compression_lens(rt: &impl Abort, alloc: Global, names: &[&[u8]]) -> Vec<usiz
     lens
 }
 
-/// Fails unless the names take `len` octets on an empty target.
+/// The plain encoding of names by a rule.
+fn plain_octets(rt: &impl Abort, alloc: Global, rule: Rule, names: &[&[u8]]) -> Vec<u8> {
+    let mut plain = PlainTarget::new(alloc);
+    for name in names {
+        plain.push_name(alloc, rule, name).expect(rt, "memory");
+    }
+    plain.octets
+}
+
+/// Fails unless the names take `len` octets on an empty target, and are these octets.
 fn assert_written<T: Composer>(
     rt: &impl Abort,
     row: &str,
     mut target: T,
     names: &[&[u8]],
+    octets: &[u8],
     len: Option<usize>,
 ) {
     for name in names {
@@ -95,6 +107,7 @@ fn assert_written<T: Composer>(
     }
     let written = (names, Some(target.as_slice().len()));
     assert_same(rt, row, written, (names, len));
+    assert_octets(rt, row, target.as_slice(), octets);
 }
 
 /// Checks that each compressor writes the names in as many octets as their shortest compression
@@ -105,16 +118,20 @@ fn assert_shortest(rt: &impl Abort, alloc: Global, names: &[&[u8]]) -> usize {
     lens.len()
 }
 
-/// Fails unless the names take `len` octets on each compressor.
+/// Fails unless the names take `len` octets on each compressor, and are the plain encoding.
 fn assert_len(rt: &impl Abort, alloc: Global, names: &[&[u8]], len: Option<usize>) {
+    let octets = plain_octets(rt, alloc, Rule::Static, names);
     let offsets = StaticCompressor::new(Vec::new(alloc));
-    assert_written(rt, "a static compressor", offsets, names, len);
-    let tree = TreeCompressor::new(alloc, Vec::new(alloc));
-    assert_written(rt, "a tree compressor", tree, names, len);
+    assert_written(rt, "a static compressor", offsets, names, &octets, len);
+    let octets = plain_octets(rt, alloc, Rule::Hash, names);
     let hash = HashCompressor::new(alloc, Vec::new(alloc));
-    assert_written(rt, "a hash compressor", hash, names, len);
+    assert_written(rt, "a hash compressor", hash, names, &octets, len);
+    let octets = plain_octets(rt, alloc, Rule::Tree, names);
+    let tree = TreeCompressor::new(alloc, Vec::new(alloc));
+    assert_written(rt, "a tree compressor", tree, names, &octets, len);
     let fingerprints = FingerprintCompressor::new(alloc, Vec::new(alloc));
-    assert_written(rt, "a fingerprint compressor", fingerprints, names, len);
+    let row = "a fingerprint compressor";
+    assert_written(rt, row, fingerprints, names, &octets, len);
 }
 
 /// Checks the same for each list of these names and one more. Returns the number of their

@@ -1,26 +1,13 @@
 -- A record with its TTL capped, by what reading its RDATA returns.
-use Rattle.std.proofs.Common.{◌≡◌, ◌∙◌, ap, sym, refl, ℕ, ◌≤◌, List, inl, inr, length, arith, Bool, true, false}
-use Rattle.std.proofs.lemmas.Bool.Decides.{leb_tells}
+use Rattle.std.proofs.Common.{◌≡◌, ◌∙◌, ap, refl, ℕ, List, Bool, true, false}
 use Rattle.std.specs.Prelude.{◌==◌, if◌then◌else◌, min, not, Some, None, Result, Ok, Err}
 use Rattle.dns_message.specs.declared.wire.ParseError.{ParseError}
 use Rattle.dns_message.specs.Names.{Fault, labels}
 use Rattle.dns_message.specs.declared.name.ParsedName.{ParsedName}
-use Rattle.dns_message.specs.Data.{Part, Layout}
-use Rattle.dns_message.proofs.CallerLemmas.{data_is_parsed, laid_out-returned}
-use Rattle.dns_message.specs.Records.{HasSpan, missing, RecordEntry, RecordItem, EncodedRecord, HasFields, class_of, data_of, owner_of, record_item, ttl_of, ReturnsLaidOut, item_of, laid_out, typed_result, with_parts}
+use Rattle.dns_message.specs.Data.{Part}
+use Rattle.dns_message.specs.Records.{RecordEntry, RecordItem, HasFields, class_of, data_of, owner_of, record_item, ttl_of, item_of, typed_result, with_parts}
 use Rattle.dns_message.specs.declared.record.Record.{Record}
 use Rattle.example_rewrite.specs.Rewriting.{cut_answer, with_ttl_cut}
-
--- reading the RDATA of a record returns what its layout says, also if the RDATA is incomplete
-pub laid_out-read : {D : Type 0} (rtype_of : D → ℕ) (parts_of : D → List Part) (x : EncodedRecord) (layout : Layout) (r : Result (Record ParsedName D) ParseError) → x.entry.rdata_start ≤ x.entry.rdata_end
-    → ReturnsLaidOut rtype_of parts_of x.octets x.entry layout r → typed_result rtype_of parts_of r ≡ laid_out x layout
-laid_out-read rtype_of parts_of x layout r start h =
-    elim (leb_tells x.entry.rdata_end (length x.octets)) [
-      | inl there ↦ laid_out-returned rtype_of parts_of x (record { start = start; end = there.1 }) layout r h
-      | inr short ↦
-          ap (typed_result rtype_of parts_of) (h.missing (λ within. omega (arith, within, short.1)))
-          ∙ sym (ap (with_parts x.entry) (data_is_parsed.only x layout _ (missing (λ (span : HasSpan x). omega (arith, span.end, short.1)))))
-    ]
 
 abbrev item_in : RecordItem → Result RecordItem Fault → RecordItem
 item_in other (Ok item) = item

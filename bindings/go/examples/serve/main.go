@@ -1,5 +1,6 @@
 // Answers queries as a name server does over UDP: reads them from standard input, in hexadecimal, one a line, and prints the
-// responses. A question for AAAA gets 20 addresses. If these don't fit, the response has none of them, and TC is set.
+// responses. A question for AAAA gets 20 addresses. If these don't fit, the response has none of them, and TC is set. A line that
+// isn't in hexadecimal is reported on standard error, and then the exit status is 1.
 package main
 
 import (
@@ -8,6 +9,7 @@ import (
 	"errors"
 	"fmt"
 	"os"
+	"strings"
 
 	"example.org/dnsm"
 )
@@ -113,17 +115,21 @@ func answer(query []byte) ([]byte, error) {
 }
 
 func main() {
-	lines := bufio.NewScanner(os.Stdin)
-	lines.Buffer(nil, 1<<18)
-	for lines.Scan() {
-		octets, err := hex.DecodeString(lines.Text())
-		if err == nil {
-			octets, err = answer(octets)
+	status := 0
+	input := bufio.NewReader(os.Stdin)
+	for number := 1; ; number++ {
+		line, err := input.ReadString('\n')
+		if line == "" && err != nil {
+			os.Exit(status)
 		}
+		query, err := hex.DecodeString(strings.TrimSuffix(line, "\n"))
 		if err != nil {
+			fmt.Fprintf(os.Stderr, "line %d: not two hexadecimal digits for each octet\n", number)
+			status = 1
+		} else if response, err := answer(query); err != nil {
 			fmt.Println("ignored")
-			continue
+		} else {
+			fmt.Printf("%x\n", response)
 		}
-		fmt.Printf("%x\n", octets)
 	}
 }

@@ -1,7 +1,9 @@
 //! Answers queries as a name server does over UDP: reads them from standard input, in hexadecimal, one a line, and prints the
-//! responses. A question for AAAA gets 20 addresses. If these don't fit, the response has none of them, and TC is set.
+//! responses. A question for AAAA gets 20 addresses. If these don't fit, the response has none of them, and TC is set. A line that
+//! isn't in hexadecimal is reported on standard error, and then the exit status is 1.
 use dnsm::{Builder, Class, Error, Header, Item, Message, NewItem, NewOpt, Rtype, Section, AA, QR, RD, TC};
 use std::io::BufRead;
+use std::process::ExitCode;
 
 const ADDRESSES: u8 = 20;
 const TTL: u32 = 300;
@@ -60,10 +62,22 @@ fn answer(query: &[u8]) -> Option<String> {
     Some(response.iter().map(|octet| format!("{octet:02x}")).collect())
 }
 
-fn main() {
-    for line in std::io::stdin().lock().lines() {
-        let line = line.unwrap();
-        let query: Vec<u8> = (0..line.len() / 2).map(|i| u8::from_str_radix(&line[2 * i..2 * i + 2], 16).unwrap()).collect();
-        println!("{}", answer(&query).unwrap_or_else(|| "ignored".to_owned()));
+/// The octets that a line has two hexadecimal digits for each of.
+fn octets_of(line: &[u8]) -> Option<Vec<u8>> {
+    let digit = |octet: u8| char::from(octet).to_digit(16).map(|digit| digit as u8);
+    line.chunks(2).map(|pair| Some(digit(pair[0])? << 4 | digit(*pair.get(1)?)?)).collect()
+}
+
+fn main() -> std::io::Result<ExitCode> {
+    let mut failed = false;
+    for (line, number) in std::io::stdin().lock().split(b'\n').zip(1..) {
+        match octets_of(&line?) {
+            Some(query) => println!("{}", answer(&query).unwrap_or_else(|| "ignored".to_owned())),
+            None => {
+                eprintln!("line {number}: not two hexadecimal digits for each octet");
+                failed = true;
+            }
+        }
     }
+    Ok(ExitCode::from(u8::from(failed)))
 }

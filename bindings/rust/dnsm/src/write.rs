@@ -8,7 +8,7 @@ use dnsm_sys::*;
 /// # Errors
 ///
 /// `BadText`, `LongData`, `BadData` or `TooMany` for an item that can't be written, and `NoMemory`. An item whose name is octets
-/// has the errors of reading a name.
+/// has the errors of reading a name, and `BadText` if octets follow it, or it has a compression pointer.
 pub fn build(id: u16, flags: u16, items: &[NewItem<'_>]) -> Result<Vec<u8>, Error> {
     let names = items.iter().map(|item| item.name.text()).collect::<Result<Vec<_>, _>>()?;
     let passed: Vec<dnsm_new_item> = items.iter().zip(&names).map(|(item, name)| pass(item, name)).collect();

@@ -1,5 +1,6 @@
 -- Reading the RDATA of a record returns what the RDATA type's layout says.
-use Rattle.std.proofs.Common.{◌≡◌, ◌∙◌, ap, sym, refl, ℕ, List}
+use Rattle.std.proofs.Common.{◌≡◌, ◌∙◌, ap, sym, refl, ℕ, ◌≤◌, List, inl, inr, length, arith}
+use Rattle.std.proofs.lemmas.Bool.Decides.{leb_tells}
 use Rattle.std.specs.Prelude.{Option, None, Some, option_map, Result, Ok, Err}
 use Rattle.std.specs.Result.{result_transpose}
 use Rattle.dns_name.specs.Names.{Fault, fault_of}
@@ -8,7 +9,7 @@ use Rattle.dns_octets.specs.declared.error.ParseError.{ParseError}
 use Rattle.dns_wire.specs.Parts.{Part}
 use Rattle.dns_data.specs.Layout.{Layout}
 use Rattle.dns_item.specs.ParsedData.{HasSpan, one_parsed_data}
-use Rattle.dns_item.specs.ParsedData.IsParsedData.{whole, fault}
+use Rattle.dns_item.specs.ParsedData.IsParsedData.{whole, fault, missing}
 use Rattle.dns_item.specs.Items.{RecordItem}
 use Rattle.dns_item.specs.ParsedRecord.{EncodedRecord}
 use Rattle.dns_item.specs.Record.{data_of}
@@ -49,3 +50,14 @@ module _ {D : Type 0} (rtype_of : D → ℕ) (parts_of : D → List Part) (x : E
   pub parsed_as-returned : (taken : Option Layout) (r : Result (Option (Record ParsedName D)) ParseError) → ReturnsTaken rtype_of parts_of x.octets x.entry taken r
       → option_map (typed_result rtype_of parts_of) (result_transpose r) ≡ option_map (laid_out x) taken
   parsed_as-returned taken r h = given taken r (h.gives span.end)
+
+-- the same also if the RDATA is incomplete
+pub laid_out-read : {D : Type 0} (rtype_of : D → ℕ) (parts_of : D → List Part) (x : EncodedRecord) (layout : Layout) (r : Result (Record ParsedName D) ParseError)
+    → x.entry.rdata_start ≤ x.entry.rdata_end → ReturnsLaidOut rtype_of parts_of x.octets x.entry layout r → typed_result rtype_of parts_of r ≡ laid_out x layout
+laid_out-read rtype_of parts_of x layout r start h =
+    elim (leb_tells x.entry.rdata_end (length x.octets)) [
+      | inl there ↦ laid_out-returned rtype_of parts_of x (record { start = start; end = there.1 }) layout r h
+      | inr short ↦
+          ap (typed_result rtype_of parts_of) (h.missing (λ within. omega (arith, within, short.1)))
+          ∙ sym (ap (with_parts x.entry) (data_is_parsed.only x layout _ (missing (λ (span : HasSpan x). omega (arith, span.end, short.1)))))
+    ]

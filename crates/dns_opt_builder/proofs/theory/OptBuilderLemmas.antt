@@ -96,30 +96,6 @@ none_left builder left none =
     let g : List OptionItem → Gathered = λ xs. record (gathered builder) { options = xs } in
     ap (with_left builder) none ∙ ap g (append-nil (gathered builder).options)
 
--- if the first of the remaining options exceeds the limit, so do all of them
-pub too_many : (x : OptionItem) (old new : OptBuilder) (left after : List OptionItem) (r : Result (Unit {0}) AppendError) → Adds x old new r → r ≡ Err ShortBuf → left ≡ x ∷ after
-    → 65535 < length (encode_options (with_left old left).options)
-too_many x old new left after (Err ShortBuf) h e first =
-    let all = ap (λ (xs : List OptionItem). length (encode_options ((gathered old).options ++ xs))) first in
-    let parts = ap length (flat_map-append encode_option (gathered old).options (x ∷ after)) in
-    let sums = length-append (encode_options (gathered old).options) (encode_options (x ∷ after)) in
-    let more = length-append (encode_option x) (encode_options after) in
-    omega (arith, h.0, all, parts, sums, more)
-too_many x old new left after (Ok _) h e first = absurd (cc)
-too_many x old new left after (Err OutOfMemory) h e first = absurd (cc)
-
--- an option remains
-pub some_left : (x : OptionItem) (builder : OptBuilder) (left after all : List OptionItem) → left ≡ x ∷ after → (with_left builder left).options ≡ all → 0 < length all
-some_left x builder left after all first same =
-    let count = ap length (sym same ∙ ap (λ (xs : List OptionItem). (gathered builder).options ++ xs) first) in
-    let sum = length-append (gathered builder).options (x ∷ after) in
-    omega (arith, count, sum)
-
--- an error that isn't `ShortBuf` is `OutOfMemory`
-pub of_memory : (e : AppendError) → (e ≡ ShortBuf → ⊥) → e ≡ OutOfMemory
-of_memory ShortBuf never = absurd (never refl)
-of_memory OutOfMemory never = refl
-
 -- a class and a TTL of 0, and no octets, are what a new builder has collected
 pub nothing_yet : (header : Header) (class ttl : ℕ) (b : List ℕ) → class ≡ 0 → ttl ≡ 0 → b ≡ []
     → (let all : Gathered = record { header = header_fields header; fields = fields_in class ttl; options = options_in b } in all ≡ nothing_gathered (header_fields header))

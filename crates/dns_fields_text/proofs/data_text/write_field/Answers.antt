@@ -1,17 +1,26 @@
-use Rattle.std.proofs.Common.{ℕ, List, subst, rules}
-use Rattle.std.specs.Fmt.{DisplaysOnOk}
-use Rattle.std.specs.Prelude.{Option}
+use Rattle.std.proofs.Common.{rules, subst}
+use Rattle.std.specs.Prelude.{IfSome, OnErr, OnSome}
 use Rattle.dns_fields.specs.EncodedFields.{part_of}
 use Rattle.dns_fields.specs.Values.{FieldValue, part_value}
-use Rattle.dns_fields_text.proofs.Printing.{put_two_if}
+use Rattle.dns_print.specs.Printing.{PrintsOnOk}
+use Rattle.dns_fields_text.proofs.Printing.{fails_after, put_two_if}
 use Rattle.dns_fields_text.specs.FieldTexts.{space_before, value_text}
 use Rattle.dns_fields_text.proofs.data_text.write_field.Goals as goal
 
-pub returns : goal.returns
-returns g c =
-    let took = g.W.Write.write_str_gives in
+pub returns-clause-text : goal.returns-clause-text
+returns-clause-text g c =
+    let takes = g.W.TextWriter.takes in
     let field = c.args.field.now in
-    let text : Option (List ℕ) = value_text field.kind (part_value field.kind (part_of field.encoded)) in
-    let word : DisplaysOnOk took c.write_space.new.f c.write_text.result text c.write_text.new.f =
-    subst (λ (v : FieldValue). DisplaysOnOk took c.write_space.new.f c.write_text.result (value_text field.kind v) c.write_text.new.f) c.value.ensures c.write_text.ensures in
-    put_two_if took c.args.f.now c.write_space.new.f c.write_text.new.f c.write_text.result (space_before field.kind c.args.separator.now) text (λ plain. c.write_space.ensures plain (search rules)) word
+    let r = c.write_text.result in
+    let space = c.write_space.new.f in
+    let end = c.write_text.new.f in
+    let word : IfSome (value_text field.kind (part_value field.kind (part_of field.encoded))) (λ text. PrintsOnOk takes space r text end) =
+    subst (λ (v : FieldValue). IfSome (value_text field.kind v) (λ text. PrintsOnOk takes space r text end)) c.value.ensures c.write_text.ensures.text in
+    put_two_if takes c.args.f.now space end r (space_before field.kind c.args.separator.now) (value_text field.kind (part_value field.kind (part_of field.encoded))) (c.write_space.ensures.text (search rules)) word
+
+pub returns-clause-err : goal.returns-clause-err
+returns-clause-err g c =
+    let field = c.args.field.now in
+    let r = c.write_text.result in
+    fails_after g.W.TextWriter.MayFail r (space_before field.kind c.args.separator.now) (value_text field.kind (part_value field.kind (part_of field.encoded)))
+    (subst (λ (v : FieldValue). OnSome (value_text field.kind v) (OnErr r g.W.TextWriter.MayFail)) c.value.ensures c.write_text.ensures.err)

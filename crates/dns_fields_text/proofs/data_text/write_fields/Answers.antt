@@ -1,9 +1,14 @@
 use Rattle.std.proofs.Common.{◌≡◌, ◌∷◌, [], List, ap, codes, rules}
 use Rattle.dns_fields.specs.FieldParts.{NamedPart, fields_left, named_part}
-use Rattle.dns_fields_text.proofs.Printing.{word_printed_if}
+use Rattle.dns_fields_text.proofs.Printing.{none_printed_if, word_printed_if}
 use Rattle.dns_fields_text.specs.DataTexts.{data_fields}
 use Rattle.dns_fields_text.specs.FieldTexts.{field_text, fields_text}
 use Rattle.dns_fields_text.proofs.data_text.write_fields.Goals as goal
+
+pub loop-field-init : goal.loop-field-init
+loop-field-init g c =
+    let left : fields_left c.into_iter-field-iterator.result ≡ data_fields c.args.«data».now = search rules in
+    record { can = tt; finite = tt; utf8 = search rules; printing = none_printed_if _ _ _ _ (ap (λ (items : List NamedPart). fields_text [] items) left) }
 
 pub loop-field-preserved : goal.loop-field-preserved
 loop-field-preserved g c =
@@ -16,8 +21,7 @@ loop-field-preserved g c =
       can = tt;
       finite = tt;
       utf8 = search rules;
-      printing = λ plain.
-          let so_far = c.loop-field.invariant.printing plain in
-          word_printed_if g.W.Write.write_str_gives c.args.f.now c.loop-field.f c.write_field.new.f c.write_field.result (fields_text sep old) (field_text sep item) (fields_text (codes " ") rest)
-          (fields_text [] (data_fields c.args.«data».now)) so_far c.write_field.ensures (search rules) (ap (λ (items : List NamedPart). fields_text sep items) left);
+      printing =
+          word_printed_if g.W.TextWriter.takes c.args.f.now c.loop-field.f c.write_field.new.f c.write_field.result (fields_text sep old) (field_text sep item) (fields_text (codes " ") rest)
+          (fields_text [] (data_fields c.args.«data».now)) c.loop-field.invariant.printing c.write_field.ensures.text (search rules) (ap (λ (items : List NamedPart). fields_text sep items) left);
     }

@@ -1,5 +1,4 @@
 use Rattle.std.proofs.Common.{[]}
-use Rattle.std.specs.Fmt.{IsPlainFormatter}
 use Rattle.dns_fields.specs.FieldParts.{fields_left}
 use Rattle.dns_fields_text.proofs.Printing.{PrintingIfAll}
 use Rattle.dns_fields_text.specs.DataTexts.{data_fields}
@@ -13,5 +12,5 @@ invariant-loop-field g l = record {
   can : (goal.iterator-loop-field g).can_next l.field-iterator;
   finite : (goal.iterator-loop-field g).is_finite l.field-iterator;
   utf8 : shadow (Utf8 l.separator);
-  printing : IsPlainFormatter l.fn.f → PrintingIfAll g.W.Write.write_str_gives l.fn.f l.f (fields_text l.separator (fields_left l.field-iterator)) (fields_text [] (data_fields l.fn.«data»));
+  printing : PrintingIfAll g.W.TextWriter.takes l.fn.f l.f (fields_text l.separator (fields_left l.field-iterator)) (fields_text [] (data_fields l.fn.«data»));
 }

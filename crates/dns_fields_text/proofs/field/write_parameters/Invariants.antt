@@ -1,5 +1,4 @@
 use Rattle.std.proofs.Common.{codes, ◌++◌}
-use Rattle.std.specs.Fmt.{IsPlainFormatter}
 use Rattle.std.specs.List.{flat_map}
 use Rattle.dns_fields_text.proofs.Printing.{Printing}
 use Rattle.dns_fields_text.specs.FieldTexts.{parameters_text}
@@ -11,6 +10,5 @@ abbrev pub invariant-loop-parameter : goal.invariant-loop-parameter
 invariant-loop-parameter g l = record {
   can : (goal.iterator-loop-parameter g).can_next l.parameter-iterator;
   finite : (goal.iterator-loop-parameter g).is_finite l.parameter-iterator;
-  printing : IsPlainFormatter l.fn.f
-      → Printing g.W.Write.write_str_gives l.fn.f l.f (flat_map (λ item. codes " " ++ parameter_word item) (parameters_left l.parameter-iterator)) (parameters_text l.fn.octets);
+  printing : Printing g.W.TextWriter.takes l.fn.f l.f (flat_map (λ item. codes " " ++ parameter_word item) (parameters_left l.parameter-iterator)) (parameters_text l.fn.octets);
 }

@@ -1,5 +1,4 @@
 use Rattle.std.proofs.Common.{map}
-use Rattle.std.specs.Fmt.{IsPlainFormatter}
 use Rattle.dns_fields_text.proofs.Printing.{PrintingIfAll}
 use Rattle.dns_fields_text.specs.FieldTexts.{prefixes_text}
 use Rattle.dns_fields_text.specs.ItemsLeft.{prefixes_left}
@@ -14,5 +13,5 @@ invariant-loop-prefix g l = record {
   can : (goal.iterator-loop-prefix g).can_next l.prefix-iterator;
   finite : (goal.iterator-loop-prefix g).is_finite l.prefix-iterator;
   utf8 : shadow (Utf8 l.separator);
-  printing : IsPlainFormatter l.fn.f → PrintingIfAll g.W.Write.write_str_gives l.fn.f l.f (spaced_if_all l.separator (map prefix_word (prefixes_left l.prefix-iterator))) (prefixes_text l.fn.octets);
+  printing : PrintingIfAll g.W.TextWriter.takes l.fn.f l.f (spaced_if_all l.separator (map prefix_word (prefixes_left l.prefix-iterator))) (prefixes_text l.fn.octets);
 }

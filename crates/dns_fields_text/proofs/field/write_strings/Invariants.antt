@@ -1,5 +1,4 @@
 use Rattle.std.proofs.Common.{codes, map}
-use Rattle.std.specs.Fmt.{IsPlainFormatter}
 use Rattle.dns_fields_text.proofs.Printing.{Printing}
 use Rattle.dns_fields_text.specs.FieldTexts.{strings_text}
 use Rattle.dns_fields_text.specs.ItemsLeft.{strings_left}
@@ -14,5 +13,5 @@ invariant-loop-string g l = record {
   can : (goal.iterator-loop-string g).can_next l.string-iterator;
   finite : (goal.iterator-loop-string g).is_finite l.string-iterator;
   utf8 : shadow (Utf8 l.separator);
-  printing : IsPlainFormatter l.fn.f → Printing g.W.Write.write_str_gives l.fn.f l.f (separated l.separator (codes " ") (map quoted (strings_left l.string-iterator))) (strings_text l.fn.octets);
+  printing : Printing g.W.TextWriter.takes l.fn.f l.f (separated l.separator (codes " ") (map quoted (strings_left l.string-iterator))) (strings_text l.fn.octets);
 }

@@ -1,6 +1,5 @@
 use Rattle.std.proofs.Common.{length}
 use Rattle.std.specs.Prelude.{codes, map}
-use Rattle.std.specs.Fmt.{IsPlainFormatter}
 use Rattle.std.specs.Net.Text.{ipv4_text}
 use Rattle.dns_fields_text.specs.Groups.{groups}
 use Rattle.dns_fields_text.specs.Parameters.{ipv4_hints}
@@ -12,7 +11,7 @@ use denote.Text.{Utf8}
 abbrev pub invariant-addresses : goal.invariant-addresses
 invariant-addresses g l =
     shadow (Utf8 l.separator)
-    × (IsPlainFormatter l.fn.f → Prints g.W.Write.write_str_gives l.fn.f (ipv4_hints l.value) (codes ",") l.separator (map ipv4_text (groups 4 l.left)) l.f)
+    × Prints g.W.TextWriter.takes l.fn.f (ipv4_hints l.value) (codes ",") l.separator (map ipv4_text (groups 4 l.left)) l.f
 
 abbrev pub decreases-addresses : goal.decreases-addresses
 decreases-addresses g l = length l.left

@@ -1,6 +1,5 @@
 use Rattle.std.proofs.Common.{length}
 use Rattle.std.specs.Prelude.{codes, map}
-use Rattle.std.specs.Fmt.{IsPlainFormatter}
 use Rattle.std.specs.Net.Addr.{segments_of}
 use Rattle.std.specs.Net.Text.{ipv6_text}
 use Rattle.dns_fields_text.specs.Groups.{groups}
@@ -13,7 +12,7 @@ use denote.Text.{Utf8}
 abbrev pub invariant-addresses : goal.invariant-addresses
 invariant-addresses g l =
     shadow (Utf8 l.separator)
-    × (IsPlainFormatter l.fn.f → Prints g.W.Write.write_str_gives l.fn.f (ipv6_hints l.value) (codes ",") l.separator (map (λ address. ipv6_text (segments_of address)) (groups 16 l.left)) l.f)
+    × Prints g.W.TextWriter.takes l.fn.f (ipv6_hints l.value) (codes ",") l.separator (map (λ address. ipv6_text (segments_of address)) (groups 16 l.left)) l.f
 
 abbrev pub decreases-addresses : goal.decreases-addresses
 decreases-addresses g l = length l.left

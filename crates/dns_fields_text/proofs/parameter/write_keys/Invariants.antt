@@ -1,6 +1,5 @@
 use Rattle.std.proofs.Common.{length}
 use Rattle.std.specs.Prelude.{codes, map}
-use Rattle.std.specs.Fmt.{IsPlainFormatter}
 use Rattle.std.specs.Int.{from_be_bytes, w16}
 use Rattle.dns_fields_text.specs.Groups.{groups}
 use Rattle.dns_fields_text.specs.Parameters.{key_word, keys_text}
@@ -12,7 +11,7 @@ use denote.Text.{Utf8}
 abbrev pub invariant-keys : goal.invariant-keys
 invariant-keys g l =
     shadow (Utf8 l.separator)
-    × (IsPlainFormatter l.fn.f → Prints g.W.Write.write_str_gives l.fn.f (keys_text l.value) (codes ",") l.separator (map (λ key. key_word (from_be_bytes w16 key)) (groups 2 l.left)) l.f)
+    × Prints g.W.TextWriter.takes l.fn.f (keys_text l.value) (codes ",") l.separator (map (λ key. key_word (from_be_bytes w16 key)) (groups 2 l.left)) l.f
 
 abbrev pub decreases-keys : goal.decreases-keys
 decreases-keys g l = length l.left

@@ -7,6 +7,7 @@ use Rattle.dns_fields_text.specs.Parameters.{is_bare}
 use Rattle.dns_fields_text.specs.Separated.{separated}
 use Rattle.dns_fields_text.specs.Strings.{strings_of}
 use Rattle.dns_fields_text.proofs.ProtocolLemmas.{are_bare, protocols_bare}
+use Rattle.dns_fields_text.proofs.Printing.{none_printed}
 use Rattle.dns_fields_text.proofs.WordSteps.{first_printed, words_end}
 use Rattle.dns_fields_text.proofs.parameter.write_protocols.Goals as goal
 
@@ -17,7 +18,7 @@ loop-name-init g c =
       tt,
       search rules,
       ap are_bare all ∙ protocols_bare c.args.value.now c.requires,
-      λ plain. record { printed = []; wrote = search rules; rest = ap (separated [] (codes ",")) all },
+      none_printed _ _ _ _ (ap (separated [] (codes ",")) all),
     )
 
 pub write_plain-requires : goal.write_plain-requires
@@ -32,12 +33,12 @@ loop-name-preserved g c =
       tt,
       search rules,
       (and_parts (list_all is_bare c.in-Some.name.now) (are_bare (strings_left c.next.new.self)) (sym (ap are_bare left) ∙ c.loop-name.invariant.3)).1,
-      λ plain.
-          let p = c.loop-name.invariant.4 plain in
-          let first = c.write_str.ensures.writes p.wrote.plain (search rules) in
-          let second = c.write_plain.ensures first.plain (search rules) in
-          first_printed _ _ _ (codes ",") _ _ _ _ _ _ _ left p first second,
+      (
+          let first = c.write_text.ensures.text (search rules) in
+          let second = c.write_plain.ensures.text (search rules) in
+          first_printed _ _ _ (codes ",") _ _ _ _ _ _ _ left c.loop-name.invariant.4 first second
+          ),
     )
 
-pub returns : goal.returns
-returns g c = λ plain ok. words_end _ _ _ (codes ",") _ _ _ c.in-None.ensures.steps.0 (c.loop-name.invariant.4 plain)
+pub returns-clause-text : goal.returns-clause-text
+returns-clause-text g c = λ ok. words_end _ _ _ (codes ",") _ _ _ c.in-None.ensures.steps.0 c.loop-name.invariant.4

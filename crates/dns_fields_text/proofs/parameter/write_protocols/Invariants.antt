@@ -1,6 +1,5 @@
 use Rattle.std.proofs.Common.{◌≡◌, true}
 use Rattle.std.specs.Prelude.{codes}
-use Rattle.std.specs.Fmt.{IsPlainFormatter}
 use Rattle.dns_fields_text.specs.ItemsLeft.{strings_left}
 use Rattle.dns_fields_text.specs.Parameters.{protocols}
 use Rattle.dns_fields_text.proofs.ProtocolLemmas.{are_bare}
@@ -15,4 +14,4 @@ invariant-loop-name g l =
     × (goal.iterator-loop-name g).is_finite l.name-iterator
     × shadow (Utf8 l.separator)
     × (are_bare (strings_left l.name-iterator) ≡ true)
-    × (IsPlainFormatter l.fn.f → Prints g.W.Write.write_str_gives l.fn.f (protocols l.value) (codes ",") l.separator (strings_left l.name-iterator) l.f)
+    × Prints g.W.TextWriter.takes l.fn.f (protocols l.value) (codes ",") l.separator (strings_left l.name-iterator) l.f

@@ -1,4 +1,3 @@
-use Rattle.std.specs.Fmt.{IsPlainFormatter}
 use Rattle.std.specs.List.{flat_map}
 use Rattle.dns_data.specs.Printing.{hex_octet}
 use Rattle.dns_fields.specs.FieldParts.{fields_left}
@@ -11,6 +10,5 @@ abbrev pub invariant-loop-field : goal.invariant-loop-field
 invariant-loop-field g l = record {
   can : (goal.iterator-loop-field g).can_next l.field-iterator;
   finite : (goal.iterator-loop-field g).is_finite l.field-iterator;
-  printing : IsPlainFormatter l.fn.f
-      → Printing g.W.Write.write_str_gives l.fn.f l.f (flat_map hex_octet (fields_octets (fields_left l.field-iterator))) (flat_map hex_octet (fields_octets (data_fields l.fn.«data»)));
+  printing : Printing g.W.TextWriter.takes l.fn.f l.f (flat_map hex_octet (fields_octets (fields_left l.field-iterator))) (flat_map hex_octet (fields_octets (data_fields l.fn.«data»)));
 }

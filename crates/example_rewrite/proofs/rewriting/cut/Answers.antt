@@ -2,7 +2,8 @@ use Rattle.std.proofs.Common.{◌∙◌, sym, arith}
 use Rattle.std.specs.Prelude.{min}
 use Rattle.dns_message.specs.Records.{data_in, encoded_record}
 use Rattle.dns_message.specs.Fields.{rtype_of, parts_of, type_layout}
-use Rattle.example_rewrite.proofs.CutLemmas.{laid_out-read, record_cut, fault_dropped}
+use Rattle.dns_message.proofs.CallerLemmas.{laid_out-read}
+use Rattle.example_rewrite.proofs.CutLemmas.{record_cut, fault_dropped}
 use Rattle.example_rewrite.proofs.rewriting.cut.Goals as goal
 
 pub returns-in-Ok : goal.returns-in-Ok

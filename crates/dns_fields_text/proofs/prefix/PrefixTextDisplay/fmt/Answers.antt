@@ -4,7 +4,7 @@ use Rattle.dns_fields_text.specs.Prefixes.{prefix_word}
 use Rattle.dns_fields_text.proofs.prefix.PrefixTextDisplay.fmt.Goals as goal
 
 pub returns-clause-writes : goal.returns-clause-writes
-returns-clause-writes g c = displayed_plain _ _ _ _ (prefix_word (prefix_item c.args.self.now.0)) c.write_value.ensures
+returns-clause-writes g c = displayed_plain _ _ _ _ (prefix_word (prefix_item c.args.self.now.0)) c.write_prefix.ensures.text
 
 pub returns-clause-styled : goal.returns-clause-styled
-returns-clause-styled g c = displayed_styled _ _ _ _ (prefix_word (prefix_item c.args.self.now.0)) c.write_value.ensures
+returns-clause-styled g c = displayed_styled _ _ _ _ (prefix_word (prefix_item c.args.self.now.0)) c.write_prefix.ensures.text

@@ -1,0 +1,142 @@
+//! Addresses of IPv4 and IPv6 as std prints them (RFC 1035 section 3.4.1, RFC 5952).
+ghost use Rattle.std.specs.Prelude.{OnErr, ◌≡◌, ◌+◌, ◌<◌, ◌≤◌, ◌++◌, [], ◌∷◌, codes, decimal, length};
+ghost use Rattle.std.specs.Char.{digit_char};
+ghost use Rattle.std.specs.Net.Addr.{ipv6_segments};
+ghost use Rattle.std.specs.Net.Text.{groups_text, hex, hex_groups_text, ipv4_text, ipv6_text, longest_zero_run};
+ghost use Rattle.dns_print.specs.Printing.{PrintsOnOk};
+
+use dns_print::{TextWriter, write_number};
+use std::fmt;
+use std::net::Ipv6Addr;
+
+/// Prints two numbers in decimal digits, with a dot between them.
+#[tactic(auto, using(dns_print::proofs::theory::Prints::prints, std::proofs::lemmas::Grind::common_steps))]
+fn write_dotted_pair<W: TextWriter>(f: &mut W, first: u8, second: u8) -> fmt::Result
+    ensures text { PrintsOnOk W.takes f.old result (decimal first ++ codes "." ++ decimal second)
+        f.new }
+    ensures err { OnErr result W.MayFail }
+{
+    write_number(f, u64::from(first))?;
+    f.write_text(".")?;
+    write_number(f, u64::from(second))
+}
+
+/// Prints the octets of an IPv4 address in decimal digits, with dots between them.
+pub(crate) fn write_ipv4<W: TextWriter>(f: &mut W, octets: [u8; 4]) -> fmt::Result
+    ensures text { PrintsOnOk W.takes f.old result (ipv4_text octets) f.new }
+    ensures err { OnErr result W.MayFail }
+{
+    write_dotted_pair(f, octets[0], octets[1])?;
+    f.write_text(".")?;
+    write_dotted_pair(f, octets[2], octets[3])
+}
+
+/// The lowercase hexadecimal digit of a number.
+fn digit(number: u16) -> char
+    requires { number < 16 }
+    ensures glyph { result ≡ digit_char number }
+    ensures ascii { result < 128 }
+{
+    let number = number as u8;
+    char::from(if number < 10 {
+        b'0' + number
+    } else {
+        b'a' + (number - 10)
+    })
+}
+
+/// Prints a number as a hexadecimal digit.
+fn write_digit<W: TextWriter>(f: &mut W, number: u16) -> fmt::Result
+    requires { number < 16 }
+    ensures text { PrintsOnOk W.takes f.old result (digit_char number ∷ []) f.new }
+    ensures err { OnErr result W.MayFail }
+{
+    f.write_char(digit(number))
+}
+
+/// Prints a segment of an IPv6 address in hexadecimal digits, without leading zeros.
+#[tactic(auto, using(dns_print::proofs::theory::Prints::prints, crate::proofs::AddressTexts::hex_last, crate::proofs::AddressTexts::hex_more))]
+fn write_segment<W: TextWriter>(f: &mut W, segment: u16) -> fmt::Result
+    ensures text { PrintsOnOk W.takes f.old result (hex segment) f.new }
+    ensures err { OnErr result W.MayFail }
+{
+    if segment < 16 {
+        return write_digit(f, segment);
+    }
+    write_segment(f, segment / 16)?;
+    write_digit(f, segment % 16)
+}
+
+/// Prints a segment after a colon.
+#[tactic(auto, using(dns_print::proofs::theory::Prints::prints, std::proofs::lemmas::Grind::common_steps))]
+fn write_next_segment<W: TextWriter>(f: &mut W, segment: u16) -> fmt::Result
+    ensures text { PrintsOnOk W.takes f.old result (codes ":" ++ hex segment) f.new }
+    ensures err { OnErr result W.MayFail }
+{
+    f.write_text(":")?;
+    write_segment(f, segment)
+}
+
+/// Prints segments, with colons between them.
+#[tactic(auto, using(dns_print::proofs::theory::Prints::prints, std::proofs::lemmas::Grind::common_steps))]
+fn write_groups<W: TextWriter>(f: &mut W, segments: &[u16]) -> fmt::Result
+    ensures text { PrintsOnOk W.takes f.old result (groups_text segments.now) f.new }
+    ensures err { OnErr result W.MayFail }
+{
+    let [first, after @ ..] = segments else {
+        return Ok(());
+    };
+    write_segment(f, *first)?;
+    for segment in after {
+        write_next_segment(f, *segment)?;
+    }
+    Ok(())
+}
+
+/// The start and the length of the longest run of zeros, and of two such runs the first.
+fn longest_zero_run(segments: &[u16]) -> (usize, usize)
+    ensures value { result ≡ longest_zero_run segments.now }
+    ensures within { result.0 + result.1 ≤ length segments.now }
+{
+    let mut start = segments.len();
+    let mut len = 0;
+    let mut run = 0;
+    for i in (0..segments.len()).rev() {
+        run = if segments[i] == 0 { run + 1 } else { 0 };
+        if run >= len {
+            start = i;
+            len = run;
+        }
+    }
+    (start, len)
+}
+
+/// Prints segments with colons between them, and `::` in place of the longest run of zeros if it has
+/// two or more.
+#[tactic(auto, using(dns_print::proofs::theory::Prints::prints, std::proofs::lemmas::Grind::common_steps), unfolding(std::specs::Net::Text::hex_groups_text))]
+fn write_segments<W: TextWriter>(f: &mut W, segments: &[u16]) -> fmt::Result
+    ensures text { PrintsOnOk W.takes f.old result (hex_groups_text segments.now) f.new }
+    ensures err { OnErr result W.MayFail }
+{
+    let (start, len) = longest_zero_run(segments);
+    if len < 2 {
+        return write_groups(f, segments);
+    }
+    write_groups(f, &segments[..start])?;
+    f.write_text("::")?;
+    write_groups(f, &segments[start + len..])
+}
+
+/// Prints an IPv6 address. An IPv4-mapped one ends in the IPv4 address.
+pub(crate) fn write_ipv6<W: TextWriter>(f: &mut W, address: Ipv6Addr) -> fmt::Result
+    ensures text { PrintsOnOk W.takes f.old result (ipv6_text (ipv6_segments address)) f.new }
+    ensures err { OnErr result W.MayFail }
+{
+    match address.to_ipv4_mapped() {
+        Some(ipv4) => {
+            f.write_text("::ffff:")?;
+            write_ipv4(f, ipv4.octets())
+        }
+        None => write_segments(f, &address.segments()),
+    }
+}

@@ -1,0 +1,31 @@
+-- Plain questions, records and messages, and what they represent. RFC 1035 section 4.1.
+use Rattle.std.specs.Prelude.{◌≡◌}
+use Rattle.dns_wire.specs.Parts.{Part, Octets, CompressibleName, UncompressedName}
+use Rattle.dns_question.specs.Questions as questions
+use Rattle.dns_item.specs.Items as items
+use Rattle.dns_plain.specs.PlainNames.{IsNamed, AreEach}
+use Rattle.dns_plain.specs.declared.items.Part as plain
+use Rattle.dns_plain.specs.declared.items.Part.TheVariants as parts
+use Rattle.dns_plain.specs.declared.items.QuestionItem.{QuestionItem}
+use Rattle.dns_plain.specs.declared.items.RecordItem.{RecordItem}
+
+-- a part of RDATA: the same octets, or the uncompressed octets of the name
+abbrev pub IsPart : plain.Part → Part → Type 0
+IsPart (parts.Octets octets) (Octets xs) = octets.now ≡ xs
+IsPart (parts.CompressibleName octets) (CompressibleName name) = IsNamed octets.now name
+IsPart (parts.UncompressedName octets) (UncompressedName lowercased name) = IsNamed octets.now name
+IsPart plain_part part = ⊥
+
+-- the question
+pub record IsQuestionItem (plain_item : QuestionItem) (x : questions.QuestionItem) : Type 0 where
+  pub name : IsNamed plain_item.name.now x.name
+  pub rtype : plain_item.rtype ≡ x.rtype
+  pub class : plain_item.class ≡ x.class
+
+-- the record
+pub record IsRecordItem (plain_item : RecordItem) (x : items.RecordItem) : Type 0 where
+  pub owner : IsNamed plain_item.owner.now x.owner
+  pub rtype : plain_item.rtype ≡ x.rtype
+  pub class : plain_item.class ≡ x.class
+  pub ttl : plain_item.ttl ≡ x.ttl
+  pub parts : AreEach IsPart plain_item.parts.now x.parts

@@ -1,5 +1,0 @@
-use Rattle.std.proofs.Common.{length}
-use Rattle.dns_value_text.proofs.address.+write_groups.Given as goal
-
-abbrev pub decreases-write_groups : goal.decreases-write_groups
-decreases-write_groups g l = length l.octets.now

@@ -1,0 +1,107 @@
+#!/usr/bin/env bash
+# Runs the programs that `./test` leaves in crates/*/out, with bad input, with wrong arguments, and with their output to a full disk.
+# Each has to end with the exit status of its page, and to print no more than that; an example says why on standard error, and ends
+# with 1. dnsmsg prints its reasons. `rt ci` compares only one run of each program.
+# Prints 'test programs::NAME ... ok' or 'test programs::NAME ... FAILED' for each run, and fails if one does.
+set -u
+cd "$(dirname "$0")/.." || exit 1
+room=$(mktemp -d)
+trap 'rm -r "$room"' EXIT
+failed=0
+
+# Whether standard error has a text, or is empty if that is.
+tells() {
+    [[ $(<"$room/told") == *"$1"* ]] && { [ "$1" ] || [ ! -s "$room/told" ]; }
+}
+
+# run NAME STATUS PRINTED TOLD PROGRAM WORD..: runs a program on standard input. It has to end with the status STATUS, to print
+# PRINTED, and to say TOLD on standard error.
+run() {
+    local name=$1 status=$2 printed=$3 told=$4 program=crates/$5/out/$5 ended=0 outcome=FAILED
+    shift 5
+    : >"$room/printed"
+    timeout 60 "$program" "$@" >"${to:-$room/printed}" 2>"$room/told" || ended=$?
+    [ $ended = "$status" ] && [ "$(<"$room/printed")" = "$printed" ] && tells "$told" && outcome=ok
+    echo "test programs::$name ... $outcome"
+    [ $outcome = ok ] || { echo "status $ended" && cat "$room/printed" "$room/told" && failed=1; }
+}
+
+# full NAME STATUS TOLD PROGRAM WORD..: the same, with its output to a full disk.
+full() {
+    to=/dev/full run "$1" "$2" '' "${@:3}"
+}
+
+disk='No space left on device'
+question=03777777076578616d706c6503636f6d00
+
+# A query with the type $1 for www.example.com, and a message with the flags $2 and the answer count $3 after its question
+# (RFC 1035 section 4.1).
+resolving() {
+    echo "123401000001000000000000${question}${1}0001"
+    echo "1234${2}0001${3}00000000${question}${1}0001"
+}
+
+# The status 1 of an example, with a reason.
+refuses() {
+    run "$1" 1 '' "$3" "$2"
+}
+
+refuses addresses_no_digits example_addresses 'Invalid character' <<<0001zz
+refuses addresses_short_message example_addresses 'short message' <<<0001
+full addresses_full_disk 1 "$disk" example_addresses <crates/example_addresses/stdin
+refuses answer_no_digits example_answer 'Invalid character' <<<0001zz
+refuses answer_short_query example_answer 'fewer than 12 octets' <<<0001
+full answer_full_disk 1 "$disk" example_answer <crates/example_answer/stdin
+refuses response_no_digits example_response 'Odd number of digits' <<<000
+refuses response_short_message example_response 'short message' <<<0001
+refuses response_no_question example_response 'no question' <<<123401000000000000000000
+full response_full_disk 1 "$disk" example_response <crates/example_response/stdin
+refuses rewrite_one_line example_rewrite 'two lines are wanted' <<<600
+refuses rewrite_no_number example_rewrite 'invalid digit' < <(printf 'x\n00\n')
+refuses rewrite_no_digits example_rewrite 'Invalid character' < <(printf '600\n0001zz\n')
+refuses rewrite_short_message example_rewrite 'short message' < <(printf '600\n0001\n')
+full rewrite_full_disk 1 "$disk" example_rewrite <crates/example_rewrite/stdin
+
+run transfer_torn 1 '; unreadable message' "can't be read to its end" example_transfer < <(printf '\0\5abc')
+run transfer_empty 0 '' '' example_transfer </dev/null
+full transfer_full_disk 1 "$disk" example_transfer <crates/example_transfer/stdin
+
+run resolve_default_type 0 "123401000001000000000000${question}00010001" '' example_resolve <<<www.example.com
+run resolve_type 0 "123401000001000000000000${question}001c0001" '' example_resolve <<<'www.example.com AAAA'
+refuses resolve_no_type example_resolve 'unknown record type' <<<'www.example.com NOTYPE'
+refuses resolve_no_name example_resolve 'empty label' <<<www..example.com
+refuses resolve_no_digits example_resolve 'Invalid character' < <(printf '00zz\n00\n')
+refuses resolve_short_message example_resolve 'short message' < <(printf '0001\n00\n')
+refuses resolve_query example_resolve 'no answer to the query' < <(resolving 0001 0100 0000)
+refuses resolve_nxdomain example_resolve 'the rcode is NXDomain (3)' < <(resolving 0001 8183 0000)
+refuses resolve_refused example_resolve 'the rcode is Refused (5)' < <(resolving 001c 8185 0000)
+refuses resolve_truncated example_resolve 'cut short' < <(resolving 0001 8380 0000)
+refuses resolve_other_type example_resolve 'no query for addresses' < <(resolving 000f 8180 0000)
+refuses resolve_unreadable example_resolve 'unreadable: ' < <(resolving 0001 8180 0001)
+full resolve_full_disk 1 "$disk" example_resolve <crates/example_resolve/stdin
+full resolve_query_full_disk 1 "$disk" example_resolve <<<www.example.com
+
+usage='usage: dnsmsg build TARGET | dnsmsg show'
+run dnsmsg_build 0 $'ok 12\nok 29\n000000000001000000000000076578616d706c6503636f6d0000010001' '' dnsmsg build plain <examples/first-run.txt
+run dnsmsg_no_digits 1 'bad hex' '' dnsmsg show <<<00zz
+run dnsmsg_short_message 1 'short message' '' dnsmsg show <<<0001
+run dnsmsg_bad_line 1 $'ok 12\nbad line 2' '' dnsmsg build plain < <(printf 'question\npush\n')
+run dnsmsg_no_words 2 "$usage" '' dnsmsg </dev/null
+run dnsmsg_other_target 2 "$usage" '' dnsmsg build paper </dev/null
+run dnsmsg_no_text 2 "$usage" '' dnsmsg $'\xff' </dev/null
+run dnsmsg_no_input 3 failed '' dnsmsg show <.
+full dnsmsg_full_disk 3 '' dnsmsg show <examples/answer.txt
+
+line='out.example.com. 3600 IN CNAME target.elsewhere.test.'
+usage='usage: dnsview [--html | --short] [FILE]'
+run dnsview_file 0 "$line" '' dnsview --short examples/answer.txt </dev/null
+run dnsview_input 0 "$line" '' dnsview --short <examples/answer.txt
+run dnsview_dash 0 "$line" '' dnsview --short - <examples/answer.txt
+run dnsview_odd 1 '' 'the number of hexadecimal digits is odd' dnsview <<<000
+run dnsview_no_option 2 '' "dnsview: unexpected argument '--long'"$'\n'"$usage" dnsview --long </dev/null
+run dnsview_no_text 2 '' $'dnsview: an argument is not UTF-8\n'"$usage" dnsview $'\xff' </dev/null
+run dnsview_no_file 3 '' "dnsview: can't open 'examples/no file': " dnsview 'examples/no file' <examples/answer.txt
+run dnsview_folder 3 '' 'dnsview: ' dnsview examples <examples/answer.txt
+run dnsview_empty 4 '' 'dnsview: the input is empty' dnsview </dev/null
+full dnsview_full_disk 3 "$disk" dnsview <examples/answer.txt
+exit $failed
