@@ -95,6 +95,17 @@ func TestAllFieldsAreRead(t *testing.T) {
 	equal(t, items[0].DataText(), "")
 }
 
+func TestItemsBeforeAnErrorAreRead(t *testing.T) {
+	message, err := Parse(whole[:103])
+	equal(t, err, nil)
+	for section, wanted := range []error{nil, nil, nil, ShortInput} {
+		found, err := message.Section(Section(section))
+		equal(t, []interface{}{len(found), err}, []interface{}{int(message.Counts[section]) % 2, wanted})
+	}
+	_, err = message.OPT()
+	equal(t, err, error(ShortInput))
+}
+
 func TestAllNamesAreFound(t *testing.T) {
 	_, items := read(t, whole)
 	for _, it := range []struct {
@@ -168,9 +179,9 @@ func TestQueriesAndResponsesHaveAllFields(t *testing.T) {
 	question := "\x01a\x01b\x00\x00\x01\x00\x01"
 	equal(t, []interface{}{string(asked), err}, []interface{}{"\x01\x02\x01\x00\x00\x01\x00\x00\x00\x00\x00\x00" + question, nil})
 	for authoritative, flags := range map[bool]string{true: "\x85\x00", false: "\x81\x00"} {
-		response, err := RespondA(asked, authoritative, 60, [4]byte{192, 0, 2, 9})
+		response, err := RespondA(asked, authoritative, 0x1020304, [4]byte{192, 0, 2, 9})
 		wanted := "\x01\x02" + flags + "\x00\x01\x00\x01\x00\x00\x00\x00" + question
-		wanted += "\xc0\x0c\x00\x01\x00\x01\x00\x00\x00\x3c\x00\x04\xc0\x00\x02\x09"
+		wanted += "\xc0\x0c\x00\x01\x00\x01\x01\x02\x03\x04\x00\x04\xc0\x00\x02\x09"
 		equal(t, []interface{}{string(response), err}, []interface{}{wanted, nil})
 	}
 }

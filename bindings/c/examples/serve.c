@@ -161,5 +161,9 @@ int main(void)
             failed = 1;
         }
     free(message.at);
+    if (ferror(stdout) || fclose(stdout) != 0) {
+        fprintf(stderr, "the output can't be written\n");
+        return 1;
+    }
     return failed;
 }

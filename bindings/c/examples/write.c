@@ -26,5 +26,9 @@ int main(void)
     for (size_t i = 0; i < len; i++)
         printf("%02x", out[i]);
     printf("\n");
+    if (ferror(stdout) || fclose(stdout) != 0) {
+        fprintf(stderr, "the output can't be written\n");
+        return 1;
+    }
     return 0;
 }

@@ -61,8 +61,16 @@ class Reading(unittest.TestCase):
         sections = ["question", "answer", "authority", "additional", "additional"]
         lines = ["id 4660 flags ac33"] + [f"{section} {text}" for section, text in zip(sections, TEXTS)]
         self.assertEqual(message.to_text(), "\n".join(lines))
-        lines[4:] = ["error an octet that is needed is past the end of the message"]
-        self.assertEqual(str(Message.from_wire(WHOLE[:103])), "\n".join(lines))
+
+    def test_items_before_an_error(self):
+        message = Message.from_wire(WHOLE[:103])
+        for items, wanted in ((message.questions, TEXTS[:1]), (message.answer, TEXTS[1:2]), (message.authority, TEXTS[2:3])):
+            self.assertEqual(texts(items), wanted)
+        for items in (message.additional, message.records, message):
+            self.assertRaises(dnsm.MalformedMessage, texts, items)
+        self.assertRaises(dnsm.MalformedMessage, message.edns)
+        lines = ["answer " + TEXTS[1], "authority " + TEXTS[2], "error an octet that is needed is past the end of the message"]
+        self.assertEqual(message.to_text().splitlines()[2:], lines)
 
     def test_names_in_rdata(self):
         mx, soa, address, _ = Message.from_wire(WHOLE).records
@@ -125,9 +133,9 @@ class Writing(unittest.TestCase):
         self.assertEqual(build(0x102, Flag.RD, questions=["a.b"]), asked + b"\0\1")
         self.assertEqual(build(0x102, Flag.RD, questions=[("a.b", Type.A)]), asked + b"\0\1")
         for authoritative, flags in ((True, "8500"), (False, "8100")):
-            response = dnsm.respond_a(asked + b"\0\1", bytes([192, 0, 2, 9]), 60, authoritative=authoritative)
+            response = dnsm.respond_a(asked + b"\0\1", bytes([192, 0, 2, 9]), 0x1020304, authoritative=authoritative)
             head = bytes.fromhex("0102" + flags + "0001000100000000")
-            self.assertEqual(response, head + asked[12:] + bytes.fromhex("0001c00c000100010000003c0004c0000209"))
+            self.assertEqual(response, head + asked[12:] + bytes.fromhex("0001c00c00010001010203040004c0000209"))
         self.assertEqual(dnsm.respond_a(asked + b"\0\1", ADDRESS, 60)[2:4], b"\x81\0")
 
     def test_a_long_limit(self):
@@ -135,6 +143,7 @@ class Writing(unittest.TestCase):
         self.assertRaises(dnsm.NoRoom, builder.put, Section.ANSWER, ".", 65280, 1, 0, bytes(1478))
         builder.put(Section.ANSWER, ".", 65280, Class.IN, 0, data)
         self.assertEqual((len(builder), len(builder.finish())), (1500, 1500))
+        self.assertRaises(ValueError, Builder, 1, limit=-1500)
         builder = Builder(1)
         builder.put(Section.ANSWER, ".", 65280, Class.IN, 0, bytes(65512))
         self.assertEqual(len(builder), 65535)

@@ -8,6 +8,7 @@ import (
 	"encoding/hex"
 	"errors"
 	"fmt"
+	"log"
 	"os"
 	"strings"
 
@@ -116,7 +117,7 @@ func answer(query []byte) ([]byte, error) {
 
 func main() {
 	status := 0
-	input := bufio.NewReader(os.Stdin)
+	input, output := bufio.NewReader(os.Stdin), bufio.NewWriter(os.Stdout)
 	for number := 1; ; number++ {
 		line, err := input.ReadString('\n')
 		if line == "" && err != nil {
@@ -127,9 +128,12 @@ func main() {
 			fmt.Fprintf(os.Stderr, "line %d: not two hexadecimal digits for each octet\n", number)
 			status = 1
 		} else if response, err := answer(query); err != nil {
-			fmt.Println("ignored")
+			fmt.Fprintln(output, "ignored")
 		} else {
-			fmt.Printf("%x\n", response)
+			fmt.Fprintf(output, "%x\n", response)
+		}
+		if err := output.Flush(); err != nil {
+			log.Fatal(err)
 		}
 	}
 }

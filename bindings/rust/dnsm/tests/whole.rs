@@ -63,6 +63,16 @@ fn all_fields_are_read() {
 }
 
 #[test]
+fn items_before_an_error_are_read() {
+    let message = Message::new(&WHOLE[..103]).unwrap();
+    assert_eq!(message.items().map(|item| item.err()).collect::<Vec<_>>(), [None, None, None, Some(Error::ShortInput)]);
+    for (section, wanted) in [(Section::Question, 0), (Section::Answer, 0), (Section::Authority, 0), (Section::Additional, 1)] {
+        assert_eq!(message.section(section).filter(Result::is_err).count(), wanted);
+    }
+    assert_eq!(message.opt().err(), Some(Error::ShortInput));
+}
+
+#[test]
 fn all_names_are_found() {
     let items: Vec<_> = Message::new(WHOLE).unwrap().items().map(Result::unwrap).collect();
     let owners =
@@ -124,9 +134,9 @@ fn queries_and_responses_have_all_fields() {
     let asked = b"\x01\x02\x01\0\0\x01\0\0\0\0\0\0\x01a\x01b\0\0\x01\0\x01";
     assert_eq!(query(0x0102, true, "a.b.", Rtype::A, Class::IN).unwrap(), asked);
     for (authoritative, flags) in [(true, 0x85), (false, 0x81)] {
-        let response = respond_a(asked, authoritative, 60, [192, 0, 2, 9]).unwrap();
+        let response = respond_a(asked, authoritative, 0x0102_0304, [192, 0, 2, 9]).unwrap();
         let header = [1, 2, flags, 0, 0, 1, 0, 1, 0, 0, 0, 0];
-        assert_eq!(response, [&header[..], &asked[12..], b"\xc0\x0c\0\x01\0\x01\0\0\0\x3c\0\x04\xc0\0\x02\x09"].concat());
+        assert_eq!(response, [&header[..], &asked[12..], b"\xc0\x0c\0\x01\0\x01\x01\x02\x03\x04\0\x04\xc0\0\x02\x09"].concat());
     }
 }
 
