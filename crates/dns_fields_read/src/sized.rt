@@ -4,6 +4,7 @@ ghost use Rattle.std.specs.Net.Grammar.{IsNumber};
 ghost use Rattle.dns_fields_read.specs.LengthOctets.{sized};
 ghost use Rattle.dns_fields_read.specs.GatewayWords.{IsNumberTo};
 ghost use Rattle.dns_fields_read.specs.Reading.{HasValue, ReadsWordsIf};
+ghost use Rattle.dns_value_text.specs.Octets.{IsBase64};
 ghost use Rattle.dns_fields_read.specs.SizedWords.{AreSized, IsCountedBase64, IsSizedWords, MayBeSized};
 ghost use Rattle.dns_value_text.specs.declared.text_error.TextError.TheVariants.{OutOfMemory};
 
@@ -16,7 +17,7 @@ const MOST_OCTETS: usize = 65535;
 
 /// From 1 to 65,535 octets of base64 with padding.
 pub(crate) fn read_counted_base64(alloc: Global, word: &str) -> Result<Vec<u8>, TextError>
-    ensures { ReadsWordsIf (0 < length word.now) (IsCountedBase64 word.now) result }
+    ensures { ReadsWordsIf (HasValue (IsBase64 word.now)) (IsCountedBase64 word.now) result }
 {
     match read_base64(alloc, word) {
         Ok(octets) => {

@@ -25,8 +25,8 @@ pub use Rattle.dns_fields_text.specs.ZoneNames.{zone_name_text}
 unfoldable pub use Rattle.dns_fields_text.specs.TypeNames.{mnemonic}
 pub use Rattle.dns_fields_text.specs.TypeNames.{type_word}
 pub use Rattle.dns_line_words.specs.LineWords.{AreWordsOf, SplitsWords}
-pub use Rattle.dns_data_read.specs.DataWords.{IsDataText, ReadsData}
-pub use Rattle.dns_data_read.specs.RecordWords.{IsRecordText, ReadsRecord}
+pub use Rattle.dns_data_read.specs.DataWords.{IsDataText, MayBeData, ReadsData}
+pub use Rattle.dns_data_read.specs.RecordWords.{IsRecordText, MayBeRecord, ReadsRecord}
 -- lists in fields, and the iterators over them
 pub use Rattle.dns_fields_text.specs.Strings.{strings_of}
 pub use Rattle.dns_fields_text.specs.ParameterItems.{ParameterItem, parameters_of}
@@ -36,7 +36,7 @@ pub use Rattle.dns_fields_text.specs.ItemsLeft.{strings_left, parameter_item, pa
 pub use Rattle.dns_fields_text.specs.TypeItems.{types_left}
 -- RDATA from native values
 unfoldable pub use Rattle.dns_fields_read.specs.Base32Words.{last_octets}
-pub use Rattle.dns_values.specs.NewValues.{IsValueOf, takes}
-pub use Rattle.dns_values.specs.ValueData.{AreValuesOf, HasWrongKind, HoldsFirstAt, IsErrorOf, IsOutOfRange, MakesData, MakesParts}
+pub use Rattle.dns_values.specs.NewValues.{IsTaken, IsValueOf, takes}
+pub use Rattle.dns_values.specs.ValueData.{AreValuesOf, HasWrongKind, HoldsFirstAt, IsErrorOf, IsOutOfRange, IsTakenBy, MakesData, MakesParts}
 pub use Rattle.dns_values.specs.Named.{IsSplit, MakesNamed, MakesText}
 pub use Rattle.dns_values.specs.ReadBack.{ReadsBack}

@@ -11,11 +11,13 @@ use Rattle.dns_wire.specs.Parts.Part.{Octets as OctetsPart}
 use Rattle.dns_fields.specs.DataOrders.{octets_of_parts, part_octets}
 use Rattle.dns_fields.specs.Table.{Field, kinds}
 use Rattle.dns_fields.specs.declared.kind.Kind.{Kind}
-use Rattle.dns_values.specs.Appending.{Appends, AppendsPart, AppendsValue, AppendsValues, RefusesValue}
+use Rattle.dns_values.specs.Appending.{Appends, AppendsMap, AppendsPart, AppendsValue, AppendsValues, RefusesValue}
 use Rattle.dns_values.specs.Forms.{value_form}
-use Rattle.dns_values.specs.NewValues.{IsEncodedAs, IsPartIn, name_part, takes}
+use Rattle.dns_values.specs.NewValues.{IsEncodedAs, IsPartIn, IsTaken, name_part, takes}
 use Rattle.dns_values.specs.declared.form.Form.{Form}
 use Rattle.dns_values.specs.declared.new_value.NewValue.{NewValue}
+use Rattle.dns_values.specs.declared.form.Form.TheVariants as forms
+use Rattle.dns_values.specs.declared.new_value.NewValue.TheVariants as values
 use Rattle.dns_values.specs.declared.new_value.NewValue.TheVariants.{Octets as Plain}
 use Rattle.dns_values.specs.declared.value_error.ValueError.{ValueError}
 use Rattle.dns_values.specs.declared.value_error.ValueError.TheVariants as errors
@@ -26,13 +28,36 @@ use Rattle.dns_values.specs.declared.value_error.Refusal.TheVariants.{OutOfMemor
 pub appends_octets : (Is : List ℕ → Type 0) (more old new : List ℕ) (result : Result Unit Refusal) → Is more → OnOk result (new ≡ old ++ more) → IfErr result (λ refusal. refusal ≡ OutOfMemory)
     → Appends Is old new result
 appends_octets Is more old new (Ok u) is ok err = (more, is, ok)
-appends_octets Is more old new (Err e) is ok err = inl err
+appends_octets Is more old new (Err e) is ok err = inl (err, (more, is))
+
+-- a value that has a part is taken
+pub taken_by : (kind : Kind) (form : Form) (value : NewValue) (part : Part) → IsPartIn kind form value part → IsTaken kind form value
+taken_by kind forms.Types (values.Types types) part is = refl
+taken_by kind (forms.Number size) (values.Types types) part is = absurd is.2
+taken_by kind forms.RecordType (values.Types types) part is = absurd is.2
+taken_by kind forms.Ipv4 (values.Types types) part is = absurd is.2
+taken_by kind forms.Ipv6 (values.Types types) part is = absurd is.2
+taken_by kind forms.Name (values.Types types) part is = absurd is.2
+taken_by kind forms.Counted (values.Types types) part is = absurd is.2
+taken_by kind forms.Sized (values.Types types) part is = absurd is.2
+taken_by kind (forms.Fixed size) (values.Types types) part is = absurd is.2
+taken_by kind forms.Strings (values.Types types) part is = absurd is.2
+taken_by kind forms.Parameters (values.Types types) part is = absurd is.2
+taken_by kind forms.Prefixes (values.Types types) part is = absurd is.2
+taken_by kind forms.Rest (values.Types types) part is = absurd is.2
+taken_by kind form value part is = (part, is)
+
+-- a type bit map
+pub map_appended : (kind : Kind) (types : Bor (List ℕ)) (old new : List ℕ) (result : Result Unit Refusal) → AppendsMap types.now old new result
+    → AppendsPart kind forms.Types (values.Types types) old new result
+map_appended kind types old new (Ok u) a = (OctetsPart a.0, (a.0, refl, a.1), a.2)
+map_appended kind types old new (Err e) err = subst (RefusesValue kind forms.Types (values.Types types)) (sym err) refl
 
 -- the same of the part of a value
 pub part_appended : (kind : Kind) (form : Form) (value : NewValue) (part : Part) (old more new : List ℕ) (result : Result Unit Refusal) → IsPartIn kind form value part → part_octets part ≡ more
     → OnOk result (new ≡ old ++ more) → IfErr result (λ refusal. refusal ≡ OutOfMemory) → AppendsPart kind form value old new result
 part_appended kind form value part old more new (Ok u) is same ok err = (part, is, ok ∙ ap (λ (xs : List ℕ). old ++ xs) (sym same))
-part_appended kind form value part old more new (Err e) is same ok err = subst (RefusesValue kind form value) (sym err) tt
+part_appended kind form value part old more new (Err e) is same ok err = subst (RefusesValue kind form value) (sym err) (taken_by kind form value part is)
 
 -- the part is octets
 module _ (kind : Kind) (form : Form) (value : NewValue) (taken : takes form value ≡ true)
@@ -40,7 +65,7 @@ module _ (kind : Kind) (form : Form) (value : NewValue) (taken : takes form valu
     (into : (octets : List ℕ) → IsEncodedAs kind form value octets → IsPartIn kind form value (OctetsPart octets)) where
   pub octets_appended : (old new : List ℕ) (result : Result Unit Refusal) → Appends (IsEncodedAs kind form value) old new result → AppendsPart kind form value old new result
   octets_appended old new (Ok u) a = (OctetsPart a.0, into a.0 a.1, a.2)
-  octets_appended old new (Err e) (inl memory) = subst (RefusesValue kind form value) (sym memory) tt
+  octets_appended old new (Err e) (inl memory) = subst (RefusesValue kind form value) (sym memory.0) (taken_by kind form value (OctetsPart memory.1.0) (into memory.1.0 memory.1.1))
   octets_appended old new (Err e) (inr none) =
       subst (RefusesValue kind form value) (sym none.0) (taken, λ part is. let own = out part is in none.1 own.0 own.2)
 
@@ -54,7 +79,7 @@ of_kind kind found form value own old new result is shape known a =
 -- there is one at least
 pub some_appended : (Are : List ℕ → Type 0) (Some : Type 0) (old new : List ℕ) (result : Result Unit Refusal) → Some → Appends Are old new result → Appends (λ octets. Some × Are octets) old new result
 some_appended Are Some old new (Ok u) some a = (a.0, (some, a.1), a.2)
-some_appended Are Some old new (Err e) some (inl memory) = inl memory
+some_appended Are Some old new (Err e) some (inl memory) = inl (memory.0, (memory.1.0, (some, memory.1.1)))
 some_appended Are Some old new (Err e) some (inr none) = inr (none.0, λ octets is. none.1 octets is.1)
 
 -- the octets of a name in a field of any shape
@@ -88,7 +113,7 @@ more_values index kind value kinds values old middle new u (Err (errors.WrongKin
 more_values index kind value kinds values old middle new u (Err (errors.OutOfRange i)) a b = (suc b.0, b.1 ∙ (omega arith), ((a.0, a.1), b.2))
 more_values index kind value kinds values old middle new u (Err errors.WrongCount) a b = absurd b
 more_values index kind value kinds values old middle new u (Err errors.TooLong) a b = absurd b
-more_values index kind value kinds values old middle new u (Err errors.OutOfMemory) a b = tt
+more_values index kind value kinds values old middle new u (Err errors.OutOfMemory) a b = (suc b.0, ((a.0, a.1), b.1))
 
 pub values_more : (index : ℕ) (fields : List Field) (d : Field) (values : List NewValue) (v : NewValue) (old middle new : List ℕ) (u : Unit {0}) (result : Result Unit ValueError) → 1 ≤ length fields → 1 ≤ length values
     → v ≡ get_or values 0 v → AppendsValue (get_or fields 0 d).1 v old middle (Ok u) → AppendsValues (index + 1) (kinds (drop 1 fields)) (drop 1 values) middle new result

@@ -1,5 +1,5 @@
 -- Record data that is made of values.
-use Rattle.std.proofs.Common.{◌≡◌, ◌∙◌, ℕ, ◌≤◌, ◌<◌, true, List, [], ◌++◌, length, ap, sym, subst, arith}
+use Rattle.std.proofs.Common.{◌≡◌, ◌∙◌, ℕ, suc, ◌≤◌, ◌<◌, true, List, [], ◌∷◌, ◌++◌, length, get_or, ap, sym, subst, arith, refl, zero-add}
 use Rattle.std.specs.List.{list_all}
 use Rattle.dns_wire.specs.Parts.{Part, parts_size}
 use Rattle.dns_fields.specs.DataOrders.{octets_of_parts}
@@ -10,7 +10,13 @@ use Rattle.dns_fields.specs.RecordTypes.{record_types}
 use Rattle.dns_fields.specs.Table.{Field, definitions, definitions_of, kinds, kinds_in, kinds_of}
 use Rattle.dns_fields.specs.declared.kind.Kind.{Kind}
 use Rattle.dns_fields.proofs.theory.PartOctets.{parts_length}
-use Rattle.dns_values.specs.ValueData.{AreValuesOf}
+use Rattle.dns_values.specs.Appending.{IsErrorFrom, RefusesValue, error_at}
+use Rattle.dns_values.specs.Forms.{value_form}
+use Rattle.dns_values.specs.ValueData.{AreValuesOf, HasWrongKind, HoldsFirstAt, IsErrorOf, IsOutOfRange}
+use Rattle.dns_values.specs.declared.value_error.Refusal.{Refusal}
+use Rattle.dns_values.specs.declared.value_error.Refusal.TheVariants as refusals
+use Rattle.dns_values.specs.declared.value_error.ValueError.{ValueError}
+use Rattle.dns_values.specs.declared.value_error.ValueError.TheVariants as errors
 use Rattle.dns_values.specs.declared.new_value.NewValue.{NewValue}
 use Rattle.dns_values.proofs.LaidOutValues.{type_last, values_are, values_laid}
 
@@ -29,6 +35,37 @@ whole_octets rtype fields values start octets same empty h = (
   subst (λ (ks : List Kind). AreValuesOf ks values h.0) (ap kinds_in same) h.1,
   h.2 ∙ ap (λ (xs : List ℕ). xs ++ octets_of_parts h.0) empty,
 )
+
+kinds_length : (fields : List Field) → length (kinds fields) ≡ length fields
+kinds_length [] = refl
+kinds_length (field ∷ fields) = ap suc (kinds_length fields)
+
+-- why there are no octets of the values
+pub error_is : (ks : List Kind) (values : List NewValue) (e : ValueError) → length ks ≡ length values → IsErrorFrom 0 ks values e → IsErrorOf ks values e
+error_is ks values (errors.WrongKind i) same is = (same, subst (λ (k : ℕ). HoldsFirstAt HasWrongKind ks values k) (sym (is.1 ∙ zero-add is.0)) is.2)
+error_is ks values (errors.OutOfRange i) same is = (same, subst (λ (k : ℕ). HoldsFirstAt IsOutOfRange ks values k) (sym (is.1 ∙ zero-add is.0)) is.2)
+error_is ks values errors.OutOfMemory same is = (same, is.0, is.1)
+error_is ks values errors.WrongCount same is = absurd is
+error_is ks values errors.TooLong same is = absurd is
+
+pub error_of : (rtype : ℕ) (fields : List Field) (values : List NewValue) (e : ValueError) → definitions fields ≡ definitions_of rtype → length fields ≡ length values → IsErrorFrom 0 (kinds fields) values e
+    → IsErrorOf (kinds_of rtype) values e
+error_of rtype fields values e same equal is =
+    subst (λ (ks : List Kind). IsErrorOf ks values e) (ap kinds_in same) (error_is (kinds fields) values e (kinds_length fields ∙ equal) is)
+
+-- why the first value isn't appended
+refused_as : (index : ℕ) (kind : Kind) (ks : List Kind) (value : NewValue) (values : List NewValue) (refusal : Refusal) → RefusesValue kind (value_form kind) value refusal
+    → IsErrorFrom index (kind ∷ ks) (value ∷ values) (error_at refusal index)
+refused_as index kind ks value values refusals.WrongKind is = (0, (omega arith), is)
+refused_as index kind ks value values refusals.OutOfRange is = (0, (omega arith), is)
+refused_as index kind ks value values refusals.OutOfMemory is = (0, is)
+
+pub first_refused : (index : ℕ) (fields : List Field) (d : Field) (values : List NewValue) (v : NewValue) (refusal : Refusal) → 1 ≤ length fields → 1 ≤ length values → v ≡ get_or values 0 v
+    → RefusesValue (get_or fields 0 d).1 (value_form (get_or fields 0 d).1) v refusal → IsErrorFrom index (kinds fields) values (error_at refusal index)
+first_refused index [] d values v refusal some other is refused = absurd (omega arith)
+first_refused index (field ∷ fields) d [] v refusal some other is refused = absurd (omega arith)
+first_refused index (field ∷ fields) d (value ∷ values) v refusal some other is refused =
+    refused_as index field.1 (kinds fields) value values refusal (subst (λ (w : NewValue). RefusesValue field.1 (value_form field.1) w refusal) is refused)
 
 module _ (back : MadePartsReadBack) (all : list_all (λ type. rest_is_last (kinds_in type.fields)) record_types ≡ true)
     (rtype : ℕ) (values : List NewValue) (octets : List ℕ) (h : AreOctetsOfValues rtype values octets) where

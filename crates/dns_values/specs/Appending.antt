@@ -4,8 +4,9 @@ use Rattle.dns_fields.specs.DataOrders.{octets_of_parts, part_octets}
 use Rattle.dns_fields.specs.declared.kind.Kind.{Kind}
 use Rattle.dns_wire.specs.Parts.{Part}
 use Rattle.dns_values.specs.Forms.{value_form}
-use Rattle.dns_values.specs.NewValues.{IsPartIn, takes}
-use Rattle.dns_values.specs.ValueData.{AreValuesOf, HasWrongKind, HoldsFirstAt, IsOutOfRange}
+use Rattle.dns_fields_read.specs.TypeMapWords.{IsTypeMapOf}
+use Rattle.dns_values.specs.NewValues.{IsPartIn, IsTaken, takes}
+use Rattle.dns_values.specs.ValueData.{AreValuesOf, HasWrongKind, HoldsFirstAt, IsOutOfRange, IsTakenBy}
 use Rattle.dns_values.specs.declared.form.Form.{Form}
 use Rattle.dns_values.specs.declared.new_value.NewValue.{NewValue}
 use Rattle.dns_values.specs.declared.value_error.Refusal.{Refusal}
@@ -13,17 +14,26 @@ use Rattle.dns_values.specs.declared.value_error.Refusal.TheVariants.{WrongKind,
 use Rattle.dns_values.specs.declared.value_error.ValueError.{ValueError}
 use Rattle.dns_values.specs.declared.value_error.ValueError.TheVariants as errors
 
--- octets are appended, or there are none, or an allocation fails
+-- why there are no octets: `OutOfRange`. `OutOfMemory` if an allocation fails, where there are some.
+abbrev pub Refuses : (List ℕ → Type 0) → Refusal → Type 0
+Refuses Is refusal = ((refusal ≡ OutOfMemory) × ((octets : List ℕ) × Is octets)) ⊎ ((refusal ≡ OutOfRange) × ((octets : List ℕ) → ¬ (Is octets)))
+
+-- octets are appended, or why there are none
 abbrev pub Appends : (List ℕ → Type 0) → List ℕ → List ℕ → Result Unit Refusal → Type 0
 Appends Is old new result =
     MatchResult result (λ _. (octets : List ℕ) × Is octets × (new ≡ old ++ octets))
-    (λ refusal. (refusal ≡ OutOfMemory) ⊎ ((refusal ≡ OutOfRange) × ((octets : List ℕ) → ¬ (Is octets))))
+    (Refuses Is)
+
+-- the type bit map of these types is appended, or an allocation fails
+abbrev pub AppendsMap : List ℕ → List ℕ → List ℕ → Result Unit Refusal → Type 0
+AppendsMap types old new result =
+    MatchResult result (λ _. (map : List ℕ) × IsTypeMapOf types map × (new ≡ old ++ map)) (λ refusal. refusal ≡ OutOfMemory)
 
 -- the value isn't one of a field of this kind and form, for this reason
 abbrev pub RefusesValue : Kind → Form → NewValue → Refusal → Type 0
 RefusesValue kind form value WrongKind = takes form value ≡ false
 RefusesValue kind form value OutOfRange = (takes form value ≡ true) × ((part : Part) → ¬ (IsPartIn kind form value part))
-RefusesValue kind form value OutOfMemory = Unit {0}
+RefusesValue kind form value OutOfMemory = IsTaken kind form value
 
 -- the octets of the value in a field of this kind and form are appended
 abbrev pub AppendsPart : Kind → Form → NewValue → List ℕ → List ℕ → Result Unit Refusal → Type 0
@@ -38,7 +48,7 @@ AppendsValue kind value old new result = AppendsPart kind (value_form kind) valu
 abbrev pub IsErrorFrom : ℕ → List Kind → List NewValue → ValueError → Type 0
 IsErrorFrom index kinds values (errors.WrongKind i) = (j : ℕ) × (i ≡ index + j) × HoldsFirstAt HasWrongKind kinds values j
 IsErrorFrom index kinds values (errors.OutOfRange i) = (j : ℕ) × (i ≡ index + j) × HoldsFirstAt IsOutOfRange kinds values j
-IsErrorFrom index kinds values errors.OutOfMemory = Unit {0}
+IsErrorFrom index kinds values errors.OutOfMemory = (j : ℕ) × HoldsFirstAt IsTakenBy kinds values j
 IsErrorFrom index kinds values error = ⊥
 
 -- the octets of the values are appended

@@ -117,3 +117,8 @@ takes forms.Parameters (values.Octets octets) = true
 takes forms.Prefixes (values.Octets octets) = true
 takes forms.Rest (values.Octets octets) = true
 takes form value = false
+
+-- the field of this form takes the value; each list of record types has a type bit map
+abbrev pub IsTaken : Kind → Form → NewValue → Type 0
+IsTaken kind form (values.Types types) = takes form (values.Types types) ≡ true
+IsTaken kind form value = (part : Part) × IsPartIn kind form value part

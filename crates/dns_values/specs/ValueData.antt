@@ -7,7 +7,7 @@ use Rattle.dns_fields.specs.declared.kind.Kind.{Kind}
 use Rattle.dns_fields.specs.declared.owned.OwnedFieldData.{OwnedFieldData}
 use Rattle.dns_wire.specs.Parts.{Part, parts_size}
 use Rattle.dns_values.specs.Forms.{value_form}
-use Rattle.dns_values.specs.NewValues.{IsValueOf, takes}
+use Rattle.dns_values.specs.NewValues.{IsTaken, IsValueOf, takes}
 use Rattle.dns_values.specs.declared.new_value.NewValue.{NewValue}
 use Rattle.dns_values.specs.declared.value_error.ValueError.{ValueError}
 use Rattle.dns_values.specs.declared.value_error.ValueError.TheVariants.{WrongCount, WrongKind, OutOfRange, TooLong, OutOfMemory}
@@ -32,13 +32,17 @@ HasWrongKind kind value = takes (value_form kind) value ≡ false
 abbrev pub IsOutOfRange : Kind → NewValue → Type 0
 IsOutOfRange kind value = (takes (value_form kind) value ≡ true) × ((part : Part) → ¬ (IsValueOf kind value part))
 
--- why there is no record data with these values in these fields
+-- the field takes this value
+abbrev pub IsTakenBy : Kind → NewValue → Type 0
+IsTakenBy kind value = IsTaken kind (value_form kind) value
+
+-- Why there is no record data with these values in these fields. An allocation fails at a value that its field takes.
 abbrev pub IsErrorOf : List Kind → List NewValue → ValueError → Type 0
 IsErrorOf kinds values WrongCount = length kinds ≢ length values
 IsErrorOf kinds values (WrongKind i) = (length kinds ≡ length values) × HoldsFirstAt HasWrongKind kinds values i
 IsErrorOf kinds values (OutOfRange i) = (length kinds ≡ length values) × HoldsFirstAt IsOutOfRange kinds values i
 IsErrorOf kinds values TooLong = (parts : List Part) × AreValuesOf kinds values parts × (most < parts_size parts)
-IsErrorOf kinds values OutOfMemory = Unit {0}
+IsErrorOf kinds values OutOfMemory = (length kinds ≡ length values) × (i : ℕ) × HoldsFirstAt IsTakenBy kinds values i
 
 -- record data of this type with these values, or why there is none
 abbrev pub MakesData : ℕ → List NewValue → Result OwnedFieldData ValueError → Type 0

@@ -1,10 +1,10 @@
 //! Lists of values (RFC 1035 section 3.3.14, RFC 9460 section 2.2, RFC 3123 section 4).
-ghost use Rattle.std.specs.Prelude.{◌≡◌, ◌≤◌, ◌++◌, length, IfErr, OnOk};
+ghost use Rattle.std.specs.Prelude.{◌≡◌, ◌↔◌, ◌≤◌, ◌++◌, IsTrue, length, IfErr, OnOk};
 ghost use Rattle.dns_fields_text.specs.ParameterItems.{two_octets};
 ghost use Rattle.dns_fields_read.specs.Base32Words.{last_octets};
 ghost use Rattle.dns_fields_read.specs.LengthOctets.{sized};
-ghost use Rattle.dns_fields_read.specs.TypeMapWords.{IsTypeMapOf};
-ghost use Rattle.dns_values.specs.Appending.{Appends};
+ghost use Rattle.dns_fields_read.specs.Reading.{HasValue};
+ghost use Rattle.dns_values.specs.Appending.{Appends, AppendsMap, Refuses};
 ghost use Rattle.dns_values.specs.NewValues.{AreParametersIn, ArePrefixesIn, AreStringsIn, IsParameterIn, IsPrefixIn, IsStringIn};
 ghost use Rattle.dns_values.specs.declared.value_error.Refusal.TheVariants.{OutOfMemory};
 
@@ -24,7 +24,10 @@ pub(crate) fn push_counted(octets: &mut Vec<u8>, string: &[u8]) -> Result<(), Re
     if octets.push(string.len() as u8).is_err() {
         return Err(Refusal::OutOfMemory);
     }
-    push(octets, string)
+    if let Err(refusal) = push(octets, string) {
+        return Err(refusal);
+    }
+    Ok(())
 }
 
 /// Appends octets.
@@ -57,12 +60,26 @@ fn push_two(octets: &mut Vec<u8>, number: u16) -> Result<(), Refusal>
     push(octets, &[(number / 256) as u8, (number % 256) as u8])
 }
 
+/// Why strings aren't appended when appending one of them fails.
+fn strings_refusal(strings: &[&[u8]]) -> Refusal
+    ensures { Refuses (AreStringsIn strings.now) result }
+{
+    for string in strings {
+        if string.len() >= 256 {
+            return Refusal::OutOfRange;
+        }
+    }
+    Refusal::OutOfMemory
+}
+
 /// Appends character strings.
 pub(crate) fn push_strings(octets: &mut Vec<u8>, strings: &[&[u8]]) -> Result<(), Refusal>
     ensures { Appends (AreStringsIn strings.now) octets.old.items octets.new.items result }
 {
     for string in strings {
-        push_counted(octets, string)?;
+        let Ok(()) = push_counted(octets, string) else {
+            return Err(strings_refusal(strings));
+        };
     }
     Ok(())
 }
@@ -75,19 +92,54 @@ pub(crate) fn push_sized(octets: &mut Vec<u8>, more: &[u8]) -> Result<(), Refusa
     if more.len() > 65535 {
         return Err(Refusal::OutOfRange);
     }
-    push_two(octets, more.len() as u16)?;
-    push(octets, more)
+    if let Err(refusal) = push_two(octets, more.len() as u16) {
+        return Err(refusal);
+    }
+    if let Err(refusal) = push(octets, more) {
+        return Err(refusal);
+    }
+    Ok(())
+}
+
+/// Whether the key is at least `least`, and the value has at most 65,535 octets.
+fn is_parameter(least: u32, parameter: &(u16, &[u8])) -> bool
+    ensures { IsTrue result ↔ HasValue (IsParameterIn least parameter.now) }
+{
+    if u32::from(parameter.0) < least {
+        return false;
+    }
+    parameter.1.len() <= 65535
 }
 
 /// Appends a service parameter whose key is at least `least`.
 fn push_parameter(octets: &mut Vec<u8>, least: u32, parameter: &(u16, &[u8])) -> Result<(), Refusal>
     ensures { Appends (IsParameterIn least parameter.now) octets.old.items octets.new.items result }
 {
-    if u32::from(parameter.0) < least {
+    if !is_parameter(least, parameter) {
         return Err(Refusal::OutOfRange);
     }
-    push_two(octets, parameter.0)?;
-    push_sized(octets, parameter.1)
+    if let Err(refusal) = push_two(octets, parameter.0) {
+        return Err(refusal);
+    }
+    if let Err(refusal) = push_sized(octets, parameter.1) {
+        return Err(refusal);
+    }
+    Ok(())
+}
+
+/// Why service parameters aren't appended when appending one of them fails.
+fn parameters_refusal(parameters: &[(u16, &[u8])]) -> Refusal
+    ensures { Refuses (AreParametersIn 0 parameters.now) result }
+{
+    let mut least: u32 = 0;
+    for parameter in parameters {
+        if !is_parameter(least, parameter) {
+            return Refusal::OutOfRange;
+        }
+        let key = u32::from(parameter.0);
+        least = key + 1;
+    }
+    Refusal::OutOfMemory
 }
 
 /// Appends service parameters by increasing keys.
@@ -99,23 +151,53 @@ pub(crate) fn push_parameters(
 {
     let mut least: u32 = 0;
     for parameter in parameters {
-        push_parameter(octets, least, parameter)?;
+        let Ok(()) = push_parameter(octets, least, parameter) else {
+            return Err(parameters_refusal(parameters));
+        };
         least = u32::from(parameter.0) + 1;
     }
     Ok(())
+}
+
+/// Whether the address has at most 127 octets.
+fn is_prefix(prefix: &AddressPrefix<'_>) -> bool
+    ensures { IsTrue result ↔ HasValue (IsPrefixIn prefix.now) }
+{
+    // A proof knows the range of a field that is read.
+    let _family = prefix.family;
+    prefix.address.len() <= 127
 }
 
 /// Appends an address prefix.
 fn push_prefix(octets: &mut Vec<u8>, prefix: &AddressPrefix<'_>) -> Result<(), Refusal>
     ensures { Appends (IsPrefixIn prefix.now) octets.old.items octets.new.items result }
 {
-    if prefix.address.len() > 127 {
+    if !is_prefix(prefix) {
         return Err(Refusal::OutOfRange);
     }
-    push_two(octets, prefix.family)?;
+    if let Err(refusal) = push_two(octets, prefix.family) {
+        return Err(refusal);
+    }
     let sign: u8 = if prefix.negated { 128 } else { 0 };
-    push(octets, &[prefix.size, sign + prefix.address.len() as u8])?;
-    push(octets, prefix.address)
+    if let Err(refusal) = push(octets, &[prefix.size, sign + prefix.address.len() as u8]) {
+        return Err(refusal);
+    }
+    if let Err(refusal) = push(octets, prefix.address) {
+        return Err(refusal);
+    }
+    Ok(())
+}
+
+/// Why address prefixes aren't appended when appending one of them fails.
+fn prefixes_refusal(prefixes: &[AddressPrefix<'_>]) -> Refusal
+    ensures { Refuses (ArePrefixesIn prefixes.now) result }
+{
+    for prefix in prefixes {
+        if !is_prefix(prefix) {
+            return Refusal::OutOfRange;
+        }
+    }
+    Refusal::OutOfMemory
 }
 
 /// Appends address prefixes.
@@ -126,7 +208,9 @@ pub(crate) fn push_prefixes(
     ensures { Appends (ArePrefixesIn prefixes.now) octets.old.items octets.new.items result }
 {
     for prefix in prefixes {
-        push_prefix(octets, prefix)?;
+        let Ok(()) = push_prefix(octets, prefix) else {
+            return Err(prefixes_refusal(prefixes));
+        };
     }
     Ok(())
 }
@@ -137,7 +221,7 @@ pub(crate) fn push_types(
     octets: &mut Vec<u8>,
     types: &[Rtype],
 ) -> Result<(), Refusal>
-    ensures { Appends (IsTypeMapOf types.now) octets.old.items octets.new.items result }
+    ensures { AppendsMap types.now octets.old.items octets.new.items result }
 {
     let mut numbers = Vec::new(alloc);
     for rtype in types {

@@ -72,7 +72,9 @@ pub fn from_values(
         return Err(ValueError::WrongCount);
     }
     let mut octets = Vec::new(alloc);
-    push_values(alloc, &mut octets, fields, values, 0)?;
+    if let Err(error) = push_values(alloc, &mut octets, fields, values, 0) {
+        return Err(error);
+    }
     if octets.len() > MOST {
         return Err(ValueError::TooLong);
     }

@@ -34,7 +34,10 @@ fn push_address(octets: &mut Vec<u8>, address: &[u8], size: usize) -> Result<(),
     if address.len() != size {
         return Err(Refusal::OutOfRange);
     }
-    push(octets, address)
+    if let Err(refusal) = push(octets, address) {
+        return Err(refusal);
+    }
+    Ok(())
 }
 
 /// Appends octets that are a field of this kind.

@@ -4,6 +4,7 @@ use Rattle.dns_fields.specs.Table.{Field, kinds}
 use Rattle.dns_values.specs.Appending.{AppendsValues}
 use Rattle.dns_values.specs.declared.new_value.NewValue.{NewValue}
 use Rattle.dns_values.proofs.AppendLemmas.{values_more}
+use Rattle.dns_values.proofs.MadeLemmas.{first_refused}
 use Rattle.dns_values.proofs.made.+push_values.Goals as goal
 
 pub returns-in-Ok : goal.returns-in-Ok
@@ -16,3 +17,8 @@ returns-in-Ok t c =
     c.push_values.ensures) in
     values_more c.args.index fields _ values c.value-item.result c.args.octets.now.items c.push_value.new.octets.items c.push_values.new.octets.items c.in-Ok.field-0 c.push_values.result c.in-len1-up.len_at_least c.in-len1-up-values.len_at_least
     c.value-item.is c.in-Ok.ensures others
+
+pub returns-in-Err : goal.returns-in-Err
+returns-in-Err t c =
+    rw c.error_at.ensures
+    (first_refused c.args.index c.args.fields.now _ c.args.values.now c.value-item.result c.in-Err.refusal c.in-len1-up.len_at_least c.in-len1-up-values.len_at_least c.value-item.is c.in-Err.ensures)
