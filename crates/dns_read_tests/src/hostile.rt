@@ -3,8 +3,9 @@
 //! RDATA and searches that are written here from RFC 1035 and RFC 6891 alone.
 //!
 //! The tests are here, over `messages`. `data`, `searches`, `sections` and `walks` compare what
-//! they are named after, by `asserts`. `plain` has what `dns_plain` reads; `plain_data` and
-//! `plain_searches` are the RDATA and the searches. A failure prints the name of the message.
+//! they are named after, by `asserts`. `plain` has what `dns_plain` reads; `plain_data`,
+//! `plain_searches` and `plain_lines` are the RDATA, the searches and the printed lines. A failure
+//! prints the name of the message.
 
 mod asserts;
 mod buffer;
@@ -13,6 +14,7 @@ mod given;
 mod messages;
 mod plain;
 mod plain_data;
+mod plain_lines;
 mod plain_searches;
 mod searches;
 mod sections;
@@ -23,6 +25,7 @@ use crate::hostile::messages::{
     BOUNDS, NAME_IN_DATA, OPT, POSITIVE_RESPONSE, REPLACEMENTS, long_question, random_message,
 };
 use crate::hostile::plain::Plain;
+use crate::hostile::plain_lines::lines_of;
 use crate::hostile::plain_searches::line_count;
 use crate::hostile::searches::{
     assert_copies, assert_distinguished, assert_question_searches, assert_record_searches,
@@ -49,7 +52,7 @@ fn digits_of(octets: &[u8]) -> ArrayVec<u8, 1024> {
     digits
 }
 
-/// Fails unless `dnsmsg show` prints the expected number of lines.
+/// Fails unless `dnsmsg show` prints the expected lines.
 fn assert_shows(rt: &impl Abort, alloc: Global, row: &str, plain: &Plain<'_>) {
     let word = String::from_str(alloc, "show").expect(rt, row);
     let digits = digits_of(plain.octets);
@@ -60,7 +63,8 @@ fn assert_shows(rt: &impl Abort, alloc: Global, row: &str, plain: &Plain<'_>) {
         digits.as_slice(),
         &mut output,
     );
-    let lines = str::from_utf8(&output).expect(rt, row).lines().count();
+    let text = str::from_utf8(&output).expect(rt, row);
+    let lines = text.lines().count();
     assert_same(
         rt,
         row,
@@ -68,6 +72,8 @@ fn assert_shows(rt: &impl Abort, alloc: Global, row: &str, plain: &Plain<'_>) {
         (status, lines),
         (0, line_count(plain)),
     );
+    let expected = lines_of(rt, alloc, plain);
+    assert_same(rt, row, "text", text, expected.as_str());
 }
 
 /// Fails unless each result of the library is that of the plain reader.

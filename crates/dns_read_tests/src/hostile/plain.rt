@@ -104,7 +104,12 @@ pub(crate) struct Reading<'a> {
     pub(crate) start_after: Result<usize, ParseError>,
 }
 
-impl Reading<'_> {
+impl<'a> Reading<'a> {
+    /// The remaining entries, each with the offset after it, and the error after them.
+    pub(crate) fn items(&self) -> &'a [Located<Entry>] {
+        self.items
+    }
+
     /// The next entry, or the error of the first that can't be read, after which there are no more.
     pub(crate) fn next(&mut self) -> Option<Result<Entry, ParseError>> {
         let (first, items) = self.items.split_first()?;
