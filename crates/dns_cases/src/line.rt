@@ -1,14 +1,24 @@
 //! The lines of a case.
+ghost use Rattle.std.specs.Prelude.{◌≡◌, ◌==◌, ◌++◌, MatchOption, OnOk};
+ghost use Rattle.std.specs.List.{after_first, before_first, repeat};
+ghost use Rattle.dns_cases.specs.Line.{BeginsNoCase, IsCase};
+
 use std::alloc::{AllocError, Global};
 
 /// The name of a case, and its lines. `None` if a block is no case.
-pub fn case_of<'a, 'b>(block: &'b [&'a str]) -> Option<(&'a str, &'b [&'a str])> {
+pub fn case_of<'a, 'b>(block: &'b [&'a str]) -> Option<(&'a str, &'b [&'a str])>
+    ensures { MatchOption result (BeginsNoCase block.now)
+        (λ parts. IsCase block.now parts.0.now parts.1.now) }
+{
     let (first, lines) = block.split_first()?;
     Some((first.strip_prefix("case ")?, lines))
 }
 
 /// The key of a line, and what is after the space that follows it.
-pub fn key_of<'a>(line: &'a str) -> (&'a str, &'a str) {
+pub fn key_of<'a>(line: &'a str) -> (&'a str, &'a str)
+    ensures key { result.0.now ≡ before_first (λ octet. octet == 32) line.now }
+    ensures text { result.1.now ≡ after_first (λ octet. octet == 32) line.now }
+{
     line.split_once(' ').unwrap_or((line, ""))
 }
 
@@ -27,7 +37,9 @@ pub fn octets_of(alloc: Global, words: &str) -> Result<Option<Vec<u8>>, AllocErr
 }
 
 /// Appends octets this many times.
-pub fn push_times(octets: &mut Vec<u8>, part: &[u8], count: u32) -> Result<(), AllocError> {
+pub fn push_times(octets: &mut Vec<u8>, part: &[u8], count: u32) -> Result<(), AllocError>
+    ensures { OnOk result (octets.new.items ≡ octets.old.items ++ repeat count part.now) }
+{
     for _ in 0..count {
         octets.extend_from_slice(part)?;
     }

@@ -1,6 +1,7 @@
 //! The report on cases.
-ghost use Rattle.std.specs.Prelude.{◌≡◌, ◌≢◌};
-ghost use Rattle.dns_cases.specs.Report.{next};
+ghost use Rattle.std.specs.Prelude.{◌≡◌, ◌≢◌, OnOk};
+ghost use Rattle.std.specs.Io.KnownBytes.{Appends};
+ghost use Rattle.dns_cases.specs.Report.{counts_text, next};
 
 use std::io;
 use std::io::Write;
@@ -73,18 +74,26 @@ impl<'a, W: Write + Drop> Report<'a, W> {
     }
 
     /// Prints the counts, if there was a case.
-    pub fn finish(self) -> io::Result<()> {
-        let (mut writer, counts) = (self.writer, self.counts);
-        if counts.cases > 0 {
-            let (cases, checks) = (counts.cases, counts.checks);
-            writeln!(
-                writer,
-                "{cases} cases, {checks} checks, {} failed",
-                counts.failures
-            )?;
-        }
-        writer.flush()
+    pub fn finish(&mut self) -> io::Result<()>
+        ensures text { OnOk result (Appends (W.contents self.old.writer)
+            (W.contents self.new.writer) (counts_text self.old.counts)) }
+        ensures same { self.new.counts ≡ self.old.counts }
+    {
+        print_counts(&mut self.writer, self.counts)?;
+        self.writer.flush()
     }
+}
+
+/// Prints the counts, if there was a case.
+fn print_counts<W: Write>(writer: &mut W, counts: Counts) -> io::Result<()>
+    ensures { OnOk result (Appends (W.contents writer.old) (W.contents writer.new)
+        (counts_text counts)) }
+{
+    let (cases, checks, failures) = (counts.cases, counts.checks, counts.failures);
+    if cases > 0 {
+        writeln!(writer, "{cases} cases, {checks} checks, {failures} failed")?;
+    }
+    Ok(())
 }
 
 /// What is printed for octets that have no further line.

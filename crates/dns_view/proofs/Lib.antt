@@ -5,5 +5,8 @@ mod PageForms
 mod PageIds
 mod PageLines
 mod PageTexts
+mod Printables
+mod PrintableTexts
+mod StyleRules
 mod TextLines
 mod Viewed

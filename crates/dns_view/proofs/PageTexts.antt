@@ -7,6 +7,7 @@ use Rattle.std.proofs.lemmas.Grind.{flat_map-append}
 use Rattle.std.proofs.lemmas.List.Folds.{flat_map-map}
 use Rattle.std.proofs.lemmas.List.{take_more}
 use Rattle.std.specs.Io.KnownBytes.{Appends}
+use Rattle.dns_view.specs.Printable.{are_printable}
 use Rattle.dns_view.specs.Printed.{Prints, PrintsEach}
 use Rattle.dns_rows.specs.declared.row.Row.{Row}
 use Rattle.dns_view.proofs.Appended.{appends_both, appends_none, appends_same, on_ok, printed_both, printed_same}
@@ -70,9 +71,9 @@ arrow_pieces from target = four (codes " style=--p:") (decimal from) (codes ",")
 
 -- a line of the list, as one row, is printed after what precedes it
 pub list_row_printed : {X E : Type 0} (r : Result X E) (a b c : Option (List ℕ)) (brief : Bool) (message : List ℕ) (line row : Row) (words : List ℕ)
-    → row ≡ line → Appends a b (part_start row) → OnOk r (Appends b c (row_text brief message row words)) → OnOk r (Prints (IsListRow brief message line) a c)
-list_row_printed r a b c brief message line row words is before printed =
-    subst (λ (shown : Row). OnOk r (Prints (IsListRow brief message shown) a c)) is (on_ok r (λ ends. (_, (words, refl), appends_both a b c _ _ before ends)) printed)
+    → row ≡ line → are_printable words ≡ true → Appends a b (part_start row) → OnOk r (Appends b c (row_text brief message row words)) → OnOk r (Prints (IsListRow brief message line) a c)
+list_row_printed r a b c brief message line row words is printable before printed =
+    subst (λ (shown : Row). OnOk r (Prints (IsListRow brief message shown) a c)) is (on_ok r (λ ends. (_, (words, printable, refl), appends_both a b c _ _ before ends)) printed)
 
 -- texts for items are texts for what they stand for
 zip_mapped : {X Y : Type 0} (IsText : Y → List ℕ → Type 0) (f : X → Y) (xs : List X) (texts : List (List ℕ)) → AllZip (λ x. IsText (f x)) xs texts → AllZip IsText (map f xs) texts
@@ -82,10 +83,10 @@ zip_mapped IsText f (x ∷ xs) [] h = h
 zip_mapped IsText f (x ∷ xs) (text ∷ texts) h = (h.0, zip_mapped IsText f xs texts h.1)
 
 module _ {X E : Type 0} (r : Result X E) (a b c d e f g : Option (List ℕ)) where
-  pub page_printed : (brief : Bool) (message : List ℕ) (rows : List Row) (made : List Line) (title : List ℕ) → map line_of made ≡ lines brief rows → Appends a b (top_text title) → Appends b c (opening_text rows)
+  pub page_printed : (brief : Bool) (message : List ℕ) (rows : List Row) (made : List Line) (title : List ℕ) → map line_of made ≡ lines brief rows → are_printable title ≡ true → Appends a b (top_text title) → Appends b c (opening_text rows)
       → Appends c d (flat_map (λ line. line_cells message (line_of line)) made) → Appends d e (codes "\n</div>\n<div class=list>\n<p>") → PrintsEach (λ line. IsListRow brief message (line_row (line_of line))) made e f
       → OnOk r (Appends f g (codes "\n</div>\n</main>\n</body>\n</html>\n")) → OnOk r (Prints (IsPageOf brief message rows) a g)
-  page_printed brief message rows made title are top opened printed closed listed ended =
+  page_printed brief message rows made title are printable top opened printed closed listed ended =
       let grid : flat_map (λ line. line_cells message (line_of line)) made ≡ flat_map (line_cells message) (lines brief rows) =
       sym (flat_map-map (line_cells message) line_of made) ∙ ap (flat_map (line_cells message)) are in
       let cells : Appends c d (flat_map (line_cells message) (lines brief rows)) = appends_same c d _ _ grid printed in
@@ -95,6 +96,6 @@ module _ {X E : Type 0} (r : Result X E) (a b c d e f g : Option (List ℕ)) whe
       on_ok r
       (λ ends. (
         _,
-        record { title = title; list = listed.0; are_rows = shown; is = refl },
+        record { title = title; printable = printable; list = listed.0; are_rows = shown; is = refl },
         appends_both a f g _ _ (appends_both a e f _ _ (appends_both a d e _ _ (appends_both a c d _ _ (appends_both a b c _ _ top opened) cells) closed) listed.2) ends,
       )) ended

@@ -1,5 +1,5 @@
 -- The lines of a row.
-use Rattle.std.proofs.Common.{◌≡◌, ◌∙◌, ℕ, ◌+◌, ◌-◌, ◌^◌, ◌<◌, ◌≤◌, false, List, [], ◌∷◌, ◌++◌, take, drop, length, All, Option, get_or, zero, suc, refl, ap, sym, arith, codes, append_assoc, append-nil}
+use Rattle.std.proofs.Common.{◌≡◌, ◌∙◌, ℕ, ◌+◌, ◌-◌, ◌^◌, ◌<◌, ◌≤◌, true, false, List, [], ◌∷◌, ◌++◌, take, drop, length, All, Option, get_or, zero, suc, refl, ap, sym, arith, codes, append_assoc, append-nil}
 use Rattle.std.specs.Fmt.{char_count, decimal, format_spec, padded_integral}
 use Rattle.std.specs.List.{flat_map, repeat}
 use Rattle.std.proofs.lemmas.Grind.{flat_map-append}
@@ -8,6 +8,7 @@ use Rattle.std.proofs.Math.Nat.{sub_self}
 use lib.Utf8.{encode}
 use Rattle.dns_view.specs.Printed.{Prints}
 use Rattle.dns_view.specs.Digits.{octet_text}
+use Rattle.dns_view.specs.Printable.{are_printable}
 use Rattle.dns_view.specs.Texts.{columns, digits_text, line_octets, line_text, offset_text, spaces, IsLines, IsShort, Line}
 use Rattle.dns_view.proofs.Appended.{appends_both, appends_same}
 use Rattle.std.specs.Io.KnownBytes.{Appends}
@@ -72,16 +73,16 @@ none_done offset octets old new h = record {
 }
 
 -- one line more is printed
-pub one_done : (offset : ℕ) (whole left octets after words : List ℕ) (a b c d : Option (List ℕ)) → Underway offset whole left a b → left ≡ octets ++ after → length octets ≤ line_octets → length words ≤ columns
+pub one_done : (offset : ℕ) (whole left octets after words : List ℕ) (a b c d : Option (List ℕ)) → Underway offset whole left a b → left ≡ octets ++ after → length octets ≤ line_octets → length words ≤ columns → are_printable words ≡ true
     → Appends b c (line_text record { octets = octets; words = words }) → Appends c d (codes "       ") → Underway offset whole after a d
-one_done offset whole left octets after words a b c d u parts few fits h k =
+one_done offset whole left octets after words a b c d u parts few fits printable h k =
     let line : Line = record { octets = octets; words = words } in
     let head = offset_text offset ++ codes " " in
     let texts = flat_map (λ (l : Line). line_text l ++ spaces 7) u.done in
     record {
       done = u.done ++ line ∷ [];
       octets = all_octets u.done line left after whole parts u.octets;
-      short = All-push IsShort u.done line u.short record { octets = few; words = fits };
+      short = All-push IsShort u.done line u.short record { octets = few; words = fits; printable = printable };
       appended = appends_same a d (head ++ texts ++ line_text line ++ codes "       ") _
           (append_assoc (head ++ texts) (line_text line) (spaces 7) ∙ append_assoc head texts (line_text line ++ spaces 7) ∙ ap (λ l. head ++ l) (sym (flat_map_last (λ l. line_text l ++ spaces 7) u.done line)))
           (appends_both a c d (head ++ texts ++ line_text line) _ (appends_both a b c (head ++ texts) _ u.appended h) k);
@@ -100,14 +101,14 @@ lines_of offset whole (first ∷ more) last e short = record {
 }
 
 -- the last line is printed
-pub last_done : (offset : ℕ) (whole left octets after words : List ℕ) (a b c : Option (List ℕ)) → Underway offset whole left a b → left ≡ octets ++ after → after ≡ [] → length octets ≤ line_octets → length words ≤ columns
+pub last_done : (offset : ℕ) (whole left octets after words : List ℕ) (a b c : Option (List ℕ)) → Underway offset whole left a b → left ≡ octets ++ after → after ≡ [] → length octets ≤ line_octets → length words ≤ columns → are_printable words ≡ true
     → Appends b c (line_text record { octets = octets; words = words }) → Prints (IsLines offset whole) a c
-last_done offset whole left octets after words a b c u parts none few fits h =
+last_done offset whole left octets after words a b c u parts none few fits printable h =
     let line : Line = record { octets = octets; words = words } in
     let head = offset_text offset ++ codes " " in
     let texts = flat_map (λ (l : Line). line_text l ++ spaces 7) u.done in
     let all = sym (append-nil (flat_map (λ (l : Line). l.octets) (u.done ++ line ∷ []))) ∙ ap (λ (l : List ℕ). flat_map (λ (l : Line). l.octets) (u.done ++ line ∷ []) ++ l) (sym none) ∙ all_octets u.done line left after whole parts u.octets in (
       head ++ (texts ++ line_text line),
-      lines_of offset whole u.done line all (All-push IsShort u.done line u.short record { octets = few; words = fits }),
+      lines_of offset whole u.done line all (All-push IsShort u.done line u.short record { octets = few; words = fits; printable = printable }),
       appends_same a c (head ++ texts ++ line_text line) _ (append_assoc head texts (line_text line)) (appends_both a b c (head ++ texts) _ u.appended h),
     )

@@ -1,9 +1,13 @@
 pub mod Digits
+pub mod Failures
 pub mod Heads
 pub mod Joined
 pub mod Links
+pub mod Options
 pub mod Pages
+pub mod Printable
 pub mod Printed
 pub mod Requests
+pub mod Summaries
 pub mod Texts
 pub mod Viewing

@@ -1,9 +1,10 @@
--- What `print_page` prints for rows. The words for their meanings, and those of the title, are left open.
+-- What `print_page` prints for rows. The words for their meanings, and those of the title, are left open, but they are printable ASCII.
 use Rattle.std.specs.Prelude.{◌≡◌, ℕ, ◌<◌, ◌≤◌, true, false, ◌+◌, ◌-◌, ◌*◌, ◌/◌, ◌%◌, ◌==◌, ◌&&◌, nat_le, nat_lt, max, take, Bool, if◌then◌else◌, List, [], ◌∷◌, ◌++◌, length, count_by, codes, decimal}
 use Rattle.std.specs.List.{concat, enumerate_from, flat_map, AllZip}
 use Rattle.dns_code.specs.HeaderSection.{header_size}
 use Rattle.dns_rows.specs.Rows.{is_item, is_pointer, row_octets, target_in}
 use Rattle.dns_view.specs.Digits.{hexadecimal, octet_text}
+use Rattle.dns_view.specs.Printable.{are_printable}
 use Rattle.dns_view.specs.Joined.{joined, line_row, line_rows, lines, PageLine}
 use Rattle.dns_rows.specs.declared.row.Row.{Row}
 use Rattle.dns_rows.specs.declared.row.Kind.{Kind}
@@ -170,13 +171,18 @@ part_start row = if row.start / 64 == row.end / 64 then [] else codes "\n<p>"
 abbrev pub row_text : Bool → List ℕ → Row → List ℕ → List ℕ
 row_text brief message row words = if length (row_octets message row) == 0 then heading_row_text row words else field_row_text brief message row words
 
--- a row of the list, with some words, and what precedes it
+-- a row of the list, with some words in printable ASCII, and what precedes it
 abbrev pub IsListRow : Bool → List ℕ → Row → List ℕ → Type 0
-IsListRow brief message row text = (words : List ℕ) × (text ≡ part_start row ++ row_text brief message row words)
+IsListRow brief message row text = (words : List ℕ) × (are_printable words ≡ true) × (text ≡ part_start row ++ row_text brief message row words)
 
--- the text of a page, which may be brief: a title of some words, the grid with the cells of all lines, and the list of the lines, each as one row
+-- a line of the list, as one row
+abbrev pub IsListLine : Bool → List ℕ → PageLine → List ℕ → Type 0
+IsListLine brief message line text = IsListRow brief message (line_row line) text
+
+-- the text of a page, which may be brief: a title of some words in printable ASCII, the grid with the cells of all lines, and the list of the lines, each as one row
 pub record IsPageOf (brief : Bool) (message : List ℕ) (rows : List Row) (text : List ℕ) : Type 0 where
   pub title : List ℕ
+  pub printable : are_printable title ≡ true
   pub list : List (List ℕ)
   pub are_rows : AllZip (IsListRow brief message) (joined brief rows) list
   pub is : text ≡ top_text title ++ opening_text rows ++ flat_map (line_cells message) (lines brief rows) ++ codes "\n</div>\n<div class=list>\n<p>" ++ concat list ++ codes "\n</div>\n</main>\n</body>\n</html>\n"

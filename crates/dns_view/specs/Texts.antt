@@ -1,8 +1,9 @@
--- What `print_text` prints for rows. The words for their meanings are left open.
-use Rattle.std.specs.Prelude.{◌≡◌, ℕ, ◌-◌, ◌*◌, ◌≤◌, List, [], ◌∷◌, ◌++◌, length, replicate, All, MatchBool, codes, decimal}
+-- What `print_text` prints for rows. The words for their meanings are left open, but they are printable ASCII.
+use Rattle.std.specs.Prelude.{◌≡◌, true, ℕ, ◌-◌, ◌*◌, ◌≤◌, List, [], ◌∷◌, ◌++◌, length, replicate, All, MatchBool, codes, decimal}
 use Rattle.std.specs.List.{flat_map}
 use Rattle.dns_rows.specs.Rows.{is_item, row_octets}
 use Rattle.dns_view.specs.Digits.{octet_text}
+use Rattle.dns_view.specs.Printable.{are_printable}
 use Rattle.dns_rows.specs.declared.row.Row.{Row}
 
 -- the octets on a line, at most
@@ -34,10 +35,11 @@ pub record Line : Type 0 where
   pub octets : List ℕ
   pub words : List ℕ
 
--- a line has at most eight octets, and at most 46 columns of words
+-- a line has at most eight octets, and at most 46 columns of words, in printable ASCII
 pub record IsShort (line : Line) : Type 0 where
   pub octets : length line.octets ≤ line_octets
   pub words : length line.words ≤ columns
+  pub printable : are_printable line.words ≡ true
 
 -- words after `count` octets, always from the same column; nothing if there are none
 abbrev pub words_text : ℕ → List ℕ → List ℕ
@@ -56,9 +58,9 @@ pub record IsLines (offset : ℕ) (octets text : List ℕ) : Type 0 where
   pub short : All IsShort (first ∷ others)
   pub is : text ≡ offset_text offset ++ codes " " ++ line_text first ++ flat_map (λ line. spaces 7 ++ line_text line) others
 
--- some words and a line feed
+-- some words in printable ASCII, and a line feed
 abbrev pub IsWords : List ℕ → Type 0
-IsWords text = (words : List ℕ) × (text ≡ words ++ 10 ∷ [])
+IsWords text = (words : List ℕ) × (are_printable words ≡ true) × (text ≡ words ++ 10 ∷ [])
 
 -- the text of a row: words alone where an item begins, else its octets from its offset on
 abbrev pub IsRowText : List ℕ → Row → List ℕ → Type 0

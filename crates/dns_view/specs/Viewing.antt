@@ -1,5 +1,5 @@
 -- What `dnsview` does with its arguments and its input.
-use Rattle.std.specs.Prelude.{◌≡◌, ℕ, ◌<◌, ◌≤◌, ◌%◌, ◌||◌, ◌⊎◌, ⊤, Bool, true, if◌then◌else◌, nat_lt, List, [], ◌∷◌, ◌++◌, length, MatchBool, Option, Some, None, Ok, codes, string_bytes}
+use Rattle.std.specs.Prelude.{◌≡◌, ℕ, ◌<◌, ◌≤◌, ◌%◌, ◌||◌, ◌⊎◌, ⊤, Bool, true, if◌then◌else◌, nat_lt, List, [], ◌∷◌, ◌++◌, length, All, IsTrue, MatchBool, Option, Some, None, Ok, codes, string_bytes}
 use Rattle.std.specs.Char.{is_ascii_hexdigit, is_ascii_whitespace}
 use Rattle.std.specs.Io.KnownBytes.{Appends, Keeps}
 use Rattle.std.specs.List.{list_all}
@@ -7,10 +7,12 @@ use Rattle.hex.specs.Hex.{decode_of}
 use Rattle.dns_code.specs.HeaderSection.{header_size}
 use Rattle.dns_tool.specs.Hex.{unspaced}
 use Rattle.dns_lines.specs.ZoneLines.{zone_lines}
+use Rattle.dns_value_text.specs.String.{quoted}
 use Rattle.dns_rows.specs.Shown.{short_header, ShowsMessage}
 use Rattle.dns_rows.specs.Tiles.{Tiles}
 use Rattle.dns_rows.specs.declared.row.Row.{Row}
 use Rattle.dns_view.specs.Pages.{IsPage}
+use Rattle.dns_view.specs.Printable.{are_lines}
 use Rattle.dns_view.specs.Printed.{Prints, PrintsEach}
 use Rattle.dns_view.specs.Texts.{IsRowText}
 use Rattle.dns_view.specs.Requests.{asked, wrong_word, Words}
@@ -56,10 +58,18 @@ pub data IsPrinted (form : Form) (input : List ℕ) (old new errors_old errors_n
   bad_hex : IsOdd input → Keeps old new → Appends errors_old errors_new (codes "dnsview: the number of hexadecimal digits is odd\n") → IsPrinted form input old new errors_old errors_new 1
   empty : Gives input [] → Keeps old new → Appends errors_old errors_new (codes "dnsview: the input is empty\n") → IsPrinted form input old new errors_old errors_new 4
 
--- a line that names an argument
+-- a line that names an argument, in printable ASCII
 abbrev pub named_text : Option (String Global) → List ℕ
 named_text None = []
-named_text (Some word) = codes "dnsview: unexpected argument '" ++ string_bytes word ++ codes "'\n"
+named_text (Some word) = codes "dnsview: unexpected argument " ++ quoted (string_bytes word) ++ codes "\n"
+
+-- the fixed texts that are printed are lines of printable ASCII
+abbrev pub TextsArePrintable : Type 0
+TextsArePrintable = IsTrue (are_lines HELP.now) × IsTrue (are_lines VERSION.now) × IsTrue (are_lines USAGE.now)
+
+-- so is the line that names an argument of any octets
+abbrev pub ArgumentsArePrintable : Type 0
+ArgumentsArePrintable = (word : String Global) → All (λ octet. octet < 256) (string_bytes word) → IsTrue (are_lines (named_text (Some word)))
 
 -- a line that names the wrong argument, and the usage
 abbrev pub wrong_text : Words → List ℕ

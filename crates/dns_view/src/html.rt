@@ -3,12 +3,13 @@
 ghost use Rattle.std.specs.Prelude.{◌≡◌, ◌+◌, ◌^◌, ◌<◌, ◌≤◌, length, take, IfOk, OnOk};
 ghost use Rattle.std.specs.Io.KnownBytes.{Appends};
 ghost use Rattle.std.specs.List.{flat_map};
-ghost use Rattle.dns_view.specs.Joined.{line_of, line_row};
-ghost use Rattle.dns_view.specs.Pages.{arrow_text, cell_end, cell_id, cell_start, cell_text, digits, ellipsis_text, escaped, escaped_octet, escaped_within, field_letter, field_link_text, field_row_text, first_link, heading_row_text, letter_of, line_start, line_cells, link_text, mark_text, next_link, opening_text, part_start, pointer_count, row_cells, row_mark_text, row_text, top_text, words_text, page_limit, IsListRow, IsPage, IsPageOf};
+ghost use Rattle.dns_view.specs.Joined.{line_of};
+ghost use Rattle.dns_view.specs.Pages.{arrow_text, cell_end, cell_id, cell_start, cell_text, digits, ellipsis_text, escaped, escaped_octet, escaped_within, field_letter, field_link_text, field_row_text, first_link, heading_row_text, letter_of, line_start, line_cells, link_text, mark_text, next_link, opening_text, part_start, pointer_count, row_cells, row_mark_text, row_text, top_text, words_text, page_limit, IsListLine, IsPage, IsPageOf};
 ghost use Rattle.dns_view.specs.Printed.{Prints, PrintsEach};
 
 use crate::brief::{front_within, limits_words, words_limit};
 use crate::joined::{Line, OCTETS, lines};
+use crate::printable::printable_words;
 use crate::summary::Summary;
 use crate::text::print_octet;
 use crate::words::words_of;
@@ -160,11 +161,10 @@ fn print_page_of<W: Write>(
     ensures { OnOk result (Prints (IsPageOf is_brief message.now rows.now)
         (W.contents writer.old) (W.contents writer.new)) }
 {
-    let summary = Summary { message, rows };
-    let words = format!(in alloc; "{summary}")?;
+    let words = printable_words(alloc, Summary { message, rows })?;
     let lines = lines(alloc, is_brief, rows)?;
     let lines = lines.as_slice();
-    print_top(writer, words.as_bytes())?;
+    print_top(writer, words.as_slice())?;
     print_opening(writer, rows)?;
     print_cells(writer, message, lines)?;
     writer.write_all(b"\n</div>\n<div class=list>\n<p>")?;
@@ -480,7 +480,7 @@ fn print_list<W: Write>(
     message: &[u8],
     lines: &[Line<'_>],
 ) -> io::Result<()>
-    ensures { OnOk result (PrintsEach (λ line. IsListRow is_brief message.now (line_row (line_of line)))
+    ensures { OnOk result (PrintsEach (λ line. IsListLine is_brief message.now (line_of line))
         lines.now (W.contents writer.old) (W.contents writer.new)) }
 {
     for line in lines {
@@ -497,7 +497,7 @@ fn print_list_row<W: Write>(
     message: &[u8],
     line: &Line<'_>,
 ) -> io::Result<()>
-    ensures { OnOk result (Prints (IsListRow is_brief message.now (line_row (line_of line.now)))
+    ensures { OnOk result (Prints (IsListLine is_brief message.now (line_of line.now))
         (W.contents writer.old) (W.contents writer.new)) }
 {
     let row = line.row();

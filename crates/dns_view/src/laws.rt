@@ -1,5 +1,6 @@
 //! Theorems on pages. The functions do nothing: the contract of each is a theorem.
-ghost use Rattle.dns_view.specs.Heads.{HeadsAreSelfContained};
+ghost use Rattle.dns_view.specs.Heads.{ColoursAreNamed, ColoursHaveRules, HeadsAreSelfContained, PartsHaveRules};
+ghost use Rattle.dns_view.specs.Viewing.{ArgumentsArePrintable, TextsArePrintable};
 ghost use Rattle.dns_view.specs.Links.{IdsAreUnique, JoinedRowsKeepOctets, JoinedRowsTile, LinesHaveRows, WordsAreBounded};
 
 /// The `id`s of a page of consecutive rows are all different: a row's cells and its line in the
@@ -22,8 +23,23 @@ pub fn words_are_bounded()
     ensures { WordsAreBounded }
 {}
 
+/// What `dnsview` prints besides a message is lines of printable ASCII: the help, the version, the
+/// usage, and the line that names a wrong argument, whatever octets the argument has.
+pub fn words_are_printable()
+    ensures texts { TextsArePrintable }
+    ensures arguments { ArgumentsArePrintable }
+{}
+
 /// The fixed texts of a page, with its style, have no script and refer to no other file. All other
 /// texts of a page are escaped, so they are never markup.
 pub fn page_heads_are_self_contained()
     ensures { HeadsAreSelfContained }
+{}
+
+/// The style of a page has a rule for each class that the page uses, and the legend names the
+/// colour of each row.
+pub fn page_classes_have_rules()
+    ensures colours { ColoursHaveRules }
+    ensures parts { PartsHaveRules }
+    ensures legend { ColoursAreNamed }
 {}

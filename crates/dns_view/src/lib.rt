@@ -13,11 +13,13 @@
 mod brief;
 mod codes;
 mod counts;
+mod failure;
 mod html;
 mod joined;
 pub mod laws;
 mod meaning;
 mod option;
+mod printable;
 mod program;
 mod rdata;
 mod request;
@@ -26,6 +28,7 @@ mod text;
 mod words;
 
 pub use dns_rows::{Fault, Field, Kind, NameOf, Part, Row, rows};
+pub use failure::print_failure;
 pub use html::print_page;
 pub use program::{USAGE, tool};
 pub use request::file_of;

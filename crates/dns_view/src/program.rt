@@ -1,20 +1,22 @@
 //! The work of the program `dnsview`.
-ghost use Rattle.std.specs.Prelude.{◌≡◌, ◌||◌, ◌⊎◌, IfOk, IfSome, MatchOption, OnOk};
+ghost use Rattle.std.specs.Prelude.{◌≡◌, ◌||◌, ◌⊎◌, IfOk, IfSome, MatchOption, OnOk, Some};
 ghost use Rattle.std.specs.Char.{is_ascii_hexdigit, is_ascii_whitespace};
 ghost use Rattle.std.specs.Io.KnownBytes.{Appends};
 ghost use Rattle.dns_tool.specs.Hex.{unspaced};
 ghost use Rattle.dns_view.specs.Requests.{asked};
-ghost use Rattle.dns_view.specs.Viewing.{is_digits, lines_text, wrong_text, CanEnd, Gives, IsOdd, IsPrinted, IsViewed, PrintsForm, Reports};
+ghost use Rattle.dns_view.specs.Viewing.{is_digits, lines_text, named_text, wrong_text, CanEnd, Gives, IsOdd, IsPrinted, IsViewed, PrintsForm, Reports};
 
+use crate::failure::{Failure, print_failure};
 use crate::html::print_page;
 use crate::request::{Form, Request, wrong_word};
 use crate::text::print_text;
 use dns_lines::print_zone_lines;
 use dns_read::Message;
 use dns_rows::rows;
+use dns_value_text::Quoted;
 use std::alloc::{AllocError, Global};
+use std::io;
 use std::io::{Read, Write};
-use std::{fmt, io};
 
 /// The exit status if the input is an odd number of digits.
 const BAD_HEX: u8 = 1;
@@ -52,22 +54,6 @@ Exit status: 0; 1 if the number of digits is odd; 2 for a wrong argument;
 /// What `--version` prints.
 const VERSION: &str = "dnsview 1.0.0\n";
 
-/// Why the program fails.
-#[derive(Drop)]
-enum Failure {
-    Reading(io::Error),
-    Printing(io::Error),
-}
-
-impl fmt::Display for Failure {
-    fn fmt<W: fmt::Write>(&self, f: &mut fmt::Formatter<W>) -> fmt::Result {
-        match self {
-            Failure::Reading(error) => write!(f, "reading failed: {error}"),
-            Failure::Printing(error) => write!(f, "printing failed: {error}"),
-        }
-    }
-}
-
 /// Reads a message, as octets or in hexadecimal digits, prints it, and returns the exit status of
 /// the program. Only what is wrong is printed to `errors`.
 ///
@@ -92,7 +78,7 @@ pub fn tool<R: Read, W: Write, E: Write>(
     match view(alloc, args, reader, writer, errors) {
         Ok(status) => status,
         Err(failure) => {
-            let _ = writeln!(errors, "dnsview: {failure}");
+            let _ = print_failure(alloc, errors, failure.words(), failure.error());
             FAILED
         }
     }
@@ -155,9 +141,18 @@ fn print_wrong<E: Write>(args: &[String], errors: &mut E) -> io::Result<()>
         (wrong_text args.now)) }
 {
     if let Some(word) = wrong_word(args) {
-        writeln!(errors, "dnsview: unexpected argument '{word}'")?;
+        print_named(word, errors)?;
     }
     errors.write_all(USAGE.as_bytes())
+}
+
+/// Prints a line that names an argument.
+fn print_named<E: Write>(word: &String, errors: &mut E) -> io::Result<()>
+    ensures { OnOk result (Appends (E.contents errors.old) (E.contents errors.new)
+        (named_text (Some word.now))) }
+{
+    let word = Quoted(word.as_bytes());
+    writeln!(errors, "dnsview: unexpected argument {word}")
 }
 
 /// Reads the input, prints its message, and returns the exit status.

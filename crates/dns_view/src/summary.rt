@@ -1,4 +1,8 @@
 //! What a message is, in one line.
+ghost use Rattle.std.specs.Prelude.{◌≡◌, ◌<◌, length, IfSome};
+ghost use Rattle.std.specs.Option.{option_copied};
+ghost use Rattle.dns_view.specs.Summaries.{additional_index, begins_additional, extended_row, first_extended, is_extended_rcode};
+
 use crate::codes::Mnemonic;
 use crate::counts::octet_count;
 use crate::meaning::{FaultWords, number_of, write_name};
@@ -94,9 +98,17 @@ impl<'a> Summary<'a> {
         None
     }
 
-    /// Prints the RCODE, extended by that of an OPT record.
+    /// The octet of the extended RCODE in the additional section; empty if there is none.
+    fn extended_octets(&self) -> &'a [u8] {
+        match extended_row(self.rows) {
+            Some(row) => octets_of(self.message, row),
+            None => &[],
+        }
+    }
+
+    /// Prints the RCODE, extended by that of the OPT record of the additional section.
     fn write_rcode<W: fmt::Write>(&self, f: &mut fmt::Formatter<W>, header: Header) -> fmt::Result {
-        let rcode = match self.octets_of_field(Field::ExtendedRcode) {
+        let rcode = match self.extended_octets() {
             [higher] => OptRcode::from_parts(header.rcode(), *higher),
             _ => OptRcode::from(header.rcode()),
         };
@@ -125,4 +137,41 @@ impl<'a> Summary<'a> {
         }
         Ok(())
     }
+}
+
+/// The row of the extended RCODE of the first OPT record in the additional section.
+fn extended_row(rows: &[Row]) -> Option<&Row>
+    ensures { option_copied result ≡ extended_row rows.now }
+{
+    match additional_index(rows) {
+        Some(first) => first_extended(&rows[first + 1..]),
+        None => None,
+    }
+}
+
+/// The index of the row where the first item of the additional section begins.
+fn additional_index(rows: &[Row]) -> Option<usize>
+    ensures value { result ≡ additional_index rows.now }
+    ensures within { IfSome result (λ index. index < length rows.now) }
+{
+    rows.iter().position(|row| begins_additional(row.kind))
+}
+
+fn first_extended(rows: &[Row]) -> Option<&Row>
+    ensures { option_copied result ≡ first_extended rows.now }
+{
+    rows.iter().find(|row| is_extended_rcode(row.kind))
+}
+
+/// Whether an item of the additional section begins here.
+fn begins_additional(kind: Kind) -> bool
+    ensures { result ≡ begins_additional kind }
+{
+    matches!(kind, Kind::Field(Field::Item(Part::Additional, _)))
+}
+
+fn is_extended_rcode(kind: Kind) -> bool
+    ensures { result ≡ is_extended_rcode kind }
+{
+    matches!(kind, Kind::Field(Field::ExtendedRcode))
 }

@@ -1,11 +1,13 @@
 //! Rows printed as text, of at most 80 columns while offsets have at most seven digits.
-ghost use Rattle.std.specs.Prelude.{◌≡◌, ◌<◌, ◌≤◌, length, OnOk};
+ghost use Rattle.std.specs.Prelude.{◌≡◌, ◌<◌, ◌≤◌, length, true, OnOk};
 ghost use Rattle.std.specs.Io.KnownBytes.{Appends};
+ghost use Rattle.dns_view.specs.Printable.{are_printable};
 ghost use Rattle.dns_view.specs.Printed.{Prints, PrintsEach};
 ghost use Rattle.dns_view.specs.Digits.{octet_text};
 ghost use Rattle.dns_view.specs.Texts.{blank_octets, columns, digits_text, line_octets, line_text, IsLines, IsRowText};
 
 use crate::meaning::Meaning;
+use crate::printable::printable_words;
 use dns_rows::{Row, octets_of};
 use std::alloc::Global;
 use std::io;
@@ -41,12 +43,13 @@ fn print_row<W: Write>(alloc: Global, writer: &mut W, message: &[u8], row: &Row)
     ensures { OnOk result (Prints (IsRowText message.now row.now)
         (W.contents writer.old) (W.contents writer.new)) }
 {
-    let meaning = Meaning { message, row: *row };
-    let words = format!(in alloc; "{meaning}")?;
+    let words = printable_words(alloc, Meaning { message, row: *row })?;
+    let words = words.as_slice();
     if row.kind.is_item() {
-        return writeln!(writer, "{words}");
+        writer.write_all(words)?;
+        return writer.write_all(b"\n");
     }
-    print_lines(writer, row.start, octets_of(message, row), words.as_bytes())
+    print_lines(writer, row.start, octets_of(message, row), words)
 }
 
 /// Prints the lines of a row, as many as its octets and words need, but at least one.
@@ -56,6 +59,7 @@ fn print_lines<W: Write>(
     octets: &[u8],
     words: &[u8],
 ) -> io::Result<()>
+    requires { are_printable words.now ≡ true }
     ensures { OnOk result (Prints (IsLines start octets.now)
         (W.contents writer.old) (W.contents writer.new)) }
 {
@@ -84,13 +88,26 @@ fn split_line(words: &[u8]) -> (&[u8], &[u8])
     ensures fits { length result.0.now ≤ columns }
     ensures shorter { 0 < length words.now → length result.1.now < length words.now }
     ensures none { length words.now ≡ 0 → length result.1.now ≡ 0 }
+    ensures printable { are_printable words.now ≡ true →
+        (are_printable result.0.now ≡ true) × (are_printable result.1.now ≡ true) }
 {
     if words.len() <= COLUMNS {
-        return (words.strip_suffix(b" ").unwrap_or(words), &[]);
+        return (without_space(words), &[]);
     }
     match words[..=COLUMNS].iter().rposition(|octet| *octet == b' ') {
         Some(space) => (&words[..space], &words[space + 1..]),
         None => words.split_at(COLUMNS),
+    }
+}
+
+/// Words without a space at their end.
+fn without_space(words: &[u8]) -> &[u8]
+    ensures shorter { length result.now ≤ length words.now }
+    ensures printable { are_printable words.now ≡ true → are_printable result.now ≡ true }
+{
+    match words.strip_suffix(b" ") {
+        Some(front) => front,
+        None => words,
     }
 }
 

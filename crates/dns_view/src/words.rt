@@ -1,7 +1,11 @@
 //! The words for a row of a page's list.
+ghost use Rattle.std.specs.Prelude.{◌≡◌, true, IfOk};
+ghost use Rattle.dns_view.specs.Printable.{are_printable};
+
 use crate::brief::{ELLIPSIS_LEN, escaped_size, front_within, limits_words, words_limit};
 use crate::joined::{Line, are_alike};
 use crate::meaning::Meaning;
+use crate::printable::printable_words;
 use dns_rows::{Row, octets_of};
 use std::alloc::{AllocError, Global};
 
@@ -14,7 +18,9 @@ pub(crate) fn words_of(
     is_brief: bool,
     message: &[u8],
     line: &Line<'_>,
-) -> Result<Vec<u8>, AllocError> {
+) -> Result<Vec<u8>, AllocError>
+    ensures { IfOk result (λ words. are_printable words.items ≡ true) }
+{
     let row = line.row();
     if limits_words(is_brief, &row) {
         return line_words(alloc, message, line);
@@ -24,28 +30,32 @@ pub(crate) fn words_of(
 
 /// The words for the rows of a line, after each other. The first is often a name: if all have more
 /// octets than the line may have, it is cut off.
-fn line_words(alloc: Global, message: &[u8], line: &Line<'_>) -> Result<Vec<u8>, AllocError> {
+fn line_words(alloc: Global, message: &[u8], line: &Line<'_>) -> Result<Vec<u8>, AllocError>
+    ensures { IfOk result (λ words. are_printable words.items ≡ true) }
+{
     let runs = runs(alloc, line)?;
     let Some((first, others)) = runs.split_first() else {
         return Ok(Vec::new(alloc));
     };
     let after = words_after(alloc, message, others)?;
-    let limit = words_limit(octets_of(message, &line.row())).saturating_sub(escaped_size(&after));
-    let mut words = brief(
-        alloc,
-        &meaning_of(alloc, message, first)?,
-        limit.max(SHORTEST),
-    )?;
-    words.extend_from_slice(&after)?;
+    let after = after.as_slice();
+    let limit = words_limit(octets_of(message, &line.row())).saturating_sub(escaped_size(after));
+    let meaning = meaning_of(alloc, message, first)?;
+    let meaning = meaning.as_slice();
+    let mut words = brief(alloc, meaning, limit.max(SHORTEST))?;
+    words.extend_from_slice(after)?;
     Ok(words)
 }
 
 /// The words for rows, each after a comma.
-fn words_after(alloc: Global, message: &[u8], rows: &[Row]) -> Result<Vec<u8>, AllocError> {
+fn words_after(alloc: Global, message: &[u8], rows: &[Row]) -> Result<Vec<u8>, AllocError>
+    ensures { IfOk result (λ words. are_printable words.items ≡ true) }
+{
     let mut words = Vec::new(alloc);
     for row in rows {
+        let meaning = meaning_of(alloc, message, row)?;
         words.extend_from_slice(b", ")?;
-        words.extend_from_slice(&meaning_of(alloc, message, row)?)?;
+        words.extend_from_slice(meaning.as_slice())?;
     }
     Ok(words)
 }
@@ -67,15 +77,18 @@ fn runs(alloc: Global, line: &Line<'_>) -> Result<Vec<Row>, AllocError> {
 }
 
 /// What a row means.
-fn meaning_of(alloc: Global, message: &[u8], row: &Row) -> Result<Vec<u8>, AllocError> {
-    let meaning = Meaning { message, row: *row };
-    let words = format!(in alloc; "{meaning}")?;
-    Ok(words.into_bytes())
+fn meaning_of(alloc: Global, message: &[u8], row: &Row) -> Result<Vec<u8>, AllocError>
+    ensures { IfOk result (λ words. are_printable words.items ≡ true) }
+{
+    printable_words(alloc, Meaning { message, row: *row })
 }
 
 /// Words, of which `...` stands for the end if they take more than `limit` octets when they are
 /// escaped.
-fn brief(alloc: Global, words: &[u8], limit: u128) -> Result<Vec<u8>, AllocError> {
+fn brief(alloc: Global, words: &[u8], limit: u128) -> Result<Vec<u8>, AllocError>
+    requires { are_printable words.now ≡ true }
+    ensures { IfOk result (λ words. are_printable words.items ≡ true) }
+{
     let front = front_within(words, limit);
     let mut brief = Vec::from_slice(alloc, front)?;
     if front.len() < words.len() {

@@ -1,4 +1,5 @@
-use Rattle.std.proofs.Common.{ap, arith, length, length-take, rules, ◌+◌, ◌≤◌}
+use Rattle.std.proofs.Common.{ap, arith, length, length-take, rules, ◌+◌, ◌-◌, ◌≤◌, drop}
+use Rattle.dns_view.proofs.Printables.{printable_drop, printable_take}
 use Rattle.dns_view.proofs.text.split_line.Goals as goal
 
 -- the space is within the first 47 octets of the words
@@ -15,3 +16,9 @@ slice_bounds-result-start c =
 
 pub returns-in-Some-clause-fits : goal.returns-in-Some-clause-fits
 returns-in-Some-clause-fits c = omega (arith, c.in-Some.ensures.bound, ap length c.iter.ensures.rest, length-take 47 c.args.words.now, length-take c.in-Some.space c.args.words.now)
+
+pub returns-in-Some-clause-printable : goal.returns-in-Some-clause-printable
+returns-in-Some-clause-printable c =
+    let words = c.args.words.now in
+    let after = c.in-Some.space + 1 in
+    λ h. (printable_take c.in-Some.space words h, printable_take (length words - after) (drop after words) (printable_drop after words h))
