@@ -188,12 +188,13 @@ fn clones_vectors_of_many_octets(rt: HostRuntime) {
     }
 }
 
-/// Appends octets. Fails unless the capacity is then at most 512 octets, twice the old capacity or
-/// the length, whichever is more.
+/// Appends octets. Fails unless the capacity is then at most 1,024 octets, twice the old capacity or
+/// the length, whichever is more: a vector without capacity first has one of 512 octets, and then
+/// may double it.
 fn assert_grows(rt: &impl Abort, target: &mut Vec<u8>, octets: &[u8]) {
     let twice = target.capacity().saturating_mul(2);
     target.append_slice(octets).expect(rt, "memory");
-    let most = twice.max(target.len()).max(512);
+    let most = twice.max(target.len()).max(1_024);
     assert_same(rt, "the growth", target.capacity() <= most, true);
 }
 
