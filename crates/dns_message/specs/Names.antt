@@ -9,7 +9,7 @@ pub use Rattle.dns_name.specs.Names.Faulty.{head, long, cut, ahead, label, point
 -- the name at an offset, of which there is one
 pub use Rattle.dns_name.specs.Unique.{EncodedName, encoded_name, label_of}
 -- parsed names, and names in octets of their own
-pub use Rattle.dns_name.specs.ParsedName.{labels, labels_left, label_octets, IsFlat, IsFirst, ParsesName, SkipsName, ReadsEncoded}
+pub use Rattle.dns_name.specs.ParsedName.{labels, labels_left, label_octets, BeginsAt, IsFlat, IsFirst, ParsesName, SkipsName, ReadsEncoded}
 pub use Rattle.dns_name.specs.Suffixes.{suffixes, suffixes_left, NameStartsWith, NameEndsWith}
 pub use Rattle.dns_name.specs.Uncompressed.{IsUncompressed, NotUncompressed, WholeName}
 -- texts

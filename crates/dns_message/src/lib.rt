@@ -255,7 +255,7 @@ pub mod fields {
         TypeMap, TypeName, Types, ZoneName,
     };
     pub use dns_line_words::split_words;
-    pub use dns_value_text::TextError;
+    pub use dns_value_text::{TextError, laws as word_laws};
     pub use dns_values::{NewValue, ValueError, from_values, laws as value_laws};
 }
 
@@ -331,7 +331,7 @@ pub mod target {
 pub mod wire {
     pub use dns_wire::{
         AppendError, BufferFrom, CanonicalOrd, FlattenInto, FormError, Octets, OctetsFrom,
-        OctetsMut, ParseError, Parser, ShortBuf, laws, target_laws,
+        OctetsMut, ParseError, Parser, ShortBuf, error_laws, laws, target_laws, value_laws,
     };
 }
 
