@@ -30,13 +30,17 @@ fn changes_one_field_each(rt: HostRuntime) {
 /// The options NSID, DAU with the algorithms 8 and 13, and EXPIRE.
 static THREE: [u8; 14] = *b"\x00\x03\x00\x00\x00\x05\x00\x02\x08\x0D\x00\x09\x00\x00";
 
+/// An OPT record with these options.
+fn opt_record<'a>(rt: &impl Abort, row: &str, octets: &'a [u8]) -> OptRecord<&'a [u8]> {
+    let options = Opt::from_octets(octets).expect(rt, row);
+    OptRecord::from(Record::new(Name::root_slice(), Class::from_int(512), Ttl::ZERO, options))
+}
+
 /// Fails unless a builder takes over the options of an OPT record.
 fn assert_cloned(rt: &impl Abort, alloc: Global, row: &str, octets: &[u8]) {
-    let options = Opt::from_octets(octets).expect(rt, row);
-    let fields = (Name::root_slice(), Class::from_int(512), Ttl::ZERO, options);
+    let record = opt_record(rt, row, octets);
     let mut opt = OptBuilder::new(alloc, Header::new());
-    opt.clone_from(&OptRecord::from(Record::from(fields)))
-        .expect(rt, row);
+    opt.clone_from(&record).expect(rt, row);
     assert_octets(rt, row, opt.option_octets(), octets);
 }
 
