@@ -86,10 +86,13 @@ fn many_parameters(rt: HostRuntime) {
     assert_eq!(rt; octets.len(), 65527 * 4);
 }
 
-/// This many of the word.
-fn many<'a>(rt: &impl Abort, alloc: Global, word: &'a str, count: u32) -> Vec<&'a str> {
+/// These words, and `MANY` times another one.
+fn many<'a>(rt: &impl Abort, alloc: Global, first: &[&'a str], word: &'a str) -> Vec<&'a str> {
     let mut words = Vec::new(alloc);
-    for _ in 0..count {
+    for own in first {
+        words.push(*own).expect(rt, "there is memory");
+    }
+    for _ in 0..MANY {
         words.push(word).expect(rt, "there is memory");
     }
     words
@@ -98,21 +101,19 @@ fn many<'a>(rt: &impl Abort, alloc: Global, word: &'a str, count: u32) -> Vec<&'
 /// More words than calls have room on a stack of 8 MiB, if each is of at least 32 octets.
 const MANY: u32 = 300_000;
 
-/// Many types, names of a host identity, and prefixes.
+/// Many types, prefixes, and names of a host identity.
 #[test]
 fn many_words(rt: HostRuntime) {
     let alloc = rt.alloc();
-    let map = read_small_type_map(alloc, &many(&rt, alloc, "A", MANY)).expect(&rt, "types");
+    let types = many(&rt, alloc, &[], "A");
+    let map = read_small_type_map(alloc, &types).expect(&rt, "types");
     assert_octets(&rt, "types", &map, b"\x40");
-    let words = many(&rt, alloc, "1:0.0.0.0/0", MANY);
+    let words = many(&rt, alloc, &[], "1:0.0.0.0/0");
     let prefixes = read_prefixes(alloc, &words).expect(&rt, "prefixes");
     assert_eq!(rt; prefixes.len(), 1_200_000);
-    let mut words = many(&rt, alloc, ".", MANY);
-    words[0] = "2";
-    words[1] = "20";
-    words[2] = "AwE=";
+    let words = many(&rt, alloc, &["2", "20", "AwE="], ".");
     let identity = read_host_identity(alloc, &words).expect(&rt, "an identity");
-    assert_eq!(rt; identity.len(), 7 + 299_997);
+    assert_eq!(rt; identity.len(), 7 + 300_000);
 }
 
 /// Digits, in one word and split, as in RFC 4034 section 2.3.
