@@ -118,11 +118,14 @@ fn push_head(rt: &impl Abort, text: &mut String, octets: &[u8]) {
         low & 0x20,
         low & 0x10,
     ];
-    let mut space = "";
+    let mut is_first = true;
     for (flag, name) in flags.iter().zip("QR AA TC RD RA AD CD".split(' ')) {
         if *flag > 0 {
-            write!(text, "{space}{name}").expect(rt, "memory");
-            space = " ";
+            if !is_first {
+                write!(text, " ").expect(rt, "memory");
+            }
+            write!(text, "{name}").expect(rt, "memory");
+            is_first = false;
         }
     }
     write!(text, "\ncounts").expect(rt, "memory");
