@@ -1,8 +1,6 @@
-//! The arguments of `dnsview`, and what it prints if something fails.
-use dns_view::{file_of, tool};
+//! The arguments of `dnsview`.
+use dns_view::file_of;
 use std::alloc::Global;
-use std::io;
-use std::io::{ErrorKind, Read, Write};
 use std::process::Abort;
 
 /// Arguments that are separated by spaces, as a program takes them.
@@ -35,53 +33,4 @@ fn finds_the_file(rt: HostRuntime) {
         let found = file_of(&arguments).map_or("", |file| file.as_str());
         assert_eq!(rt; found, *file, "{words}");
     }
-}
-
-/// A reader and writer that fails.
-struct Broken;
-
-impl Read for Broken {
-    fn read(&mut self, _octets: &mut [u8]) -> io::Result<usize> {
-        Err(io::Error::from(ErrorKind::BrokenPipe))
-    }
-}
-
-impl Write for Broken {
-    fn write(&mut self, _octets: &[u8]) -> io::Result<usize> {
-        Err(io::Error::from(ErrorKind::BrokenPipe))
-    }
-
-    fn flush(&mut self) -> io::Result<()> {
-        Ok(())
-    }
-}
-
-#[test]
-fn says_why_it_fails(rt: HostRuntime) {
-    let mut errors = Vec::new(rt.alloc());
-    let status = tool(
-        rt.alloc(),
-        &[],
-        &mut Broken,
-        &mut Vec::new(rt.alloc()),
-        &mut errors,
-    );
-    assert_eq!(rt; status, 3);
-    assert_eq!(rt;
-        errors.as_slice(),
-        b"dnsview: reading failed: broken pipe\n".as_slice()
-    );
-    let mut errors = Vec::new(rt.alloc());
-    let status = tool(
-        rt.alloc(),
-        &[],
-        &mut b"g".as_slice(),
-        &mut Broken,
-        &mut errors,
-    );
-    assert_eq!(rt; status, 3);
-    assert_eq!(rt;
-        errors.as_slice(),
-        b"dnsview: printing failed: broken pipe\n".as_slice()
-    );
 }
