@@ -70,6 +70,9 @@ fn read_run<'a, W: Write + Drop>(
             report.bad_line(line)?;
         }
     }
+    if run.is_mixed() {
+        report.bad_line("all that is printed beside a part of it")?;
+    }
     Ok(run)
 }
 

@@ -4,8 +4,9 @@ use std::alloc::{AllocError, Global};
 use std::io;
 use std::io::Write;
 
-/// A run: the program and its arguments, its input, and what it prints. `is_whole` says that
-/// `printed` is all of it after the skipped lines.
+/// A run: the program and its arguments, its input, and what it prints. `has_whole` says that lines
+/// of the case are about `printed`, all of it after the skipped lines, `has_parts` that lines are
+/// about parts of it.
 #[derive(Drop)]
 pub(crate) struct Run<'a> {
     words: &'a str,
@@ -14,7 +15,8 @@ pub(crate) struct Run<'a> {
     errors: Vec<u8>,
     status: &'a str,
     skipped: usize,
-    is_whole: bool,
+    has_whole: bool,
+    has_parts: bool,
 }
 
 /// What a run printed, and its exit status.
@@ -35,7 +37,8 @@ impl<'a> Run<'a> {
             errors: Vec::new(alloc),
             status: "0",
             skipped: 0,
-            is_whole: true,
+            has_whole: false,
+            has_parts: false,
         }
     }
 
@@ -46,18 +49,33 @@ impl<'a> Run<'a> {
             "run" => self.words = text,
             "status" => self.status = text,
             "<" => push_line(&mut self.input, text)?,
-            ">" => push_line(&mut self.printed, text)?,
             "2>" => push_line(&mut self.errors, text)?,
             "<." => self.input.extend_from_slice(text.as_bytes())?,
-            ">." => self.printed.extend_from_slice(text.as_bytes())?,
-            "skip" => return Ok(self.take_skipped(text)),
             "<x" => return push_octets(alloc, &mut self.input, text),
-            ">x" => return push_octets(alloc, &mut self.printed, text),
-            "starts" | "ends" | "has" | "count" | "line" | "most" => self.is_whole = false,
+            ">" | ">." | ">x" | "skip" => return self.take_printed(alloc, key, text),
+            "starts" | "ends" | "has" | "count" | "line" | "most" => self.has_parts = true,
             "opt" => {}
             _ => return self.take_repeated(alloc, key, text),
         }
         Ok(true)
+    }
+
+    /// Takes a line about all that is printed. Returns whether its text has the form.
+    fn take_printed(&mut self, alloc: Global, key: &str, text: &str) -> Result<bool, AllocError> {
+        self.has_whole = true;
+        match key {
+            ">" => push_line(&mut self.printed, text)?,
+            ">." => self.printed.extend_from_slice(text.as_bytes())?,
+            ">x" => return push_octets(alloc, &mut self.printed, text),
+            _ => return Ok(self.take_skipped(text)),
+        }
+        Ok(true)
+    }
+
+    /// Whether lines about parts of what is printed are beside lines about all of it, which aren't
+    /// compared then.
+    pub(crate) fn is_mixed(&self) -> bool {
+        self.has_whole && self.has_parts
     }
 
     /// Takes the number of lines to skip. Returns whether the text is one.
@@ -111,7 +129,7 @@ impl<'a> Run<'a> {
         report.check("status", self.status.as_bytes(), status.as_bytes())?;
         report.check("errors", self.errors.as_slice(), ended.errors.as_slice())?;
         let output = ended.output.as_slice();
-        if self.is_whole {
+        if !self.has_parts {
             let printed = after_lines(output, self.skipped);
             report.check("printed", self.printed.as_slice(), printed)?;
         }

@@ -6,6 +6,7 @@
 //! `dns_view::tool` does the work. It is proved to be safe and to terminate on every input.
 #![tactic(auto)]
 
+use dns_value_text::Quoted;
 use dns_view::{USAGE, file_of, tool};
 use std::fs::File;
 use std::io::{BufWriter, ErrorKind, Read};
@@ -31,7 +32,8 @@ fn view_file(rt: &HostRuntime, words: &[String], file: &str) -> io::Result<u8> {
     match File::open(rt, file) {
         Ok(reader) => view(rt, words, reader),
         Err(error) => {
-            eprintln!(rt; "dnsview: can't open '{file}': {error}")?;
+            let name = Quoted(file.as_bytes());
+            eprintln!(rt; "dnsview: can't open {name}: {error}")?;
             Ok(FAILED)
         }
     }
