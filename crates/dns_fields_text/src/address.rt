@@ -1,35 +1,13 @@
-//! Addresses of IPv4 and IPv6 as std prints them (RFC 1035 section 3.4.1, RFC 5952).
-ghost use Rattle.std.specs.Prelude.{OnErr, ◌≡◌, ◌+◌, ◌<◌, ◌≤◌, ◌++◌, [], ◌∷◌, codes, decimal, length};
+//! Addresses of IPv6 as std prints them (RFC 5952).
+ghost use Rattle.std.specs.Prelude.{OnErr, ◌≡◌, ◌+◌, ◌<◌, ◌≤◌, ◌++◌, [], ◌∷◌, codes, length};
 ghost use Rattle.std.specs.Char.{digit_char};
 ghost use Rattle.std.specs.Net.Addr.{ipv6_segments};
-ghost use Rattle.std.specs.Net.Text.{groups_text, hex, hex_groups_text, ipv4_text, ipv6_text, longest_zero_run};
+ghost use Rattle.std.specs.Net.Text.{groups_text, hex, hex_groups_text, ipv6_text, longest_zero_run};
 ghost use Rattle.dns_print.specs.Printing.{PrintsOnOk};
 
-use dns_print::{TextWriter, write_number};
+use dns_print::{TextWriter, write_ipv4};
 use std::fmt;
 use std::net::Ipv6Addr;
-
-/// Prints two numbers in decimal digits, with a dot between them.
-#[tactic(auto, using(dns_print::proofs::theory::Prints::prints, std::proofs::lemmas::Grind::common_steps))]
-fn write_dotted_pair<W: TextWriter>(f: &mut W, first: u8, second: u8) -> fmt::Result
-    ensures text { PrintsOnOk W.takes f.old result (decimal first ++ codes "." ++ decimal second)
-        f.new }
-    ensures err { OnErr result W.MayFail }
-{
-    write_number(f, u64::from(first))?;
-    f.write_text(".")?;
-    write_number(f, u64::from(second))
-}
-
-/// Prints the octets of an IPv4 address in decimal digits, with dots between them.
-pub(crate) fn write_ipv4<W: TextWriter>(f: &mut W, octets: [u8; 4]) -> fmt::Result
-    ensures text { PrintsOnOk W.takes f.old result (ipv4_text octets) f.new }
-    ensures err { OnErr result W.MayFail }
-{
-    write_dotted_pair(f, octets[0], octets[1])?;
-    f.write_text(".")?;
-    write_dotted_pair(f, octets[2], octets[3])
-}
 
 /// The lowercase hexadecimal digit of a number.
 fn digit(number: u16) -> char

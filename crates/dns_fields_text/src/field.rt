@@ -322,7 +322,7 @@ fn write_ipv4<W: TextWriter>(f: &mut W, octets: &[u8]) -> fmt::Result
     ensures err { OnSome (ipv4_of octets.now) (OnErr result W.MayFail) }
 {
     match <[u8; 4]>::try_from(octets) {
-        Ok(octets) => address::write_ipv4(f, octets),
+        Ok(octets) => dns_print::write_ipv4(f, octets),
         Err(_) => Err(fmt::Error),
     }
 }

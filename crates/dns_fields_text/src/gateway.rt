@@ -7,11 +7,11 @@ ghost use Rattle.dns_print.specs.Printing.{PrintsOnOk};
 ghost use Rattle.dns_fields_text.specs.GatewayTexts.{gateway_at, gateway_text, key_text, name_at, relay_text, relay_words, word_at};
 ghost use Rattle.dns_fields_text.specs.GatewayValues.{SplitsGateway, gateway_shown, gateway_word, relay_shown};
 
-use crate::address::{write_ipv4, write_ipv6};
+use crate::address::write_ipv6;
 use crate::base64_text::write_base64;
 use crate::zone_name::write_zone_name;
 use dns_name::{Name, ParsedName, Parser, ToName};
-use dns_print::{TextWriter, write_number};
+use dns_print::{TextWriter, write_ipv4, write_number};
 use std::fmt;
 use std::net::{Ipv4Addr, Ipv6Addr};
 

@@ -6,11 +6,11 @@ ghost use Rattle.dns_print.specs.Printing.{PrintsOnOk};
 ghost use Rattle.dns_fields_text.specs.Parameters.{are_keys, are_protocols, has_named_value, ipv4_hints, ipv6_hints, is_bare, key_name, key_word, keys_text, named_value, other_value, parameter_word, port_text, protocols};
 ghost use Rattle.dns_fields_text.specs.ItemsLeft.{parameter_item};
 
-use crate::address::{write_ipv4, write_ipv6};
+use crate::address::write_ipv6;
 use crate::base64_text::write_base64;
 use crate::parameters::Parameter;
 use crate::strings::Strings;
-use dns_print::{TextWriter, write_number};
+use dns_print::{TextWriter, write_ipv4, write_number};
 use dns_value_text::write_quoted;
 use std::fmt;
 use std::net::Ipv6Addr;

@@ -4,9 +4,9 @@ ghost use Rattle.dns_print.specs.Printing.{PrintsOnOk};
 ghost use Rattle.dns_fields_text.specs.Prefixes.{address_text, fits, has_word, is_trimmed, padded, prefix_text, prefix_word, sign};
 ghost use Rattle.dns_fields_text.specs.ItemsLeft.{prefix_item};
 
-use crate::address::{write_ipv4, write_ipv6};
+use crate::address::write_ipv6;
 use crate::prefixes::AddressPrefix;
-use dns_print::{TextWriter, write_number};
+use dns_print::{TextWriter, write_ipv4, write_number};
 use std::fmt;
 use std::net::Ipv6Addr;
 
