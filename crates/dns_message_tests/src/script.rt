@@ -194,9 +194,15 @@ fn plain_octets(rt: &impl Abort, alloc: Global, rule: Rule) -> Vec<u8> {
 #[test]
 fn the_octets_are_the_plain_encoding(rt: HostRuntime) {
     let alloc = rt.alloc();
-    assert_eq!(rt; plain_octets(&rt, alloc, Rule::Plain).as_slice(), PLAIN.as_slice());
+    assert_eq!(rt;
+        plain_octets(&rt, alloc, Rule::Plain).as_slice(),
+        PLAIN.as_slice()
+    );
     for rule in [Rule::Static, Rule::Tree, Rule::Hash] {
-        assert_eq!(rt; plain_octets(&rt, alloc, rule).as_slice(), COMPRESSED.as_slice());
+        assert_eq!(rt;
+            plain_octets(&rt, alloc, rule).as_slice(),
+            COMPRESSED.as_slice()
+        );
     }
 }
 
