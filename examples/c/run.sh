@@ -130,7 +130,8 @@ statuses() {
   local program
   head -7 "$packages/messages.txt" >"$build/replies" && sed 11,17d "$packages/queries.txt" >"$build/queries" &&
     ends_with 0 "$build/show_simply" <"$build/replies" && ends_with 0 "$build/serve" <"$build/queries" &&
-    ends_with 1 "$build/show_simply" < <(tail -1 "$packages/messages.txt") || return
+    ends_with 1 "$build/show_simply" < <(sed -n 16p "$packages/messages.txt") &&
+    ends_with 1 "$build/show_simply" < <(sed -n 19p "$packages/messages.txt") || return
   for program in show_simply serve; do
     ends_with 1 "$build/$program" <<<zz && ends_with 1 "$build/$program" <. || return
   done
