@@ -33,12 +33,21 @@ full() {
 
 disk='No space left on device'
 question=03777777076578616d706c6503636f6d00
+asked=076578616d706c6503636f6d00
 
 # A query with the type $1 for www.example.com, and a message with the flags $2 and the answer count $3 after its question
 # (RFC 1035 section 4.1).
 resolving() {
     echo "123401000001000000000000${question}${1}0001"
     echo "1234${2}0001${3}00000000${question}${1}0001"
+}
+
+# The answer to the query below: its header and its question with QR set and 40 answers, which are type A, class IN, a TTL of 3600
+# and 4 octets each, 192.0.2.1 to 192.0.2.40, all with their whole name (RFC 1035 sections 3.4.1 and 4.1). It has 1109 octets.
+forty_addresses() {
+    local host
+    printf '123481000001002800000000%s00010001' "$asked"
+    for host in {1..40}; do printf '%s0001000100000e100004c00002%02x' "$asked" "$host"; done
 }
 
 # The status 1 of an example, with a reason.
@@ -51,6 +60,10 @@ refuses addresses_short_message example_addresses 'short message' <<<0001
 full addresses_full_disk 1 "$disk" example_addresses <crates/example_addresses/stdin
 refuses answer_no_digits example_answer 'Invalid character' <<<0001zz
 refuses answer_short_query example_answer 'fewer than 12 octets' <<<0001
+# With an OPT record, of a client that accepts 1232 octets (RFC 6891 section 6.1.2), and of one that accepts too few.
+run answer_table 0 "$(forty_addresses)" '' example_answer <<<"123401000001000000000001${asked}0001000100002904d0000000000000"
+run answer_truncated 0 "123483000001000000000000${asked}00010001" '' example_answer \
+    <<<"123401000001000000000001${asked}000100010000290454000000000000"
 full answer_full_disk 1 "$disk" example_answer <crates/example_answer/stdin
 refuses response_no_digits example_response 'Odd number of digits' <<<000
 refuses response_short_message example_response 'short message' <<<0001
@@ -101,7 +114,7 @@ run dnsview_odd 1 '' 'the number of hexadecimal digits is odd' dnsview <<<000
 run dnsview_no_option 2 '' $'dnsview: unexpected argument "--long"\n'"$usage" dnsview --long </dev/null
 run dnsview_no_text 2 '' $'dnsview: an argument is not UTF-8\n'"$usage" dnsview $'\xff' </dev/null
 run dnsview_no_file 3 '' $'dnsview: can\'t open "examples/no file": ' dnsview 'examples/no file' <examples/answer.txt
-run dnsview_folder 3 '' 'dnsview: ' dnsview examples <examples/answer.txt
+run dnsview_folder 3 '' 'dnsview: reading failed: ' dnsview examples <examples/answer.txt
 run dnsview_empty 4 '' 'dnsview: the input is empty' dnsview </dev/null
-full dnsview_full_disk 3 "$disk" dnsview <examples/answer.txt
+full dnsview_full_disk 3 "dnsview: printing failed: $disk" dnsview <examples/answer.txt
 exit $failed

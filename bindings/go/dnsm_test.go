@@ -228,6 +228,9 @@ func TestMessagesHaveALimit(t *testing.T) {
 		}
 	}
 	builder.SetFlags(0)
+	if builder.Flags() != 0 {
+		t.Error(builder.Flags())
+	}
 	builder.Rewind(mark)
 	if builder.Flags() != 0x8180 || builder.Len() != 29 {
 		t.Error(builder.Flags(), builder.Len())

@@ -102,8 +102,39 @@ func TestItemsBeforeAnErrorAreRead(t *testing.T) {
 		found, err := message.Section(Section(section))
 		equal(t, []interface{}{len(found), err}, []interface{}{int(message.Counts[section]) % 2, wanted})
 	}
-	_, err = message.OPT()
-	equal(t, err, error(ShortInput))
+	opt, err := message.OPT()
+	equal(t, []interface{}{opt, err}, []interface{}{(*OPT)(nil), ShortInput})
+	// The section has an item before the one that is cut off.
+	message, err = Parse(whole[:124])
+	equal(t, err, nil)
+	found, err := message.Section(Additional)
+	equal(t, []interface{}{len(found), err}, []interface{}{1, ShortInput})
+	equal(t, found[0].String(), "ns.example. 300 IN A 192.0.2.1")
+}
+
+func TestOptionsBeforeAnErrorAreRead(t *testing.T) {
+	octets := append([]byte(nil), whole...)
+	octets[122] = 3
+	message, items := read(t, octets)
+	wanted := wholeOPT
+	wanted.Options = wanted.Options[:1]
+	opt, err := items[4].OPT()
+	equal(t, []interface{}{opt, err}, []interface{}{&wanted, BadOption})
+	opt, err = message.OPT()
+	equal(t, []interface{}{opt, err}, []interface{}{&wanted, BadOption})
+}
+
+func TestLongDataIsWhole(t *testing.T) {
+	data := make([]byte, 65535)
+	for i := range data {
+		data[i] = byte(i % 251)
+	}
+	octets, err := Build(1, 0, []NewItem{answer(".", 65280, data)})
+	equal(t, err, nil)
+	_, items := read(t, octets)
+	if !bytes.Equal(items[0].Data(), data) {
+		t.Error(len(items[0].Data()))
+	}
 }
 
 func TestAllNamesAreFound(t *testing.T) {
@@ -113,6 +144,7 @@ func TestAllNamesAreFound(t *testing.T) {
 		name        string
 		err         error
 	}{
+		{0, 0, "", BadSection},
 		{1, 0, "mx.example.", nil},
 		{1, 1, "", NoName},
 		{2, 0, "ns.example.", nil},
@@ -133,6 +165,12 @@ func TestTheOPTRecordIsRead(t *testing.T) {
 	message, _ = read(t, plain)
 	opt, err = message.OPT()
 	if err != nil || opt.DO {
+		t.Error(opt, err)
+	}
+	// An extended rcode of more than eight bits.
+	plain[109] = 0x12
+	message, _ = read(t, plain)
+	if opt, err = message.OPT(); err != nil || opt.RcodeHigh != 0x12 {
 		t.Error(opt, err)
 	}
 	// The first of two, in the additional section only.
@@ -170,6 +208,8 @@ func TestAllFieldsAreWritten(t *testing.T) {
 	equal(t, err, nil)
 	octets, err = Build(0, 0, []NewItem{item})
 	equal(t, []interface{}{string(octets[12:]), err}, []interface{}{"\x00\x00\x29\x10\x00\x01\x02\x80\x00\x00\x0a" + options, nil})
+	item, err = (&OPT{RcodeHigh: 0x12}).Item()
+	equal(t, []interface{}{item.TTL, err}, []interface{}{uint32(0x12000000), nil})
 }
 
 func TestQueriesAndResponsesHaveAllFields(t *testing.T) {
@@ -216,6 +256,13 @@ func TestARewindRestoresLimitAndReservedOctets(t *testing.T) {
 	equal(t, builder.Put(question(".")), error(NoRoom))
 	builder.SetLimit(17)
 	equal(t, builder.Put(question(".")), nil)
+}
+
+func TestTheEmptyTextIsNoName(t *testing.T) {
+	item := NewItem{Type: TypeA, Class: ClassIN}
+	_, asked := Query(1, true, "", TypeA)
+	_, built := Build(1, 0, []NewItem{item})
+	equal(t, []error{asked, built, putting(item)}, []error{BadText, BadText, BadText})
 }
 
 func TestANameInOctetsIsWhole(t *testing.T) {
@@ -307,4 +354,7 @@ func TestEachErrorHasItsNumber(t *testing.T) {
 		}
 	}
 	equal(t, NoRoom.Error(), "the output buffer is too short")
+	// No call can be made to return NoMemory here.
+	equal(t, []interface{}{uint32(NoMemory), NoMemory.Error()}, []interface{}{uint32(11), "an allocation failed"})
+	equal(t, []error{failure(11), failure(99), failure(0)}, []error{NoMemory, Status(99), nil})
 }

@@ -56,3 +56,4 @@ for python in ${PYTHONS:-python3}; do
   [ "$first" = no ] || checks
   first=no
 done
+[ "$first" = no ] || for name in described quoted typed; do skip "python::$name" 'python3 with venv'; done

@@ -53,7 +53,7 @@ is_new() {
 }
 
 if ! has cargo || ! is_new; then
-  skip rust::all 'cargo 1.90'
+  for name in packed used system tested warnings formatted; do skip "rust::$name" 'cargo 1.90'; done
 else
   check rust::packed packed
   check rust::used used "$cc"

@@ -124,6 +124,20 @@ reads_all() {
   done
 }
 
+# The exit statuses of the programs of bindings/c: 0 after good lines, and 1 after a line that is no message. `show` there also ends
+# with 1 after a message that is cut off. No program ends with 0 if the input, here a folder, can't be read.
+statuses() {
+  local program
+  head -7 "$packages/messages.txt" >"$build/replies" && sed 11,17d "$packages/queries.txt" >"$build/queries" &&
+    ends_with 0 "$build/show_simply" <"$build/replies" && ends_with 0 "$build/serve" <"$build/queries" &&
+    ends_with 1 "$build/show_simply" < <(sed -n 16p "$packages/messages.txt") &&
+    ends_with 1 "$build/show_simply" < <(sed -n 19p "$packages/messages.txt") || return
+  for program in show_simply serve; do
+    ends_with 1 "$build/$program" <<<zz && ends_with 1 "$build/$program" <. || return
+  done
+  ends_with 1 "$build/show" <.
+}
+
 examples() {
   local source
   has_sanitizers "$1" || echo "$1 has no sanitizers: the examples in C run without" >&3
@@ -134,7 +148,7 @@ examples() {
   "$build/edge" && "$build/mx" | diff "$build/expected_data" - && messages >"$build/messages" &&
     "$build/show" <"$build/messages" | diff "$build/expected" - &&
     "$build/write" | diff "$packages/written.txt" - && reads messages shown show_simply && reads queries served serve &&
-    prints_long && reads_all &&
+    prints_long && reads_all && statuses &&
     "$build/show" prefixes <"$build/messages" && "$build/show" changes <"$build/messages"
 }
 

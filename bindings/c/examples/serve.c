@@ -1,6 +1,7 @@
 /* Answers queries as a name server does over UDP: reads them from standard input, in hexadecimal, one a line, of any length, and
  * prints the responses. A question for AAAA gets 20 addresses. If these don't fit, the response has none of them, and TC is set.
- * A line that isn't in hexadecimal is reported on standard error, and then the exit status is 1. */
+ * A line that isn't in hexadecimal is reported on standard error. The exit status is 1 if there is one, or if the input can't be
+ * read. */
 #include <dnsm.h>
 
 #include <stdio.h>
@@ -161,6 +162,10 @@ int main(void)
             failed = 1;
         }
     free(message.at);
+    if (ferror(stdin)) {
+        fprintf(stderr, "the input can't be read\n");
+        failed = 1;
+    }
     if (ferror(stdout) || fclose(stdout) != 0) {
         fprintf(stderr, "the output can't be written\n");
         return 1;

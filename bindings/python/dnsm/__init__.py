@@ -6,7 +6,10 @@
     ['www.example.com. IN A']
 
 `Message.from_wire` reads the header only; questions and records are read as they are iterated over. `build` writes a message by one
-call, and `Builder` item by item, within a limit. The README says what the text of a name is. All errors are subclasses of `Error`.
+call, and `Builder` item by item, within a limit. The README says what the text of a name is.
+
+Errors of the library are subclasses of `Error`, but `MemoryError` if an allocation fails. A number out of range is a `ValueError`,
+and an argument of another type a `TypeError`.
 """
 
 from ._builder import Builder, Mark

@@ -152,6 +152,8 @@ class Building(unittest.TestCase):
         self.put(builder)
         builder.flags |= Flag.TC
         self.assertEqual((len(builder), builder.flags), (45, 0x8380))
+        builder.flags = 0
+        self.assertEqual((builder.flags, builder.finish()[2:4]), (0, b"\0\0"))
         builder.rewind(mark)
         self.assertEqual((len(builder), builder.flags), (29, 0x8180))
         self.put(builder)

@@ -87,6 +87,12 @@ class Reading(unittest.TestCase):
         self.assertEqual(message.edns(), EDNS)
         self.assertEqual(message.extended_rcode(), 19)
         self.assertEqual((EDNS.option(10), EDNS.option(11)), (Option(10, b"\xab\xcd"), None))
+        twice = Edns(options=(Option(1, b"a"), Option(10, b"b"), Option(10, b"c"), Option(3, b"d")))
+        self.assertEqual(twice.option(10), Option(10, b"b"))
+        # An extended rcode of more than eight bits.
+        high = Message.from_wire(WHOLE[:109] + b"\x12" + WHOLE[110:])
+        self.assertEqual((high.edns().rcode_high, high.extended_rcode()), (0x12, 0x123))
+        self.assertEqual(Message.from_wire(build(0, edns=Edns(rcode_high=0x12), rcode=3)).extended_rcode(), 0x123)
         plain = Message.from_wire(WHOLE[:111] + b"\0" + WHOLE[112:])
         self.assertEqual((plain.edns().dnssec_ok, plain.edns().flags), (False, 1))
         # The first of two, in the additional section only.
@@ -95,6 +101,12 @@ class Reading(unittest.TestCase):
         self.assertEqual(message.edns().udp_size, 2)
         message = Message.from_wire(build(1, answer=records[:1], rcode=3))
         self.assertEqual((message.edns(), message.extended_rcode()), (None, 3))
+
+
+    def test_long_data(self):
+        data = bytes(number % 251 for number in range(65535))
+        record = next(Message.from_wire(build(1, answer=[NewRecord(".", 65280, data)])).records)
+        self.assertEqual(record.data, data)
 
 
 class Writing(unittest.TestCase):
@@ -158,6 +170,17 @@ class Writing(unittest.TestCase):
         self.assertEqual(builder.reserved, 1)
         self.assertRaises(dnsm.NoRoom, builder.put, Section.QUESTION, ".", Type.A)
 
+    def test_the_empty_text_is_no_name(self):
+        for call in (
+            lambda: dnsm.query("", id=1),
+            lambda: build(1, questions=[""]),
+            lambda: build(1, answer=[NewRecord("", Type.A, ADDRESS)]),
+            lambda: Builder(1).put(Section.QUESTION, "", Type.A),
+        ):
+            with self.assertRaises(dnsm.NameTextError) as raised:
+                call()
+            self.assertEqual(raised.exception.status, Status.BAD_TEXT)
+
     def test_a_name_in_octets_is_whole(self):
         for name, error in (
             (b"\0x", dnsm.NameTextError),
@@ -217,10 +240,47 @@ class Errors(unittest.TestCase):
                 call()
             self.assertEqual((type(raised.exception), raised.exception.status), (kind, status))
 
+    def test_all_have_a_class(self):
+        kinds = {
+            dnsm.MalformedMessage: (2, 3, 4, 5, 19),
+            dnsm.NoRoom: (7,),
+            dnsm.NameTextError: (8,),
+            dnsm.NotAnswerable: (9, 14, 15, 16, 17),
+            dnsm.TooLong: (12, 13),
+            dnsm.DataError: (20, 21),
+            dnsm.Error: (6, 10, 18),
+            MemoryError: (11,),
+        }
+        for kind, statuses in kinds.items():
+            for status in statuses:
+                self.assertIs(type(dnsm._errors.error_of(status, "text")), kind, status)
+
     def test_those_of_a_later_version(self):
         error = dnsm._errors.error_of(99, "text")
         self.assertEqual((type(error), error.status, str(error)), (dnsm.Error, 99, "text"))
         self.assertIs(type(dnsm._errors.error_of(Status.NO_MEMORY, "text")), MemoryError)
+
+
+class Numbers(unittest.TestCase):
+    def test_they_are_registered(self):
+        """As IANA has them in the registry of DNS parameters, of the opcodes and rcodes that have a name here."""
+        opcodes = {"QUERY": 0, "IQUERY": 1, "STATUS": 2, "NOTIFY": 4, "UPDATE": 5}
+        self.assertEqual({it.name: it.value for it in Opcode}, opcodes)
+        rcodes = {
+            "NOERROR": 0,
+            "FORMERR": 1,
+            "SERVFAIL": 2,
+            "NXDOMAIN": 3,
+            "NOTIMP": 4,
+            "REFUSED": 5,
+            "YXDOMAIN": 6,
+            "YXRRSET": 7,
+            "NXRRSET": 8,
+            "NOTAUTH": 9,
+            "NOTZONE": 10,
+            "BADVERS": 16,
+        }
+        self.assertEqual({it.name: it.value for it in Rcode}, rcodes)
 
 
 if __name__ == "__main__":

@@ -1,6 +1,6 @@
 // Answers queries as a name server does over UDP: reads them from standard input, in hexadecimal, one a line, and prints the
 // responses. A question for AAAA gets 20 addresses. If these don't fit, the response has none of them, and TC is set. A line that
-// isn't in hexadecimal is reported on standard error, and then the exit status is 1.
+// isn't in hexadecimal is reported on standard error. The exit status is 1 if there is one, or if the input can't be read.
 package main
 
 import (
@@ -8,6 +8,7 @@ import (
 	"encoding/hex"
 	"errors"
 	"fmt"
+	"io"
 	"log"
 	"os"
 	"strings"
@@ -120,6 +121,9 @@ func main() {
 	input, output := bufio.NewReader(os.Stdin), bufio.NewWriter(os.Stdout)
 	for number := 1; ; number++ {
 		line, err := input.ReadString('\n')
+		if err != nil && err != io.EOF {
+			log.Fatal(err)
+		}
 		if line == "" && err != nil {
 			os.Exit(status)
 		}

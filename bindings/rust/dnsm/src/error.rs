@@ -89,3 +89,23 @@ impl fmt::Display for Error {
 }
 
 impl std::error::Error for Error {}
+
+#[cfg(test)]
+mod tests {
+    use super::Error;
+
+    /// 0 is success, 1 the end and 6 a status that only a caller can make.
+    #[test]
+    fn each_status_has_its_error() {
+        for status in (2..=21).filter(|&status| status != 6) {
+            let error = Error::from_status(status);
+            assert_eq!(error.status(), status);
+            assert!(!matches!(error, Error::Other(_)), "{status}");
+        }
+        for status in [6, 22, 99, u32::MAX] {
+            assert_eq!(Error::from_status(status), Error::Other(status));
+        }
+        assert_eq!((Error::check(0), Error::check(11)), (Ok(()), Err(Error::NoMemory)));
+        assert_eq!(Error::check(99), Err(Error::Other(99)));
+    }
+}

@@ -121,6 +121,7 @@ fn a_message_has_a_limit() {
     assert_eq!((builder.put(&record), builder.len()), (Ok(()), 45));
     assert_eq!(builder.put(&record), Err(Error::NoRoom));
     builder.set_flags(0);
+    assert_eq!(builder.flags(), 0);
     builder.rewind(&mark);
     assert_eq!((builder.flags(), builder.len()), (0x8180, 29));
     builder.put(&record).unwrap();

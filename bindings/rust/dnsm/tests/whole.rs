@@ -85,6 +85,14 @@ fn all_names_are_found() {
     assert_eq!((items[1].data_name(1).err(), items[2].data_name(2).err()), (Some(Error::NoName), Some(Error::NoName)));
     assert_eq!((items[1].data(), items[3].data()), (&WHOLE[37..44], &[192, 0, 2, 1][..]));
     assert_eq!((items[0].data(), items[4].data()), (&[][..], OPTIONS));
+    assert_eq!(items[0].data_name(0).err(), Some(Error::BadSection));
+}
+
+#[test]
+fn long_data_is_whole() {
+    let data: Vec<u8> = (0..65535).map(|number| (number % 251) as u8).collect();
+    let octets = build(1, 0, &[NewItem::record(Section::Answer, ".", Rtype(65280), 0, &data)]).unwrap();
+    assert_eq!(Message::new(&octets).unwrap().items().next().unwrap().unwrap().data(), data);
 }
 
 #[test]
@@ -93,6 +101,14 @@ fn the_opt_record_is_read() {
     assert_eq!((opt.udp_size(), opt.dnssec_ok(), opt.version(), opt.rcode(3), opt.rcode(0xf3)), (4096, true, 2, 19, 19));
     let wanted = [EdnsOption { code: 3, data: b"" }, EdnsOption { code: 10, data: b"\xab\xcd" }];
     assert!(opt.options().map(Result::unwrap).eq(wanted));
+    // An option that isn't whole: an error after those before it, and then the end.
+    let mut octets = WHOLE.to_vec();
+    octets[122] = 3;
+    let opt = Message::new(&octets).unwrap().opt().unwrap().unwrap();
+    assert!(opt.options().take(9).eq([Ok(wanted[0]), Err(Error::BadOption)]));
+    // An extended rcode of more than eight bits.
+    octets[109] = 0x12;
+    assert_eq!(Message::new(&octets).unwrap().opt().unwrap().unwrap().rcode(3), 0x123);
     // Without DO, with another flag.
     let mut octets = WHOLE.to_vec();
     octets[111] = 0;
@@ -123,6 +139,8 @@ fn an_opt_record_is_written() {
     let options = [EdnsOption { code: 3, data: b"" }, EdnsOption { code: 10, data: b"\xab\xcd" }];
     let opt = NewOpt::new(4096, true, 1, &options).unwrap();
     assert_eq!(&build(0, 0, &[opt.item()]).unwrap()[12..], [&b"\0\0\x29\x10\0\x01\0\x80\0\0\x0a"[..], OPTIONS].concat());
+    let opt = NewOpt::new(512, false, 0x12, &[]).unwrap();
+    assert_eq!(opt.item().ttl, 0x1200_0000);
     let opt = NewOpt::new(512, false, 0, &[]).unwrap();
     assert_eq!(build(0, 0, &[opt.item()]).unwrap(), b"\0\0\0\0\0\0\0\0\0\0\0\x01\0\0\x29\x02\0\0\0\0\0\0\0");
 }
@@ -177,6 +195,13 @@ fn a_rewind_restores_limit_and_reserved_octets() {
 #[test]
 fn texts_may_be_padded() {
     assert_eq!(format!("{:>3}{:3}{:>9}", Rtype::A, Class::IN, Section::Answer), "  AIN    answer");
+}
+
+#[test]
+fn the_empty_text_is_no_name() {
+    assert_eq!(query(1, true, "", Rtype::A, Class::IN), Err(Error::BadText));
+    let item = NewItem::question("", Rtype::A, Class::IN);
+    assert_eq!((build(1, 0, &[item]), putting(&[item])), (Err(Error::BadText), Err(Error::BadText)));
 }
 
 /// Names in octets that are no name, or more than one.
@@ -252,6 +277,8 @@ fn each_error_has_its_number() {
         assert_eq!((result, error.status()), (Err(error), number));
     }
     assert_eq!(Error::NoRoom.to_string(), "the output buffer is too short");
+    assert_eq!((Error::NoMemory.status(), Error::Other(99).status()), (11, 99));
+    assert!(Error::Other(99).to_string().ends_with("99"));
 }
 
 #[test]
