@@ -1,6 +1,5 @@
 //! A case, and what the library makes of its RDATA.
 use crate::fields::write_values;
-use crate::made::digits_made;
 use dns_code::Rtype;
 use dns_data::{ComposeRecordData, ParseAnyRecordData};
 use dns_data_read::from_text;
@@ -81,14 +80,6 @@ impl Case {
         }
     }
 
-    /// The digits of the RDATA that the values of its fields make, or why it can't be read.
-    pub(crate) fn made(&self, alloc: Global) -> io::Result<String> {
-        match self.data() {
-            Ok(data) => digits_made(alloc, &data),
-            Err(error) => error_text(alloc, error),
-        }
-    }
-
     /// The digits of the canonical form of the RDATA, or why it can't be read.
     pub(crate) fn canonical(&self, alloc: Global) -> io::Result<String> {
         let mut target = Vec::new(alloc);
@@ -142,7 +133,7 @@ impl Case {
 }
 
 /// The digits of RDATA as it is written.
-pub(crate) fn digits_written<D: ComposeRecordData>(alloc: Global, data: &D) -> io::Result<String> {
+fn digits_written<D: ComposeRecordData>(alloc: Global, data: &D) -> io::Result<String> {
     let mut target = Vec::new(alloc);
     match data.compose_rdata(&mut target) {
         Ok(()) => Ok(hex::encode(alloc, target.as_slice())?),

@@ -95,8 +95,8 @@ fn check_line<W: Write + Drop>(
     }
 }
 
-/// Checks the fields; that the RDATA is written as it was, and made again from the values of its
-/// fields; and that each part that it begins with is written as it was, unless it ends too early.
+/// Checks the fields; that the RDATA is written as it was; and the same of each part that it begins
+/// with, unless that ends too early.
 fn check_fields<W: Write + Drop>(
     alloc: Global,
     report: &mut Report<'_, W>,
@@ -108,8 +108,6 @@ fn check_fields<W: Write + Drop>(
     let octets = hex::encode(alloc, case.rdata())?;
     let written = case.written(alloc)?;
     report.check("written as it was", octets.as_bytes(), written.as_bytes())?;
-    let made = case.made(alloc)?;
-    report.check("made of its values", octets.as_bytes(), made.as_bytes())?;
     let shown = match case.bad_cut(alloc)? {
         Some(len) => format!(in alloc; "not at {len} octets")?,
         None => String::from_str(alloc, "kept or short")?,

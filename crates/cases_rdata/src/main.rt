@@ -13,7 +13,6 @@
 mod case;
 mod checks;
 mod fields;
-mod made;
 mod reading;
 mod rewriting;
 

@@ -11,7 +11,7 @@ use dns_code::Rtype;
 use dns_target::{
     FingerprintCompressor, HashCompressor, StaticCompressor, StreamTarget, TreeCompressor,
 };
-use dns_wire::{AppendError, Composer, FreezeBuilder, Name};
+use dns_wire::{AppendError, CloneTarget, Composer, FreezeBuilder, Name};
 use std::alloc::Global;
 use std::process::Abort;
 
@@ -579,11 +579,18 @@ fn push_two_thousand<T: Composer>(
     Vec::from_slice(alloc, builder.as_slice()).expect(rt, "memory")
 }
 
-/// Pushes these questions, rewinds, and pushes them again.
-fn assert_pushed_again<T: Composer>(rt: &impl Abort, alloc: Global, target: T) {
+/// Pushes these questions, clones the builder, rewinds, and pushes them again.
+fn assert_pushed_again<T: CloneTarget>(rt: &impl Abort, alloc: Global, target: T) {
     let builder = MessageBuilder::from_target(target).expect(rt, "memory");
     let mut builder = builder.question();
     let first = push_two_thousand(rt, alloc, &mut builder);
+    let clone = builder.clone().expect(rt, "memory");
+    assert_octets(
+        rt,
+        "A clone of two thousand questions",
+        clone.as_slice(),
+        &first,
+    );
     builder.rewind();
     let second = push_two_thousand(rt, alloc, &mut builder);
     assert_octets(rt, "Two thousand questions", &second, &first);
@@ -593,5 +600,9 @@ fn assert_pushed_again<T: Composer>(rt: &impl Abort, alloc: Global, target: T) {
 fn two_thousand_questions_are_pushed_again(rt: HostRuntime) {
     let alloc = rt.alloc();
     let target = TreeCompressor::new(alloc, Vec::new(alloc));
+    assert_pushed_again(&rt, alloc, target);
+    let target = HashCompressor::new(alloc, Vec::new(alloc));
+    assert_pushed_again(&rt, alloc, target);
+    let target = FingerprintCompressor::new(alloc, Vec::new(alloc));
     assert_pushed_again(&rt, alloc, target);
 }

@@ -141,44 +141,133 @@ fn says_what_is_wrong(rt: HostRuntime) {
     assert_eq!(rt; made.err(), Some(ValueError::TooLong));
 }
 
-/// Each kind of value that is too long or too large is `OutOfRange`, and not `OutOfMemory`.
+/// Strings and tags that are too long are `OutOfRange`, and not `OutOfMemory`.
 #[test]
-fn says_what_is_out_of_range(rt: HostRuntime) {
+fn refuses_long_strings(rt: HostRuntime) {
     let alloc = rt.alloc();
     let long = [97; 65536];
-    let tag = caa(alloc, 0, &long[..256], b"");
+    let tag = caa(alloc, 0, &long[..256], &long[..0]);
     assert_eq!(rt; tag.err(), Some(ValueError::OutOfRange(1)));
-    let strings: [&[u8]; 2] = [b"", &long[..256]];
+    let strings: [&[u8]; 2] = [&long[..0], &long[..256]];
     let made = txt(alloc, &strings);
     assert_eq!(rt; made.err(), Some(ValueError::OutOfRange(0)));
     let root = name(&rt, b"\x00");
-    let made = https(alloc, 1, &root, &[(3, b"\x00\x35"), (7, &long)]);
+    let parameters: [(u16, &[u8]); 2] = [(3, &long[..2]), (7, &long)];
+    let made = https(alloc, 1, &root, &parameters);
     assert_eq!(rt; made.err(), Some(ValueError::OutOfRange(2)));
-    let short = AddressPrefix {
+}
+
+/// A prefix with this address.
+fn prefix(address: &[u8]) -> AddressPrefix<'_> {
+    AddressPrefix {
         family: 1,
         size: 0,
         negated: false,
-        address: b"",
-    };
-    let other = AddressPrefix {
-        family: 1,
-        size: 0,
-        negated: false,
-        address: &long[..128],
-    };
-    let prefixes = [NewValue::Prefixes(&[short, other])];
-    assert_refused(&rt, alloc, Rtype::APL, &prefixes, ValueError::OutOfRange(0));
-    // RFC 8945 section 4.2: the MAC is the fourth field, the other data the last
+        address,
+    }
+}
+
+/// So is an address of a prefix that is too long.
+#[test]
+fn refuses_long_prefixes(rt: HostRuntime) {
+    let alloc = rt.alloc();
+    let long = [97; 128];
+    let prefixes = [prefix(&long[..0]), prefix(&long)];
+    let values = [NewValue::Prefixes(&prefixes)];
+    assert_refused(&rt, alloc, Rtype::APL, &values, ValueError::OutOfRange(0));
+}
+
+/// RDATA of TSIG (RFC 8945 section 4.2).
+#[test]
+fn makes_tsig(rt: HostRuntime) {
+    let alloc = rt.alloc();
+    let root = Name::root_slice();
+    let values = [
+        NewValue::Name(root.as_parsed()),
+        NewValue::Number(0x010203040506),
+        NewValue::Number(300),
+        NewValue::Sized(b"mac"),
+        NewValue::Number(0x1234),
+        NewValue::Number(16),
+        NewValue::Sized(b""),
+    ];
+    let octets = b"\x00\x01\x02\x03\x04\x05\x06\x01\x2c\x00\x03mac\x12\x34\x00\x10\x00\x00";
+    let made = from_values(alloc, Rtype::TSIG, &values);
+    assert_made(&rt, alloc, "TSIG", made, octets);
+}
+
+/// One octet more than a length of 16 bits counts.
+const LONG: &[u8] = &[97; 65536];
+
+/// A MAC that is too long is `OutOfRange`, and not `OutOfMemory`.
+#[test]
+fn refuses_a_long_mac(rt: HostRuntime) {
+    let alloc = rt.alloc();
+    let root = Name::root_slice();
     let values = [
         NewValue::Name(root.as_parsed()),
         NewValue::Number(0),
         NewValue::Number(300),
-        NewValue::Sized(&long),
+        NewValue::Sized(LONG),
         NewValue::Number(0),
         NewValue::Number(0),
         NewValue::Sized(b""),
     ];
     assert_refused(&rt, alloc, Rtype::TSIG, &values, ValueError::OutOfRange(3));
+}
+
+/// RDATA of TKEY (RFC 2930 section 2).
+#[test]
+fn makes_tkey(rt: HostRuntime) {
+    let alloc = rt.alloc();
+    let root = Name::root_slice();
+    let values = [
+        NewValue::Name(root.as_parsed()),
+        NewValue::Number(0x01020303),
+        NewValue::Number(0x01020304),
+        NewValue::Number(3),
+        NewValue::Number(0),
+        NewValue::Sized(b"key"),
+        NewValue::Sized(b""),
+    ];
+    let octets = b"\x00\x01\x02\x03\x03\x01\x02\x03\x04\x00\x03\x00\x00\x00\x03key\x00\x00";
+    let made = from_values(alloc, Rtype::TKEY, &values);
+    assert_made(&rt, alloc, "TKEY", made, octets);
+}
+
+/// RDATA of SIG and RRSIG (RFC 4034 section 3.1).
+#[test]
+fn makes_signatures(rt: HostRuntime) {
+    let alloc = rt.alloc();
+    let root = Name::root_slice();
+    let values = [
+        NewValue::RecordType(Rtype::A),
+        NewValue::Number(5),
+        NewValue::Number(3),
+        NewValue::Number(86400),
+        NewValue::Number(0x01020304),
+        NewValue::Number(0x01020303),
+        NewValue::Number(2642),
+        NewValue::Name(root.as_parsed()),
+        NewValue::Octets(b"signature"),
+    ];
+    let octets =
+        b"\x00\x01\x05\x03\x00\x01\x51\x80\x01\x02\x03\x04\x01\x02\x03\x03\x0a\x52\x00signature";
+    for rtype in [Rtype::SIG, Rtype::RRSIG] {
+        let made = from_values(alloc, rtype, &values);
+        assert_made(&rt, alloc, "a signature", made, octets);
+    }
+}
+
+/// RDATA with IPv4 addresses (RFC 1035 section 3.4.1, RFC 6742 section 2.2).
+#[test]
+fn makes_addresses(rt: HostRuntime) {
+    let alloc = rt.alloc();
+    let made = from_values(alloc, Rtype::A, &[NewValue::Ipv4([192, 0, 2, 1])]);
+    assert_made(&rt, alloc, "A", made, b"\xc0\x00\x02\x01");
+    let values = [NewValue::Number(10), NewValue::Ipv4([10, 1, 2, 0])];
+    let made = from_values(alloc, Rtype::L32, &values);
+    assert_made(&rt, alloc, "L32", made, b"\x00\x0a\x0a\x01\x02\x00");
 }
 
 /// An error prints this.

@@ -15,6 +15,8 @@ mod canonical_name;
 #[cfg(test)]
 mod hostile;
 #[cfg(test)]
+mod largest;
+#[cfg(test)]
 mod messages;
 #[cfg(test)]
 mod questions;

@@ -185,6 +185,8 @@ fn clones_vectors_of_many_octets(rt: HostRuntime) {
         let target = many_octets(&rt, rt.alloc(), len);
         let clone = target.clone_target().expect(&rt, "a clone of a vector");
         assert_octets(&rt, "a clone of a vector", &clone, &target);
+        let copy = Vec::try_octets_from(rt.alloc(), target.as_slice()).expect(&rt, "a copy");
+        assert_octets(&rt, "a copy of a slice", &copy, &target);
     }
 }
 

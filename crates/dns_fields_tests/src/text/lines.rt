@@ -88,9 +88,11 @@ fn assert_malformed(rt: &impl Abort, alloc: Global, line: &str) {
 }
 
 #[test]
-fn prints_its_error(rt: HostRuntime) {
-    let error = TextError::BadWord;
-    assert_prints(&rt, rt.alloc(), "the error", &error, "bad word");
+fn prints_its_errors(rt: HostRuntime) {
+    let word = TextError::BadWord;
+    assert_prints(&rt, rt.alloc(), "a word", &word, "bad word");
+    let memory = TextError::OutOfMemory;
+    assert_prints(&rt, rt.alloc(), "memory", &memory, "out of memory");
 }
 
 /// Texts with a word after the end of the line, or with parentheses that don't match.

@@ -39,3 +39,15 @@ fn long_data(rt: HostRuntime) {
     let longer = target_error(&rt, rt.alloc(), 65532);
     assert_longest(&rt, longer, target_error(&rt, rt.alloc(), 65531));
 }
+
+/// A clone of the longest record data has all its octets.
+#[test]
+fn long_data_is_cloned(rt: HostRuntime) {
+    let letters = letters(&rt, rt.alloc(), 65531);
+    let words = ["1", "2", letters.as_str()];
+    let made = from_text(rt.alloc(), Rtype::from_int(256), &words);
+    let made = made.expect(&rt, "record data");
+    let clone = made.clone().expect(&rt, "memory");
+    let is_same = clone.as_field_data() == made.as_field_data();
+    assert_holds(&rt, "the clone", is_same);
+}
