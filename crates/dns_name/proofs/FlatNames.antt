@@ -17,6 +17,7 @@ pub record Flat (b : List ℕ) (start at : ℕ) (whole : Labels) : Type 0 where
   pub whole_if : (after : List ℕ) → drop at b ≡ uncompressed rest ++ after → drop start b ≡ uncompressed whole ++ after
   pub rest_if : (after : List ℕ) → drop start b ≡ uncompressed whole ++ after → drop at b ≡ uncompressed rest ++ after
 
+-- Before the first label that a walk skips, the rest is the whole name.
 pub flat_none : (b : List ℕ) (p : ℕ) (name : Labels) → NameAt b p name → Flat b p p name
 flat_none b p name s = record { rest = name; encoded = s; whole_if = λ after e. e; rest_if = λ after e. e }
 

@@ -70,6 +70,7 @@ is_padded size bits prefix address h =
 pub none_padded : (size bits : ℕ) (prefix address : List ℕ) → HasPrefix size bits prefix address → prefix_octets bits (padded size prefix) ≡ prefix
 none_padded size bits prefix address h = ap (prefix_octets bits) (is_padded size bits prefix address h) ∙ sym h.begins
 
+-- A prefix that was padded with zeros has the prefix.
 pub padded_has : (size bits : ℕ) (prefix : List ℕ) → length prefix ≤ size → bits ≤ 8 * size → prefix_octets bits (padded size prefix) ≡ prefix → HasPrefix size bits prefix (padded size prefix)
 padded_has size bits prefix fits within same =
     let blank : List ℕ = replicate size 0 in
@@ -170,14 +171,17 @@ pub v4_read : (number bits : ℕ) (prefix octets : List ℕ) → number ≡ 1 �
 v4_read number bits prefix octets is one (V4 w) = (λ h. ap (λ (o : List ℕ). V4 o) ((one w).0 h.1), λ e. (sym is, (one w).1 cc))
 v4_read number bits prefix octets is one (V6 w) = (λ h. absurd (omega (arith, h.0)), λ e. absurd cc)
 
+-- An IPv6 prefix is the address that its octets give.
 pub v6_read : (number bits : ℕ) (prefix octets : List ℕ) → number ≡ 2 → ((w : List ℕ) → HasPrefix 16 bits prefix w ↔ (octets ≡ w)) → (v : SubnetAddr) → HasSubnetPrefix number bits prefix v ↔ (V6 octets ≡ v)
 v6_read number bits prefix octets is one (V6 w) = (λ h. ap (λ (o : List ℕ). V6 o) ((one w).0 h.1), λ e. (sym is, (one w).1 cc))
 v6_read number bits prefix octets is one (V4 w) = (λ h. absurd (omega (arith, h.0)), λ e. absurd cc)
 
+-- Octets that are no IPv4 prefix give no address of family 1.
 pub no_v4 : (number bits : ℕ) (prefix : List ℕ) → number ≡ 1 → ((w : List ℕ) → HasPrefix 4 bits prefix w → ⊥) → (v : SubnetAddr) → HasSubnetPrefix number bits prefix v → ⊥
 no_v4 number bits prefix is never (V4 w) h = never w h.1
 no_v4 number bits prefix is never (V6 w) h = omega (arith, h.0)
 
+-- Octets that are no IPv6 prefix give no address of family 2.
 pub no_v6 : (number bits : ℕ) (prefix : List ℕ) → number ≡ 2 → ((w : List ℕ) → HasPrefix 16 bits prefix w → ⊥) → (v : SubnetAddr) → HasSubnetPrefix number bits prefix v → ⊥
 no_v6 number bits prefix is never (V6 w) h = never w h.1
 no_v6 number bits prefix is never (V4 w) h = omega (arith, h.0)

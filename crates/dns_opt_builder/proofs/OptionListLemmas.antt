@@ -9,6 +9,7 @@ use Rattle.dns_opt.specs.Options.{OptionItem, OptionBegins, AreOptions, encode_o
 use Rattle.dns_opt.specs.OptionsOf.{options_of, options_in}
 use Rattle.dns_opt.proofs.theory.OptionsLemmas.{listed_are}
 
+-- Each number takes two octets.
 pub numbers_length : (ns : List ℕ) → length (flat_map (to_be_bytes w16) ns) ≡ length ns * 2
 numbers_length [] = omega arith
 numbers_length (n ∷ ns) = let rest = numbers_length ns in omega arith

@@ -71,10 +71,12 @@ module _ (word text : List ℕ) where
       let o : Option ℕ = option_map (λ entry. entry.0) (find (is_text text) names) in
       spelled_by names o apart (one_number text names o distinct refl)
 
+-- A text spells one type or none.
 pub type_of : (text : List ℕ) → OneOrNone (SpellsType text)
 unfolding type_mnemonics
 type_of text = spelled_of (codes "TYPE") text type_mnemonics refl refl
 
+-- A text spells one class or none.
 pub class_of : (text : List ℕ) → OneOrNone (SpellsClass text)
 unfolding class_mnemonics
 class_of text = spelled_of (codes "CLASS") text class_mnemonics refl refl

@@ -39,6 +39,7 @@ after_chars (d ∷ ds) cs text s e =
     let cut = cons_from_encodes cs (encode_utf8_all ds ++ text) d (e ∙ append_assoc (encode_utf8 d) (encode_utf8_all ds) text) in
     after_chars ds cut.0 text (and_right (scalar d) (all_scalars cut.0) (ap all_scalars (sym cut.1) ∙ s)) cut.2
 
+-- What is left after a word is UTF-8 too.
 pub utf8_after : (s t : SplitWhitespace) (x : Bor (List ℕ)) → split_whitespace_steps s (Some x) t → IsUtf8 (split_whitespace_rest s) → IsUtf8 (split_whitespace_rest t)
 utf8_after s t x h u =
     let rest : List ℕ = split_whitespace_rest t in
@@ -129,6 +130,7 @@ begins (c ∷ cs) s = by_white (begins cs (and_right (scalar c) (all_scalars cs)
     by_white after true e = let rest = words_of cs after in at_white e (wider_gap c (encode_utf8_all cs) rest.0 e rest.1)
     by_white after false e = at_word (longer_word c cs e (and_right (scalar c) (all_scalars cs) s) after)
 
+-- Each text has words.
 pub some_words : (text : List ℕ) → IsUtf8 text → (words : List (List ℕ)) × AreWords text words
 some_words text u =
     let made = words_of u.0 (begins u.0 u.1.0) in
@@ -222,6 +224,7 @@ cut_from _ _ (word {gap} {word = first} {text} {words} g w s r) =
           ∙ ap (λ ws. first ∷ ws) rest.cut_words;
     }
 
+-- A text has one list of words.
 pub one_words : (text : List ℕ) (v w : List (List ℕ)) → AreWords text v → AreWords text w → v ≡ w
 one_words text v w x y =
     let a = cut_from text v x in

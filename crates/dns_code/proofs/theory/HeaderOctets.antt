@@ -53,6 +53,7 @@ record Third (x r z a c o : ℕ) : Type 0 where
 third : (x r z a c o : ℕ) → x ≡ r * 128 + z * 64 + a * 32 + c * 16 + o → r ≤ 1 → z ≤ 1 → a ≤ 1 → c ≤ 1 → o < 16 → Third x r z a c o
 third x r z a c o is h7 h6 h5 h4 h0 = record { small = omega arith; ra = omega arith; z_bit = omega arith; ad = omega arith; cd = omega arith; rcode = omega arith }
 
+-- The octets of the fields before the counts are four.
 pub length-octets_of_fields : (f : HeaderFields) → length (octets_of_fields f) ≡ 4
 unfolding octets_of_fields
 length-octets_of_fields f = refl
@@ -137,9 +138,11 @@ module _ (b : List ℕ) (are : AreOctets b 4) where
       let h1 = octet_below b 4 1 are (omega arith) in
       record { id = omega arith; opcode = omega arith; rcode = omega arith }
 
+-- Fields that four octets can hold are the fields in their octets.
 pub octets_have_fields : OctetsHaveFields
 octets_have_fields f is = (are_octets f is, fields_in-octets_of_fields f is)
 
+-- Each four octets are those of their fields.
 pub octets_are_of_fields : OctetsAreOfFields
 octets_are_of_fields b are = (is_header b are, octets_of_fields-fields_in b are)
 

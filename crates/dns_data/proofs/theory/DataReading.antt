@@ -272,6 +272,7 @@ module _ (b : List ℕ) where
       let end : k.1 ≡ h.1 = one_end b k.3 h.3 in
       one_fault layout h.1 f g (ends_in_octets h.3) h.4 (subst (λ e. DataFaultAt b layout e g) end k.4)
 
+-- For each layout, RDATA has one value or one fault.
 pub one_rdata_or_fault : OneRdataOrFault
 one_rdata_or_fault b layout p l = record {
   some = rdata_or_fault b layout p;

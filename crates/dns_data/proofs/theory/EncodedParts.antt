@@ -46,6 +46,7 @@ whole_may_be_encoded : (pointers : Bool) (name : Labels) (p q : ℕ) → q ≡ p
 whole_may_be_encoded true name p q e = refl
 whole_may_be_encoded false name p q e = eq-eqb q (p + length (uncompressed name)) e
 
+-- Parts that are encoded are read back by the layout that they have.
 pub encoded_parts_read : EncodedPartsRead
 encoded_parts_read b end p End parts l h is = by parts h is
   where

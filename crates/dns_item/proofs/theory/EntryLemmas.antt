@@ -43,6 +43,7 @@ module _ (b : List ℕ) where
       let to : x.rdata_end ≡ y.rdata_end = h.rdata_end ∙ one_fields_end b size h.skips k.skips ∙ sym k.rdata_end in
       λ i. record { owner = owner i; rtype = rtype i; class = class i; ttl = ttl i; rdata_start = from i; rdata_end = to i }
 
+-- At each offset there is one record header or one fault.
 pub header_or_fault : HeaderOrFault
 header_or_fault b =
     reads_or_faults b (λ r. 10) (λ r. length b < r + 10) (λ r. long_or_short b (r + 10)) (λ r l. l) (ReadsHeader b) (λ x. x.owner)
@@ -53,6 +54,7 @@ header_or_fault b =
     ))
     (same_header b)
 
+-- At each offset there is one record or one fault.
 pub record_or_fault : RecordOrFault
 record_or_fault b =
     reads_or_faults b (size b) (LacksRecord b) (record_long b) (record_short b) (ReadsRecord b) (λ x. x.owner) (λ p q x h. (h.skips, h.owner))
@@ -62,8 +64,10 @@ record_or_fault b =
     ))
     (same_record b)
 
+-- At each offset a record can be skipped to one end, or there is one fault.
 pub record_end_or_fault : RecordEndOrFault
 record_end_or_fault b = ends_or_faults b (size b) (LacksRecord b) (record_long b) (record_short b)
 
+-- Where a record is, it is skipped to its end; where it can't be skipped, none is.
 pub record_skip_agrees : RecordSkipAgrees
 record_skip_agrees = record { ends_alike = λ b p q x h. h.skips; fails_alike = λ b p q x f fault h. (record_end_or_fault b).not_both p q f h.skips fault }

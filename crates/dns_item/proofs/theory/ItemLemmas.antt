@@ -77,6 +77,7 @@ reads_record x t p q is good h =
       };
     }
 
+-- A record that is encoded is the record that is read there.
 pub records_read_back : RecordsReadBack
 records_read_back rule t x is h =
     let p = encodes_record rule x is in

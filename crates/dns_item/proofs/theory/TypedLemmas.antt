@@ -17,6 +17,7 @@ use Rattle.dns_item.specs.RecordReading.{GivesLaidOut, GivesTaken, ReturnsLaidOu
 use Rattle.dns_item.specs.TypedRecords.{data_in, DataIsParsed, with_parts, laid_out, typed_result}
 use Rattle.dns_item.specs.declared.record.Record.{Record}
 
+-- RDATA of this type is read as the value whose parts are encoded there.
 pub data_is_parsed : DataIsParsed
 unfolding data_in
 data_is_parsed = record {

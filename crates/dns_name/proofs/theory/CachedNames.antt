@@ -41,6 +41,7 @@ pub record SkippingLabels (b : List ℕ) (p s q r k : ℕ) : Type 0 where
   pub faults : (f : Fault) → Faulty b q r f → Faulty b p s f
   pub rows : q ≤ length b → (q' r' : ℕ) (x : LabelsTo b q r q' r') → RowOf b p s q' r' (k + row_count x)
 
+-- A walk that has skipped nothing is where it began.
 pub skipping_none : (b : List ℕ) (p s r : ℕ) → s ≤ max_size → r ≡ s → SkippingLabels b p s p r 0
 skipping_none b p s r short e =
     let P : ℕ → Type 0 = λ r. SkippingLabels b p s p r 0 in
@@ -87,6 +88,7 @@ skipping_row b p s q r k l within = let w = l.rows (omega arith) q r LabelsTo.no
 abbrev pub Longer : List ℕ → ℕ → ℕ → ℕ → ℕ → Labels → Type 0
 Longer b p s r more name = (whole : Labels) × NameAt b p whole × (s + name_size whole ≡ r + name_size name) × (length whole ≡ more + length name)
 
+-- A name after consecutive labels is the end of a name that begins with them, if both fit.
 pub row_names : (b : List ℕ) {p s q r : ℕ} (x : LabelsTo b p s q r) (name : Labels) → NameAt b q name → r + name_size name ≤ max_size
     → Longer b p s r (row_count x) name
 row_names b none name m short = (name, m, refl, omega arith)
@@ -95,10 +97,12 @@ row_names b (label {p = p} {n = n} {s = s} h small fits x) name m short =
     let e : name_size (label_at b p n ∷ w.0) ≡ n + 1 + name_size w.0 = name_size-label_at b p n w.0 fits in
     (label_at b p n ∷ w.0, NameAt.label h fits w.1 (omega (arith, w.2)), omega (arith, w.2, e), omega (arith, w.3))
 
+-- A fault after consecutive labels is the fault at their start.
 pub row_faults : (b : List ℕ) {p s q r : ℕ} → LabelsTo b p s q r → (f : Fault) → Faulty b q r f → Faulty b p s f
 row_faults b none f m = m
 row_faults b (label h small fits x) f m = Faulty.label h small fits (row_faults b x f m)
 
+-- Where a name after consecutive labels ends, the name at their start ends too.
 pub row_ends : (b : List ℕ) {p s q r : ℕ} → LabelsTo b p s q r → (e : ℕ) → NameContinues b q r e → NameContinues b p s e
 row_ends b none e m = m
 row_ends b (label h small fits x) e m = NameContinues.label h small fits (row_ends b x e m)
@@ -111,6 +115,7 @@ pub record Leading (b : List ℕ) (p s q r k : ℕ) : Type 0 where
   pub names : (name : Labels) → NameAt b q name → r + name_size name ≤ max_size → Longer b p s r k name
   pub faults : (f : Fault) → Faulty b q r f → Faulty b p s f
 
+-- A walk over labels and pointers that has skipped nothing is where it began.
 pub leading_none : (b : List ℕ) (p s : ℕ) → p ≤ length b → s ≤ max_size → Leading b p s p s 0
 leading_none b p s within short = record {
   within = within;
@@ -120,6 +125,7 @@ leading_none b p s within short = record {
   faults = λ f m. m;
 }
 
+-- The walk goes on after consecutive labels.
 pub leading_row : (b : List ℕ) (p s q r k q' n : ℕ) (target : Option ℕ) → Leading b p s q r k → SkipsLabels b q r q' n target
     → Leading b p s q' (r + (q' - q)) (k + n)
 leading_row b p s q r k q' n target l x = record {
@@ -133,6 +139,7 @@ leading_row b p s q r k q' n target l x = record {
   faults = λ f m. l.faults f (row_faults b x.row f m);
 }
 
+-- The walk goes on where a pointer leads back to.
 pub leading_pointer : (b : List ℕ) (p s q r k t : ℕ) → Leading b p s q r k → head_at b q ≡ Ok (Pointer t) → t < q → Leading b p s t r k
 leading_pointer b p s q r k t l h back = record {
   within = omega (arith, l.within);
@@ -142,6 +149,7 @@ leading_pointer b p s q r k t l h back = record {
   faults = λ f m. l.faults f (Faulty.pointer h back m);
 }
 
+-- The walk ends at the root label: it has the size and the number of the labels.
 pub leading_root : (b : List ℕ) (p s q r k : ℕ) → Leading b p s q r k → head_at b q ≡ Ok Root → Measures b p s (r - s) k
 leading_root b p s q r k l h =
     let w = l.names [] (NameAt.root h) (omega (arith, l.short)) in
@@ -153,6 +161,7 @@ leading_root b p s q r k l h =
 
 -- What a walk over a name returns, by what ends its first consecutive labels.
 
+-- Labels and then a root label: the name ends after the root's octet.
 pub arrives_root : (b : List ℕ) (p q n : ℕ) → SkipsLabels b p 0 q n None → Arrives b p (q + 1) (q - p) n
 arrives_root b p q n x =
     let w = row_names b x.row [] (NameAt.root x.there) (omega (arith, x.short)) in
@@ -162,6 +171,7 @@ arrives_root b p q n x =
       within = omega (arith, x.within);
     }
 
+-- Labels and then a pointer back: the name has also the labels that the pointer leads to, if all fit.
 pub arrives_pointer : (b : List ℕ) (p q n t size count all number : ℕ) → SkipsLabels b p 0 q n (Some t) → t < q → NameOfSizeAndCount b t size count
     → (q - p) + size ≤ max_size → all ≡ (q - p) + size → number ≡ n + count → Arrives b p (q + 2) all number
 arrives_pointer b p q n t size count all number x back name short size_is count_is =
@@ -173,9 +183,11 @@ arrives_pointer b p q n t size count all number x back name short size_is count_
       within = omega arith;
     }
 
+-- Labels and then a pointer that doesn't lead back: the pointer is the fault.
 pub fails_ahead : (b : List ℕ) (p s q n t : ℕ) → SkipsLabels b p s q n (Some t) → q ≤ t → Faulty b p s (Form BAD_POINTER)
 fails_ahead b p s q n t x ahead = row_faults b x.row (Form BAD_POINTER) (Faulty.ahead x.there ahead)
 
+-- Labels and then a pointer back to a fault: it is the fault of the name.
 pub fails_after : (b : List ℕ) (p q n t : ℕ) (f : Fault) → SkipsLabels b p 0 q n (Some t) → t < q → Faulty b t (q - p) f → FaultAt b p f
 fails_after b p q n t f x back m =
     let P : ℕ → Type 0 = λ k. Faulty b t k f in

@@ -27,10 +27,12 @@ head_of_root second = refl
 head_of_label : (n : ℕ) (second : Option ℕ) → 1 ≤ n → n ≤ 63 → head_of (Some n) second ≡ Ok (Label n)
 head_of_label n second some short = grind (arith, nat_tests, common_steps)
 
+-- A root label is within the octets.
 pub root_within : (b : List ℕ) (p : ℕ) → head_at b p ≡ Ok Root → p < length b
 unfolding head_at
 root_within b p h = slice_get_within b p 0 (root_of (slice_get b p) (slice_get b (p + 1)) h)
 
+-- Both octets of a pointer are within the octets.
 pub pointer_within : (b : List ℕ) (p t : ℕ) → head_at b p ≡ Ok (Pointer t) → p + 1 < length b
 unfolding head_at
 pointer_within b p t h = let l = pointer_of (slice_get b p) (slice_get b (p + 1)) t h in slice_get_within b (p + 1) l.1 l.3
@@ -45,10 +47,12 @@ pub root_there : (b : List ℕ) (p : ℕ) → head_at b p ≡ Ok Root → slice_
 unfolding head_at
 root_there b p h = root_of (slice_get b p) (slice_get b (p + 1)) h
 
+-- A zero octet is a root label.
 pub root_begins : (b : List ℕ) (p : ℕ) → slice_get b p ≡ Some 0 → head_at b p ≡ Ok Root
 unfolding head_at
 root_begins b p h = ap (λ (x : Option ℕ). head_of x (slice_get b (p + 1))) h ∙ head_of_root (slice_get b (p + 1))
 
+-- An octet from 1 to 63 begins a label of that length.
 pub label_begins : (b : List ℕ) (p n : ℕ) → 1 ≤ n → n ≤ 63 → slice_get b p ≡ Some n → head_at b p ≡ Ok (Label n)
 unfolding head_at
 label_begins b p n some short h = ap (λ (x : Option ℕ). head_of x (slice_get b (p + 1))) h ∙ head_of_label n (slice_get b (p + 1)) some short
@@ -77,9 +81,11 @@ pub record Skips (b : List ℕ) (start at size : ℕ) : Type 0 where
   pub ends : (q : ℕ) → NameContinues b at size q → NameEndsAt b start q
   pub faults : (f : Fault) → SkipFaulty b at size f → SkipFaultAt b start f
 
+-- A walk that has skipped nothing is where it began.
 pub skips_none : (b : List ℕ) (p : ℕ) → Skips b p p 0
 skips_none b p = record { within = omega arith; ends = λ q h. h; faults = λ f h. h }
 
+-- The walk goes on after a label.
 pub skips_label : (b : List ℕ) (start at size n at' size' : ℕ) → Skips b start at size
     → Begins b at size (Label n) → size' ≡ size + n + 1 → at' ≡ at + 1 + n → Skips b start at' size'
 skips_label b start at size n at' size' l h es ea =
@@ -93,12 +99,14 @@ skips_label b start at size n at' size' l h es ea =
       faults = λ f w. l.faults f (SkipFaulty.label h.there small fits w);
     }))
 
+-- The walk ends after a root label.
 pub skips_root : (b : List ℕ) (start at size q : ℕ) → Skips b start at size → head_at b at ≡ Ok Root → q ≡ at + 1
     → NameEndsAt b start q × (q ≤ length b)
 skips_root b start at size q l h e =
     let w : at < length b = root_within b at h in
     (subst (λ q. NameEndsAt b start q) (sym e) (l.ends (at + 1) (NameContinues.root h)), omega arith)
 
+-- The walk ends after a pointer.
 pub skips_pointer : (b : List ℕ) (start at size t q : ℕ) → Skips b start at size → head_at b at ≡ Ok (Pointer t) → q ≡ at + 2
     → NameEndsAt b start q × (q ≤ length b)
 skips_pointer b start at size t q l h e =

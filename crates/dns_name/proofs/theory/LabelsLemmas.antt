@@ -5,9 +5,11 @@ use Rattle.dns_name.specs.Unique.{NameOfSize, NameOfSizeAndCount, encoded_short}
 use Rattle.dns_name.specs.ParsedName.{labels}
 use Rattle.dns_name.specs.declared.parsed_name.ParsedName.{ParsedName}
 
+-- The labels of a parsed name are the name that is encoded where it begins.
 pub labels_encoded : (name : ParsedName) → NameAt name.octets.now name.pos (labels name)
 labels_encoded name = name.name_at.0.1
 
+-- A name with its size and number of labels is encoded there.
 pub name_encoded : (b : List ℕ) (p size count : ℕ) (name : NameOfSizeAndCount b p size count) → NameAt b p name.0.0
 name_encoded b p size count name = name.0.1
 

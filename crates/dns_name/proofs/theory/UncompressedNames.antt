@@ -99,6 +99,7 @@ pub record UncompressedUpTo (b : List ℕ) (at : ℕ) : Type 0 where
   pub whole : (name : Labels) → NameAt b at name → at + name_size name ≤ max_size → uncompressed name ≡ drop at b → WholeName b
   pub rest : IsUncompressed b → Rest b at
 
+-- No octets are read yet.
 pub up_to_none : (b : List ℕ) → UncompressedUpTo b 0
 up_to_none b = record {
   skips = skips_none b 0;
@@ -179,6 +180,7 @@ up_to_fault b at f s h u =
 pub root_whole : WholeName (0 ∷ [])
 root_whole = let e : head_at (0 ∷ []) 0 ≡ Ok Root = root_begins (0 ∷ []) 0 refl in (([], NameAt.root e), refl)
 
+-- The name that is one zero octet is the root.
 pub whole_is_root : (name : WholeName (0 ∷ [])) → name.0.0 ≡ []
 unfolding root_whole
 whole_is_root name = ap (λ (w : WholeName (0 ∷ [])). w.0.0) (WholeName-prop (0 ∷ []) name root_whole)
@@ -191,6 +193,7 @@ pub record Counted (b : List ℕ) (at count : ℕ) : Type 0 where
   pub few : count ≤ at
   pub all : (name : Labels) → NameAt b 0 name → length name ≡ count + length others
 
+-- No label is counted yet.
 pub counted_none : (b : List ℕ) → WholeName b → Counted b 0 0
 counted_none b whole = record {
   others = whole.0.0;
@@ -205,6 +208,7 @@ pub counted_begins : (b : List ℕ) (at count : ℕ) → Counted b at count → 
 counted_begins b at count c =
     let there : EncodedName b at = (c.others, name_at_uncompressed b at c.others c.is_name c.octets) in name_begins b there
 
+-- The first octet after an offset is the octet at the offset.
 pub first_octet : (b : List ℕ) (p x : ℕ) (xs : List ℕ) → x ∷ xs ≡ drop p b → get_or b p 0 ≡ x
 first_octet b p x xs e = get_or_from_slice_get b p x 0 (get_drop b p x xs (sym e))
 

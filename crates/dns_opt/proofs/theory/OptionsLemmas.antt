@@ -21,14 +21,17 @@ chosen-holds : {b : List ℕ} (r : ((xs : List OptionItem) × AreOptions b xs) �
 chosen-holds {b = b} (inl p) xs e = let same : p.0 ≡ xs = cc in subst (λ (ys : List OptionItem). AreOptions b ys) same p.1
 chosen-holds (inr other) xs e = absurd (cc)
 
+-- Octets that encode options give these options.
 pub options_of-is : (b : List ℕ) (xs : List OptionItem) → AreOptions b xs → options_of b ≡ Some xs
 unfolding options_of
 options_of-is b xs h = chosen-is (one_or_none b) xs h
 
+-- Octets that encode no options give none.
 pub options_of-none : (b : List ℕ) → ((xs : List OptionItem) → AreOptions b xs → ⊥) → options_of b ≡ None
 unfolding options_of
 options_of-none b never = chosen-none (one_or_none b) never
 
+-- The options that octets give are encoded in them.
 pub options_of-holds : (b : List ℕ) (xs : List OptionItem) → options_of b ≡ Some xs → AreOptions b xs
 unfolding options_of
 options_of-holds b xs e = chosen-holds (one_or_none b) xs e
@@ -49,6 +52,7 @@ after_list x b after (y ∷ ys) begins h =
     let q = one_first y b h.0 h.1 in
     (ys, (λ i. (q.0 ∙ sym p.0) i ∷ ys), subst (λ (o : List ℕ). AreOptions o ys) (q.1 ∙ sym p.1) h.2)
 
+-- An option that begins the octets is the first of them, and the others are after it.
 pub given_first : (x : OptionItem) (b after : List ℕ) → OptionBegins x b after → IsSome (options_of b) → IsSome (options_of after) × (options_in b ≡ x ∷ options_in after)
 given_first x b after begins some =
     let all = some_of b (options_of b) refl some in
@@ -64,6 +68,7 @@ no_options : (b : List ℕ) → ((x : OptionItem) (after : List ℕ) → OptionB
 no_options b never [] h = ap (λ (o : Option (List OptionItem)). option_map_or (λ (xs : List OptionItem). xs) o []) (options_of-is b [] h)
 no_options b never (x ∷ xs) h = absurd (never x h.0 h.1)
 
+-- Octets that begin with no option have none.
 pub given_none : (b : List ℕ) → ((x : OptionItem) (after : List ℕ) → OptionBegins x b after → ⊥) → IsSome (options_of b) → options_in b ≡ []
 given_none b never some = let all = some_of b (options_of b) refl some in no_options b never all.0 all.1
 
@@ -78,6 +83,7 @@ reported x b after begins (inr never) =
     let f = options_of-none b (λ xs h. let rest = after_list x b after xs begins h in never rest.0 rest.2) in
     ap (λ (o : Option (List OptionItem)). is_some o) f ∙ sym (ap (λ (o : Option (List OptionItem)). is_some o) e)
 
+-- Octets are options if and only if those after the first option are.
 pub reported_after : (x : OptionItem) (b after : List ℕ) → OptionBegins x b after → are_options b ≡ are_options after
 reported_after x b after begins = reported x b after begins (one_or_none after)
 
@@ -99,6 +105,7 @@ encoding_begins x after h = record {
   octets = refl;
 }
 
+-- The encoding of options encodes them.
 pub options_encoded : (xs : List OptionItem) → All IsOption xs → AreOptions (encode_options xs) xs
 options_encoded [] each = refl
 options_encoded (x ∷ xs) each = (encode_options xs, encoding_begins x (encode_options xs) (All-head IsOption x xs each), options_encoded xs (All-tail IsOption x xs each))

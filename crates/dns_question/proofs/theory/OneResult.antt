@@ -153,17 +153,21 @@ reads_answer (a ∷ more) = by (name_of a).0 (name_of a).1
     by (Ok name) h = read_after a name h more
     by (Err f) h = bad_name h
 
+-- Words give a question or an error.
 pub each_words_read : EachWordsRead
 each_words_read words = (result_of words, reads_answer words)
 
+-- Words give at most one result.
 pub one_words_result : OneWordsResult
 one_words_result words x y r s = sym (is_answer words x r) ∙ is_answer words y s
 
+-- A text gives a question or an error.
 pub each_text_read : EachTextRead
 each_text_read text u =
     let words = some_words text u in
     (result_of words.0, record { words = words.0; are_words = words.1; reads = reads_answer words.0 })
 
+-- A text gives at most one result.
 pub one_text_result : OneTextResult
 one_text_result text x y r s =
     one_words_result s.words x y (subst (λ words. ReadsWords words x) (one_words text r.words s.words r.are_words s.are_words) r.reads) s.reads

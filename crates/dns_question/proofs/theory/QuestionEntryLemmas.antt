@@ -14,6 +14,7 @@ same_question b p q r x y h k =
     let class : x.class ≡ y.class = h.class ∙ ap (λ n. number_at w16 b (n + 2)) e ∙ sym k.class in
     λ i. record { name = name i; rtype = rtype i; class = class i }
 
+-- At each offset there is one question or one fault.
 pub question_or_fault : QuestionOrFault
 question_or_fault b =
     reads_or_faults b (λ r. 4) (λ r. length b < r + 4) (λ r. long_or_short b (r + 4)) (λ r l. l) (ReadsQuestion b) (λ x. x.name) (λ p q x h. (h.skips, h.name))
@@ -23,8 +24,10 @@ question_or_fault b =
     ))
     (same_question b)
 
+-- At each offset a question can be skipped to one end, or there is one fault.
 pub question_end_or_fault : QuestionEndOrFault
 question_end_or_fault b = ends_or_faults b (λ r. 4) (λ r. length b < r + 4) (λ r. long_or_short b (r + 4)) (λ r l. l)
 
+-- Where a question is, it is skipped to its end; where it can't be skipped, none is.
 pub question_skip_agrees : QuestionSkipAgrees
 question_skip_agrees = record { ends_alike = λ b p q x h. h.skips; fails_alike = λ b p q x f fault h. (question_end_or_fault b).not_both p q f h.skips fault }

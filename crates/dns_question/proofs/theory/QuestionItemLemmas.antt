@@ -45,6 +45,7 @@ reads_question x t p q is good h =
       class = sym (number_16 t.octets (r + 2) x.class is.class second);
     }
 
+-- A question that is encoded is the question that is read there.
 pub questions_read_back : QuestionsReadBack
 questions_read_back rule t x is h =
     let p = encodes_question rule x is in

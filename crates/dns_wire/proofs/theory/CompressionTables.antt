@@ -170,9 +170,11 @@ get-add_suffixes_longer m (s ∷ ss) end k none h =
 
 -- Targets with an empty table.
 
+-- A cut leaves an empty table empty.
 pub cut_nothing : (len : ℕ) → cut nothing len ≡ nothing
 cut_nothing len = same_table _ _ (λ q. get-cut nothing len q ∙ rw get-empty refl)
 
+-- An empty table is a table of any octets.
 pub nothing_is_kept : (b : List ℕ) → IsTableOf b nothing
 nothing_is_kept b = record { each = λ s x e. absurd (let k : None ≡ Some x = sym (get-empty suffix_cmp s) ∙ e in cc) }
 

@@ -40,6 +40,7 @@ label_as rule m p entry_count (Some x) keep first rest after e k s = at_entry e
 label_as rule m p entry_count None true first rest after e k s = at_kept e k s
 label_as rule m p entry_count None false first rest after e k s = at_far e k
 
+-- A compressed name is the labels before its pointer, and the pointer, and adds their entries to the table.
 pub compresses_as : (rule : Rule) (m : CompressionTable) (p entry_count : ℕ) (name : Labels) → let compressed = compress rule m p entry_count name in CompressesAs rule m p entry_count name compressed.octets compressed.suffixes
 compresses_as rule m p entry_count [] = at_root
 compresses_as rule m p entry_count (first ∷ rest) = label_as rule m p entry_count _ _ first rest _ refl refl (compresses_as rule m (p + 1 + length first) (entry_count + 1) rest)

@@ -60,11 +60,13 @@ same_label b c lo hi p n a low high =
 pub agree_root : {b c : List ℕ} {lo hi p : ℕ} → Agree b c lo hi → lo ≤ p → p + 1 ≤ hi → head_at b p ≡ Ok Root → head_at c p ≡ Ok Root
 agree_root {b = b} {c = c} {p = p} a low high h = root_begins c p (sym (a.same p low (omega arith)) ∙ root_there b p h)
 
+-- Octets that agree begin with the same label.
 pub agree_label : {b c : List ℕ} {lo hi p n : ℕ} → Agree b c lo hi → lo ≤ p → p + 1 ≤ hi → head_at b p ≡ Ok (Label n) → head_at c p ≡ Ok (Label n)
 agree_label {b = b} {c = c} {p = p} {n = n} a low high h =
     let l = label_head b p n h in
     label_begins c p n (omega (arith, l.some)) (omega (arith, l.short)) (sym (a.same p low (omega arith)) ∙ label_there b p n h)
 
+-- Octets that agree begin with the same pointer.
 pub agree_pointer : {b c : List ℕ} {lo hi p t : ℕ} → Agree b c lo hi → lo ≤ p → p + 2 ≤ hi → head_at b p ≡ Ok (Pointer t) → head_at c p ≡ Ok (Pointer t)
 agree_pointer {b = b} {c = c} {p = p} {t = t} a low high h = sym (same_head b c p (a.same p low (omega arith)) (a.same (p + 1) (omega arith) (omega arith))) ∙ h
 
@@ -82,6 +84,7 @@ get_append [] c k h = absurd (omega arith)
 get_append (x ∷ b) c zero h = refl
 get_append (x ∷ b) c (suc k) h = get_append b c k (omega arith)
 
+-- An octet before the cut is the same octet after it.
 pub get_take : (b : List ℕ) (e k : ℕ) → k < e → slice_get (take e b) k ≡ slice_get b k
 get_take [] zero k h = refl
 get_take [] (suc e) k h = refl
@@ -89,10 +92,12 @@ get_take (x ∷ b) zero k h = absurd (omega arith)
 get_take (x ∷ b) (suc e) zero h = refl
 get_take (x ∷ b) (suc e) (suc k) h = get_take b e k (omega arith)
 
+-- An octet after a first part is the octet of the second part.
 pub get_after : (xs ys : List ℕ) (k : ℕ) → slice_get (xs ++ ys) (length xs + k) ≡ slice_get ys k
 get_after [] ys k = ap (slice_get ys) (let e : 0 + k ≡ k = omega arith in e)
 get_after (x ∷ xs) ys k = ap (slice_get (x ∷ (xs ++ ys))) (let e : suc (length xs) + k ≡ suc (length xs + k) = omega arith in e) ∙ get_after xs ys k
 
+-- An octet of what is left after dropping some is the octet that many places further.
 pub get_dropped : (b : List ℕ) (n k : ℕ) → slice_get (drop n b) k ≡ slice_get b (n + k)
 get_dropped b zero k = ap (slice_get b) (let e : k ≡ 0 + k = omega arith in e)
 get_dropped [] (suc n) k = refl
