@@ -32,6 +32,7 @@ start_fault Answer next b p f after start stops = let e : Authority ≡ next = c
 start_fault Authority next b p f after start stops = let e : Additional ≡ next = cc in subst (λ k. StartFault k b f) e (inr (p, start, stops))
 start_fault Additional next b p f after start stops = absurd (cc)
 
+-- If the next section has no start, going on to it gives that error.
 pub next_fault : (which next : Section) (b : List ℕ) (cursor : RecordSection) (e : ParseError) → section_after which ≡ Some next → BeginsSection which b cursor
     → StopsInRest (SkipsRecord (octets_of cursor)) (RecordSkipFaultAt (octets_of cursor)) (to_come cursor) (position cursor) e → StartFault next b (fault_of e)
 next_fault which next b cursor e after begins stops =

@@ -5,6 +5,7 @@ use Rattle.dns_build.specs.KnownByState.{BuildersAreKnown, PushesLeaveNothing, R
 use Rattle.dns_build.specs.BuilderStates.{Represents}
 use Rattle.dns_build.specs.State.{Stage, InBuilder, InQuestion, InAnswer, InAuthority, InAdditional, State, with_questions, with_records, rewound}
 
+-- Builders at the same stage that represent the same state are equal as contracts see them.
 pub builders_are_known : BuildersAreKnown
 builders_are_known stage rule s a b h k =
     let written = h.written ∙ sym k.written in
@@ -26,6 +27,7 @@ leave_nothing : {X : Type 0} (stage : Stage) (with_items : List X → State → 
 leave_nothing stage with_items out rule s xs empty full new emptied pushed moves =
     builders_are_known stage rule (rewound stage s) new empty (subst (λ (t : State). Represents stage rule t new) (out xs s) (moves (with_items xs s) pushed)) emptied
 
+-- A builder whose section is rewound equals one to which its items were never pushed.
 pub rewinds_leave_nothing : RewindsLeaveNothing
 rewinds_leave_nothing = record {
   questions = leave_nothing InQuestion with_questions (λ xs s. refl);

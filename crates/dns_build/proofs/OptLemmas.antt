@@ -26,6 +26,7 @@ same_item x g o r c t p = λ i. record { owner = o i; rtype = r i; class = c i; 
 pub closure_refused : (capacity : Option ℕ) (grows : Bool) (limit n count : ℕ) (e : AppendError) (r : Result (Unit {0}) AppendError) → r ≡ Err e → OptReturns capacity grows limit n count r (Err (push_error e))
 closure_refused capacity grows limit n count e r is = subst (λ (x : Result (Unit {0}) AppendError). OptReturns capacity grows limit n count x (Err (push_error e))) (sym is) refl
 
+-- If the closure succeeds, the push returns what counting the record returns.
 pub closure_done : (capacity : Option ℕ) (grows : Bool) (limit n count : ℕ) (r : Result (Unit {0}) AppendError) (result : Result (Unit {0}) PushError) → r ≡ Ok tt → PushReturns capacity grows limit n count result → OptReturns capacity grows limit n count r result
 closure_done capacity grows limit n count r result is reported = subst (λ (x : Result (Unit {0}) AppendError). OptReturns capacity grows limit n count x result) (sym is) reported
 

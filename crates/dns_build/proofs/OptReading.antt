@@ -163,6 +163,7 @@ opt_read g s b xs ys is ok none h =
     ∙ ap (option_and_then opt_said) (first_reported g b (additional_count b) h.additionals_start xs ys list.entries ok none list.reading report)
     ∙ said_gathered g ok
 
+-- A gathered OPT record that is the first of the additional section reads back.
 pub opts_read_back : OptsReadBack
 opts_read_back g s b xs ys is ok none h =
     let opt = opt_read g s b xs ys is ok none h in

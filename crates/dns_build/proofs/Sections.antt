@@ -48,18 +48,22 @@ abbrev pub Item : Kind → Type 0
 Item Questions = QuestionItem
 Item (Records k) = RecordItem
 
+-- The items that a section of this kind may have.
 abbrev pub IsItem : (k : Kind) → Item k → Type 0
 IsItem Questions x = IsQuestion x
 IsItem (Records k) x = IsRecord x
 
+-- The encoder of an item of this kind.
 abbrev pub encode_item : (k : Kind) → Rule → Item k → Encoder
 encode_item Questions rule x = encode_question rule x
 encode_item (Records k) rule x = encode_record rule x
 
+-- The items of this kind in a state, of the section that is being built.
 abbrev pub items : (k : Kind) → State → List (Item k)
 items Questions s = s.questions
 items (Records k) s = records_at (stage_of k) s
 
+-- The state with one more item of this kind.
 abbrev pub with_item : (k : Kind) → Item k → State → State
 with_item Questions x s = with_question x s
 with_item (Records k) x s = with_record (stage_of k) x s

@@ -28,6 +28,7 @@ starts_count InAnswer rule s = refl
 starts_count InAuthority rule s = refl
 starts_count InAdditional rule s = refl
 
+-- A builder has as many starts of sections as its stage is deep.
 pub some_starts : (stage : Stage) (rule : Rule) (b : Built) → RepresentsSome stage rule b → length b.starts ≡ record_depth stage
 some_starts stage rule b some =
     ∥∥₁_elim some (Coded-set coded_ℕ _ _) (λ p. ap (λ (ns : List ℕ). length ns) p.1.starts ∙ starts_count stage rule p.0)

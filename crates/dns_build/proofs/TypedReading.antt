@@ -81,6 +81,7 @@ all_encoded_as (x ∷ xs) b n p (e ∷ entries) reading report =
     let r = first_read reading in
     (encoded_as x b p r.1 e r.2 report.0, all_encoded_as xs b r.0 r.1 entries r.3 report.1)
 
+-- Each pushed record reads back in its section.
 pub pushed_records_are_encoded : PushedRecordsAreEncoded
 pushed_records_are_encoded s b h which =
     let found = section_read s b which h in
@@ -117,6 +118,7 @@ module _ (layouts : ℕ → Option Layout) (b : List ℕ) where
       let others = all_parsed xs items h.1 (All-tail (IsLaidOutBy layouts) x xs fits_layout) in
       (λ i. cons_option (here i) (others i)) ∙ first_taken x (taken layouts xs) (layouts x.rtype)
 
+-- Records of one type that were pushed are those that a search for the type gives.
 pub typed_records_read_back : TypedRecordsReadBack
 typed_records_read_back s b h which layouts fits_layout =
     all_parsed layouts b (pushed which s) (records_of which b) (pushed_records_are_encoded s b h which) fits_layout
@@ -126,6 +128,7 @@ all_taken : (layouts : ℕ → Layout) (xs : List RecordItem) → taken (every l
 all_taken layouts [] = refl
 all_taken layouts (x ∷ xs) = ap (λ (ys : List RecordItem). x ∷ ys) (all_taken layouts xs)
 
+-- A data type that accepts every record type gives all records of the section.
 pub any_records_read_back : AnyRecordsReadBack
 any_records_read_back s b h which layouts fits_layout =
     typed_records_read_back s b h which (every layouts) fits_layout ∙ ap (λ (xs : List RecordItem). map Ok xs) (all_taken layouts (pushed which s))
@@ -147,6 +150,7 @@ in_class_encoded b (x ∷ xs) (Ok encoded ∷ items) h =
     by true others = (h.0, others)
     by false others = others
 
+-- The same if records of classes other than IN are skipped.
 pub typed_records_in_read_back : TypedRecordsInReadBack
 typed_records_in_read_back s b h which layouts fits_layout =
     all_parsed layouts b (of_class_in (pushed which s)) (in_class_in (records_of which b)) (in_class_encoded b (pushed which s) (records_of which b) (pushed_records_are_encoded s b h which)) fits_layout

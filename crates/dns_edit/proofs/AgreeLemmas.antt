@@ -71,6 +71,7 @@ module _ {b c : List ℕ} {q : ℕ} (same : SameFrom b c q) where
       let low = w.0 in
       TtlFields.other (skips_same l s).0 (ap holds_ttl (sym (number_same16 s.name_end (omega arith))) ∙ h) (ttls_same (omega (arith, w.0, w.1)) rest)
 
+-- Overwriting octets keeps the length.
 pub as_long : (b xs : List ℕ) (p : ℕ) → p + length xs ≤ length b → length b ≡ length (overwritten b p xs)
 as_long b xs p within = grind (arith, common_steps)
 

@@ -130,6 +130,7 @@ nth b {fields = fields} {start = start} {p = p} x (more {n = m} {q = r} {r = end
     let step = split_step b x refl h.0 in
     nth b step.next rest (subst (λ r. Skipped (SkipsRecord b) k r p) e y) (omega arith) s
 
+-- RDATA reads the same after TTLs were changed.
 pub rdata_reads_alike : RdataReadsAlike
 rdata_reads_alike change b fields avoid k p q less y s =
     let x = nth b (split_all b avoid.ttls) avoid.records y less s in

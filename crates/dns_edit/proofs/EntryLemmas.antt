@@ -27,6 +27,7 @@ module _ {Skips : ℕ → ℕ → Type 0} {FaultOf : ℕ → Fault → Type 0} w
   stopped (suc n) none fault l = here fault
   stopped (suc n) (more h x) fault l = after h (stopped n x fault (omega arith))
 
+-- Entries that are skipped with more known of each are skipped.
 pub skipped_by : {Skips More : ℕ → ℕ → Type 0} → ((p q : ℕ) → More p q → Skips p q) → {n p q : ℕ} → Skipped More n p q → Skipped Skips n p q
 skipped_by f none = none
 skipped_by f (more h x) = more (f _ _ h) (skipped_by f x)
@@ -39,9 +40,11 @@ apart_in fields lo hi lo' hi' l h a = λ k d less. elim (a k d less) [ inl x ↦
 apart_before : (fields : List ℕ) (p lo hi : ℕ) → p ≤ lo → All (λ f. f + 4 ≤ p) fields → Apart fields lo hi
 apart_before fields p lo hi l a = λ k d less. inl (let w = a k d less in omega arith)
 
+-- Fields that begin later are apart from the octets before.
 pub apart_after : (fields : List ℕ) (p lo hi : ℕ) → hi ≤ p → All (λ f. p ≤ f) fields → Apart fields lo hi
 apart_after fields p lo hi l a = λ k d less. inr (let w = a k d less in omega arith)
 
+-- Fields that begin after an offset begin after each offset before it.
 pub all_later : (fields : List ℕ) (p q : ℕ) → q ≤ p → All (λ f. p ≤ f) fields → All (λ f. q ≤ f) fields
 all_later fields p q l a = λ k d less. let w = a k d less in omega arith
 

@@ -37,6 +37,7 @@ pub record Least (b : List ℕ) (start i p : ℕ) (ttl : Option ℕ) : Type 0 wh
   pub reach : (m : ℕ) (left : List ℕ) → TtlFields b m p left → TtlFields b (i + m) start (done ++ left)
   pub is : ttl ≡ least (map (number_at w32 b) done)
 
+-- Of no records there is no least TTL.
 pub least_none : (b : List ℕ) (start : ℕ) → Least b start 0 start None
 least_none b start = record {
   done = [];
@@ -44,6 +45,7 @@ least_none b start = record {
   is = refl;
 }
 
+-- The least TTL after one more record.
 pub least_step : (b : List ℕ) (start i p : ℕ) (ttl new : Option ℕ) (span : Span) → Least b start i p ttl → Spans b p span
     → new ≡ cond (holds_ttl span.rtype) (least_with span.ttl ttl) ttl → Least b start (i + 1) span.end new
 least_step b start i p ttl new span l s e =
@@ -75,6 +77,7 @@ least_step b start i p ttl new span l s e =
           }
     ]
 
+-- The least TTL after all records is that of the message.
 pub least_all : (b : List ℕ) (start n i p : ℕ) (ttl : Option ℕ) → i ≡ n → Least b start i p ttl
     → (fields : List ℕ) × TtlFields b n start fields × (ttl ≡ least (map (number_at w32 b) fields))
 least_all b start n i p ttl e l =

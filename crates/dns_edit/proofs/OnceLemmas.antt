@@ -91,6 +91,7 @@ module _ {b : List ℕ} where
       let second : RefusesData b h.mid (number_at w16 b n) (n + 10) q' e = subst (λ (mid : List ℕ). RefusesData b mid (number_at w16 b n) (n + 10) q' e) k.1 first in
       data_excludes h.rdata (subst (λ q. RefusesData b h.mid (number_at w16 b n) (n + 10) q e) ends second)
 
+-- No message is both accepted and refused.
 pub never_both : NeverBoth
 never_both b e (start, a) (RefusesTtls.question r) = all_exclude question_once question_excludes a.questions r
 never_both b e (start, a) (RefusesTtls.entry {start = start'} {asked = asked} x r) =

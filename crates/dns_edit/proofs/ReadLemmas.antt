@@ -322,6 +322,7 @@ module _ (change : TtlChange) (b fields : List ℕ) (bytes : FitInOctets b) (avo
       record { before = (p, (avoid.start, asked, skip x.0), skip x.1); after = additionals; records = records_same change b fields bytes within (omega arith) split_second x.2 },
     )
 
+-- A message whose TTLs were changed reads as before, but for these TTLs.
 pub changed_reads_alike : ChangedReadsAlike
 changed_reads_alike change b fields bytes avoid =
     let x = parts change b fields bytes avoid in

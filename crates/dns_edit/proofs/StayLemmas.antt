@@ -23,6 +23,7 @@ pub record SameApart (fields b c : List ℕ) : Type 0 where
   pub long : length b ≡ length c
   pub same : (k : ℕ) → Apart fields k (k + 1) → slice_get b k ≡ slice_get c k
 
+-- Octets that agree apart from the fields agree the other way too.
 pub other_way : {fields b c : List ℕ} → SameApart fields b c → SameApart fields c b
 other_way s = record { long = sym s.long; same = λ k a. sym (s.same k a) }
 
@@ -34,6 +35,7 @@ apart_label {b = b} {fields = fields} {p = p} (NameApart.label {n = k} h a x) e 
     subst P (let same : k ≡ _ = cc in same) (a, x)
 apart_label (NameApart.pointer h a x) e = cc
 
+-- A pointer of a name that is apart from the fields is apart from them, and so is the name that it leads to.
 pub apart_pointer : {b fields : List ℕ} {p t : ℕ} → NameApart b fields p → head_at b p ≡ Ok (Pointer t) → Apart fields p (p + 2) × NameApart b fields t
 apart_pointer (NameApart.root h a) e = cc
 apart_pointer (NameApart.label h a x) e = cc
@@ -41,6 +43,7 @@ apart_pointer {b = b} {fields = fields} {p = p} (NameApart.pointer {t = k} h a x
     let P : ℕ → Type 0 = λ t. Apart fields p (p + 2) × NameApart b fields t in
     subst P (let same : k ≡ _ = cc in same) (a, x)
 
+-- The root label of a name that is apart from the fields is apart from them.
 pub apart_root : {b fields : List ℕ} {p : ℕ} → NameApart b fields p → head_at b p ≡ Ok Root → Apart fields p (p + 1)
 apart_root (NameApart.root h a) e = a
 apart_root (NameApart.label h a x) e = cc
@@ -98,6 +101,7 @@ module _ {fields b c : List ℕ} (s : SameApart fields b c) where
   fault_same w (Faulty.label h l m x) = let y = apart_label w h in let long = s.long in Faulty.label (label_same y.0 h) l (omega arith) (fault_same y.1 x)
   fault_same w (Faulty.pointer h back x) = let y = apart_pointer w h in Faulty.pointer (pointer_same y.0 h) back (fault_same y.1 x)
 
+-- A name that is apart from the fields reads the same in octets that agree apart from them.
 pub reads_alike : {fields b c : List ℕ} → SameApart fields b c → (p : ℕ) → NameApart b fields p → ReadsNameAlike b c p
 reads_alike s p w = record {
   names = λ name. (name_same s w, name_same (other_way s) (apart_same s w));
@@ -118,9 +122,11 @@ outside b xs p e k is within (inr l) =
 abbrev pub InOctets : List ℕ → List ℕ → Type 0
 InOctets b fields = All (λ f. f + 4 ≤ length b) fields
 
+-- A TTL has four octets.
 pub four : (n : ℕ) → length (to_be_bytes w32 n) ≡ 4
 four n = refl
 
+-- Writing one TTL changes its field alone.
 pub with_ttl_same : (change : TtlChange) (f : ℕ) (b : List ℕ) → f + 4 ≤ length b → SameApart (f ∷ []) b (with_ttl change f b)
 with_ttl_same change f b l =
     let xs = to_be_bytes w32 (changed change (number_at w32 b f)) in
@@ -130,6 +136,7 @@ with_ttl_same change f b l =
       same = λ k a. outside b xs f (f + 4) k (omega arith) l (All-head (λ f. (f + 4 ≤ k) ⊎ (k + 1 ≤ f)) f [] a);
     }
 
+-- Writing the TTLs changes their fields alone.
 pub with_ttls_same : (change : TtlChange) (fields b : List ℕ) → InOctets b fields → SameApart fields b (with_ttls change fields b)
 with_ttls_same change [] b within = record { long = refl; same = λ k a. refl }
 with_ttls_same change (f ∷ fields) b within =
@@ -144,6 +151,7 @@ with_ttls_same change (f ∷ fields) b within =
           first.same k (All-cons P f [] (All-head P f fields a) (All-nil P)) ∙ rest.same k (All-tail P f fields a);
     }
 
+-- A name that uses no octet of the fields reads the same after their TTLs are changed.
 pub names_read_alike : NamesReadAlike
 names_read_alike change b fields avoid =
     let s = with_ttls_same change fields b (fields_within b avoid.ttls) in

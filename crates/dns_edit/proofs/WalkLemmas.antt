@@ -55,6 +55,7 @@ pub record Walking (b : List ℕ) (start pos : ℕ) (old new : List Bool) : Type
   pub set : (t : ℕ) → get_or new t false ≡ true → (get_or old t false ≡ true) ⊎ ((start ≤ t) × LabelOf b start t)
   pub labels : (t : ℕ) → LabelOf b start t → t < length old → (get_or new t false ≡ true) ⊎ LabelOf b pos t
 
+-- A walk that has skipped nothing has marked nothing.
 pub walking_none : (b : List ℕ) (start : ℕ) (old : List Bool) → Walking b start start old old
 walking_none b start old = record {
   from = omega arith;
@@ -77,6 +78,7 @@ still xs k t m = elim (cases_eq t k) [
   | inr ne ↦ get_or-set_other xs k t true false ne ∙ m
 ]
 
+-- The walk goes on after a label.
 pub walking_label : (b : List ℕ) (start pos n pos' : ℕ) (old mid new : List Bool) → Walking b start pos old mid → head_at b pos ≡ Ok (Label n)
     → new ≡ slice_set mid pos true → pos' ≡ pos + 1 + n → Walking b start pos' old new
 walking_label b start pos n pos' old mid new w h is e =
@@ -121,6 +123,7 @@ marked_all b start pos old new w last names m = record {
   ];
 }
 
+-- The walk ends after a root label.
 pub walked_root : (b : List ℕ) (start pos end : ℕ) (old new : List Bool) → Walking b start pos old new → head_at b pos ≡ Ok Root → NameEndsAt b start end
     → (names : List ℕ) → MarksLabels b names old → AcceptsName b names start end (start ∷ names) × MarksLabels b (start ∷ names) new
 walked_root b start pos end old new w h ends names m = (
@@ -128,6 +131,7 @@ walked_root b start pos end old new w h ends names m = (
   marked_all b start pos old new w (λ t x. no_label_at_root h x) names m,
 )
 
+-- The walk ends after a pointer.
 pub walked_pointer : (b : List ℕ) (start pos end u : ℕ) (old new : List Bool) → Walking b start pos old new → head_at b pos ≡ Ok (Pointer u) → NameEndsAt b start end
     → u < start → get_or new u false ≡ true
     → (names : List ℕ) → MarksLabels b names old → AcceptsName b names start end (start ∷ names) × MarksLabels b (start ∷ names) new

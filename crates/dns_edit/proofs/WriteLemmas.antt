@@ -38,6 +38,7 @@ clash : (x : Bool) → x ≡ true → x ≡ false → ⊥
 clash true t f = cc
 clash false t f = cc
 
+-- After the last record no field is left.
 pub none_left : {b : List ℕ} {m p : ℕ} {left : List ℕ} → TtlFields b m p left → m ≡ 0 → left ≡ []
 none_left TtlFields.none e = refl
 none_left (TtlFields.held s h rest) e = absurd (omega arith)
@@ -87,6 +88,7 @@ module _ {change : TtlChange} {b c : List ℕ} {p q : ℕ} (w : WritesTtl change
       → (left' : List ℕ) × TtlFields c m q left' × (with_ttls change left' c ≡ with_ttls change left b)
   ttls_rest {left = left} e t = ttls_next (subst (λ n. TtlFields b n p left) e t)
 
+-- The TTL of a record that has one is written.
 pub writes_held : (change : TtlChange) (b : List ℕ) {c : List ℕ} {p : ℕ} {span : Span} {octets : List ℕ} → Spans b p span → holds_ttl span.rtype ≡ true
     → octets ≡ to_be_bytes w32 (changed change span.ttl) → c ≡ overwritten b (span.fields + 4) octets → WritesTtl change b c p span.end
 writes_held change b {span = span} s h e is = record {
@@ -95,6 +97,7 @@ writes_held change b {span = span} s h e is = record {
   other = λ f. let t : holds_ttl (number_at w16 b span.fields) ≡ true = ap holds_ttl (sym s.rtype) ∙ h in absurd (clash _ t f);
 }
 
+-- A record without a TTL is left as it is.
 pub writes_other : (change : TtlChange) (b : List ℕ) {p : ℕ} {span : Span} → Spans b p span → holds_ttl span.rtype ≡ false → WritesTtl change b b p span.end
 writes_other change b {span = span} s h = record {
   skips = skips_of s;
@@ -102,6 +105,7 @@ writes_other change b {span = span} s h = record {
   other = λ _. refl;
 }
 
+-- A record that can be skipped has no skip fault.
 pub never : (change : TtlChange) (b c : List ℕ) {p q end : ℕ} {f : Fault} → SkipsRecord b p end → RecordSkipFaultAt b p f → WritesTtl change b c p q
 never change b c {p = p} {end = end} {f = f} s fault = absurd ((record_end_or_fault b).not_both p end f s fault)
 
@@ -109,5 +113,6 @@ never change b c {p = p} {end = end} {f = f} s fault = absurd ((record_end_or_fa
 first_of : {b : List ℕ} {m p end : ℕ} → Skipped (SkipsRecord b) (suc m) p end → (q : ℕ) × SkipsRecord b p q
 first_of (more {q = q} s x) = (q, s)
 
+-- If entries are skipped, the first of them is.
 pub first_skips : {b : List ℕ} {n m p end : ℕ} → n ≡ suc m → Skipped (SkipsRecord b) n p end → (q : ℕ) × SkipsRecord b p q
 first_skips {b = b} {p = p} {end = end} e x = first_of (subst (λ n. Skipped (SkipsRecord b) n p end) e x)

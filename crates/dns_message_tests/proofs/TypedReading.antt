@@ -81,10 +81,12 @@ module _ {D : Type 0} (rtype_of : D → ℕ) (parts_of : D → List Part) where
       cc
   one_given left old new x (Some (Err e)) steps is = let other : Err (fault_of e) ∷ left new ≡ Ok x ∷ [] = sym steps ∙ is in absurd (cc)
 
+-- An option with a value of which something holds has a value.
 pub some_given : {A : Type 0} (o : Option A) (P : A → Type 0) → IsSomeAnd o P → IsSome o
 some_given None P h = absurd h
 some_given (Some a) P h = refl
 
+-- A result with a value of which something holds has a value.
 pub ok_given : {A E : Type 0} (r : Result A E) (P : A → Type 0) → IsOkAnd r P → IsOk r
 ok_given (Ok a) P h = refl
 ok_given (Err e) P h = absurd h
@@ -96,6 +98,7 @@ name_first (Octets octets ∷ parts) = []
 name_first (CompressibleName name ∷ parts) = name
 name_first (UncompressedName lowercased name ∷ parts) = name
 
+-- The octets of the first part.
 abbrev pub octets_first : List Part → List ℕ
 octets_first [] = []
 octets_first (Octets octets ∷ parts) = octets

@@ -62,10 +62,12 @@ module _ {X Y : Type 0} (R : X → Y → Type 0) (encoder : Y → Encoder) (enco
       → ((ys : List Y) (w : Written) → AreEach R others ys → Represents mid w → Represents new (append (encoders ys) w)) → Represents new (append (encoders ys) w)
   appends_more e xs first others ys old mid new w same is r f g = more_of e first others ys old mid new w (subst (λ xs. AreEach R xs ys) same is) r f g
 
+-- No parts encode as no octets.
 pub no_parts : (rule : Rule) → encode_parts rule [] ≡ encode_octets []
 unfolding encode_parts
 no_parts rule = refl
 
+-- Parts encode one after the other.
 pub more_parts : (rule : Rule) (x : Part) (xs : List Part) → encode_parts rule (x ∷ xs) ≡ both (encode_part rule x) (encode_parts rule xs)
 unfolding encode_parts
 more_parts rule x xs = refl

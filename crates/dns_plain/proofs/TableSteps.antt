@@ -51,6 +51,7 @@ counts_none [] m none t = go t.entries t.listed t.whole
 pub lists_nothing : ListsTable [] nothing
 lists_nothing = record { entries = []; listed = tt; whole = refl }
 
+-- An empty table is in range.
 pub nothing_in_range : IsInRange nothing
 nothing_in_range = record { each = λ s x e. let none : None ≡ Some x = sym (get-empty suffix_cmp s) ∙ e in absurd (cc) }
 
@@ -64,6 +65,7 @@ pub record Newest (first : Suffix) (older : List Suffix) (m : CompressionTable) 
   pub lists : ListsTable older before
   pub whole : m ≡ insert before key entry
 
+-- The first entry of a list is the newest of its name.
 pub newest : (table : List Suffix) (first : Suffix) (older : List Suffix) (m : CompressionTable) → table ≡ first ∷ older → ListsTable table m → Newest first older m
 newest table first older m e t = go t.entries (subst (λ xs. AreEach IsEntry xs t.entries) e t.listed) t.whole
   where
@@ -184,9 +186,11 @@ adds_in_range m (w ∷ ws) end r all =
 abbrev pub EntersInRange : Rule → Type 0
 EntersInRange rule = (offset entry_count : ℕ) → may_enter rule offset entry_count ≡ true → nat_lt offset pointer_end ≡ true
 
+-- A static compressor enters suffixes in range alone.
 pub static_in_range : EntersInRange Static
 static_in_range offset entry_count e = (and_parts _ _ e).0
 
+-- A tree compressor enters suffixes in range alone.
 pub tree_in_range : EntersInRange Tree
 tree_in_range offset entry_count e = e
 

@@ -40,6 +40,7 @@ pub keeps_on : (at : Option RecordSection) (old new : RecordSection) (e : ParseE
     → cursor_error new ≡ Some e
 keeps_on at old new e is calls kept = (λ i. error_again (calls.section i) (calls.counts i)) ∙ sym (ap (option_and_then cursor_error) is) ∙ kept
 
+-- If two consecutive calls yield errors, the second equals the first, including its text.
 pub second_error_is_first : SecondErrorIsFirst
 second_error_is_first old mid new first second one two =
     elim one.kept [

@@ -47,6 +47,7 @@ nothing_mapped : (b : List ℕ) (xs : List (Result RecordEntry Fault)) → map (
 nothing_mapped b [] e = refl
 nothing_mapped b (x ∷ xs) e = absurd (cc)
 
+-- A count whose records are none is zero.
 pub no_records : (b : List ℕ) (n p : ℕ) → records_in b n p ≡ [] → n ≡ 0
 unfolding records_in
 no_records b zero p e = refl
@@ -57,6 +58,7 @@ pub stays : {Skips : ℕ → ℕ → Type 0} (n p q : ℕ) → Skipped Skips n p
 stays n p q no_more e = refl
 stays n p q (more h x) e = absurd (cc)
 
+-- Skipping no entries never stops at a fault.
 pub never_stops : {Skips : ℕ → ℕ → Type 0} {FaultOf : ℕ → Fault → Type 0} (n p : ℕ) (f : Fault) → StopsSkipping Skips FaultOf n p f → n ≡ 0 → ⊥
 never_stops n p f (here h) e = absurd (cc)
 never_stops n p f (stops_after h x) e = absurd (cc)
@@ -118,6 +120,7 @@ skipped_all b (entry {n = n} {q = q} {xs = xs} reads rest) h =
     more reads.skips (subst (λ e. Skipped (SkipsRecord b) n q (records_end e (map (in_octets b) xs))) (sym reads.rdata_end) (skipped_all b rest h.1))
 skipped_all b (stop {f = f} fault) h = let refused = h.0 in absurd (cc)
 
+-- If the reading of a section has no fault, the next section starts where its last record ends.
 pub sections_follow : SectionsFollow
 unfolding records_in
 sections_follow which next b p after start faultless =
@@ -136,6 +139,7 @@ abbrev pub sections_left : Option RecordSection → ℕ
 sections_left None = 0
 sections_left (Some cursor) = sections_from (section_of cursor)
 
+-- Fewer sections are left after the next one.
 pub fewer_sections : (which next : Section) → section_after which ≡ Some next → sections_from next < sections_from which
 fewer_sections Answer next e = let same : Authority ≡ next = cc in subst (λ k. sections_from k < 3) same (omega arith)
 fewer_sections Authority next e = let same : Additional ≡ next = cc in subst (λ k. sections_from k < 2) same (omega arith)
@@ -173,5 +177,6 @@ length-items_at : (b : List ℕ) (o : Option ℕ) → length (option_map_or (ite
 length-items_at b None = omega arith
 length-items_at b (Some p) = length-items_from b p
 
+-- A message has at most as many records as its counts say, and one error.
 pub length-message_items : (b : List ℕ) → length (message_items b) ≤ answer_count b + authority_count b + additional_count b + 1
 length-message_items b = length-items_at b (start_of Answer b)

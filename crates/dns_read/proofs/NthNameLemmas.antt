@@ -81,5 +81,6 @@ module _ (b : List ℕ) where
   one_answer x y (no_question none) h = no_end y h (no_question none)
   one_answer x y (no_section none) h = no_end y h (no_section none)
 
+-- A message has at most one canonical name.
 pub one_canonical_name : OneCanonicalName
 one_canonical_name b = one_answer b

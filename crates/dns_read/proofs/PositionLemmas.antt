@@ -54,6 +54,7 @@ ends_again b Answer (Err given) p e none other stops = (given, refl)
 ends_again b Authority (Err given) p e none other stops = (given, refl)
 ends_again b Additional (Err given) p e none other stops = absurd (other refl)
 
+-- An error at the end of a section is kept.
 pub kept_at_end : (it : MessageIter) (cursor : RecordSection) (e : ParseError) → StaysAt it (Some cursor) → records_left cursor ≡ [] → MovesOn cursor (Err e) → (given : ParseError) × (kept_error it ≡ Some given)
 kept_at_end it cursor e here empty moves =
     let again = ends_again (octets_of cursor) (section_of cursor) (to_come cursor) (position cursor) e empty moves.0 moves.1 in (again.0, here.1 ∙ again.1)

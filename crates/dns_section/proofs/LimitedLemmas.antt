@@ -18,9 +18,11 @@ use Rattle.dns_section.specs.Limited.{parsed_item, limited, is_in_class_in, limi
 use Rattle.dns_section.specs.RecordSection.{records_left, record_result, GivesNext}
 use Rattle.dns_section.specs.declared.record_section.RecordSection.{RecordSection}
 
+-- The records of one type among two lists are those of each list.
 pub limited-append : (layouts : ℕ → Option Layout) (xs ys : List (Result EncodedRecord Fault)) → limited layouts (xs ++ ys) ≡ limited layouts xs ++ limited layouts ys
 limited-append layouts xs ys = filter_map-append (parsed_item layouts) xs ys
 
+-- The same with a limit to the class IN.
 pub limited_by-append : (layouts : ℕ → Option Layout) (in_only : Bool) (xs ys : List (Result EncodedRecord Fault))
     → limited_by layouts in_only (xs ++ ys) ≡ limited_by layouts in_only xs ++ limited_by layouts in_only ys
 limited_by-append layouts true xs ys = ap (limited layouts) (filter-append is_in_class_in xs ys) ∙ limited-append layouts _ _
@@ -46,6 +48,7 @@ given_span old new r calls =
     let same = ap length calls.moves.1 in
     record { start = omega arith; end = omega arith }
 
+-- No records have none of a type.
 pub limited_by-none : (layouts : ℕ → Option Layout) (in_only : Bool) → limited_by layouts in_only [] ≡ []
 limited_by-none layouts true = refl
 limited_by-none layouts false = refl

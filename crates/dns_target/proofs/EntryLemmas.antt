@@ -54,6 +54,7 @@ pub all_get : (ps : List (Labels × TableEntry)) → AreNew ps → AllGet (from_
 all_get [] h = tt
 all_get (p ∷ ps) h = (get-insert_same (from_entries ps) p.0 p.1, all_more (from_entries ps) p.0 p.1 ps h.0 (all_get ps h.1))
 
+-- The entries of a table, each with its name, are these entries.
 pub table_entries-named : (b : List ℕ) (xs : List TableEntry) → table_entries (named b xs) ≡ xs
 table_entries-named b [] = refl
 table_entries-named b (x ∷ xs) = ap (λ (ys : List TableEntry). x ∷ ys) (table_entries-named b xs)

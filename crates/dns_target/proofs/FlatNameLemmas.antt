@@ -6,6 +6,7 @@ use Rattle.dns_name.proofs.theory.UncompressedNames.{name_at_uncompressed}
 use Rattle.dns_target.specs.FlatNames.{flat_labels}
 use Rattle.dns_target.specs.declared.flat_name.FlatName.{FlatName}
 
+-- The labels of an uncompressed name are a name.
 pub flat_is : (name : FlatName) → IsName (flat_labels name)
 flat_is name = encoded_name name.whole.0.1
 

@@ -9,6 +9,7 @@ joined : (octets : List ℕ) (octet : ℕ) (others : Option (List ℕ)) → opti
 joined octets octet None = refl
 joined octets octet (Some xs) = ap Some (sym (append_assoc octets (octet ∷ []) xs))
 
+-- Two more digits are one more octet.
 pub octet_more : (whole digits octets new : List ℕ) (octet : ℕ) → 2 ≤ length digits → octet_of (get_or digits 0 0) (get_or digits 1 0) ≡ Some octet → new ≡ octets ++ octet ∷ []
     → octets_of whole ≡ option_map (λ xs. octets ++ xs) (octets_of digits)
     → octets_of whole ≡ option_map (λ xs. new ++ xs) (octets_of (take (length digits - 2) (drop 2 digits)))

@@ -35,6 +35,7 @@ numbers_read zone fit =
 abbrev pub parsed_text : ParsedName → Option (List ℕ)
 parsed_text name = Some (name_text (labels name))
 
+-- RDATA of a known type is shown as the text of its parts.
 pub known_shown : (value : KnownData ParsedName) → ((zone : Soa ParsedName) → value ≡ variants.Soa zone → NumbersFit zone) → known_text parsed_text value ≡ Some (parts_text (parts_of labels value))
 known_shown (variants.A address) fit = refl
 known_shown (variants.Ns server) fit = refl

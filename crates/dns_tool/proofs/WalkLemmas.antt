@@ -84,9 +84,11 @@ pub record RecordsRead (first readable current : RecordSection) : Type 0 where
   pub follows : SameNextFollows first readable
   pub last : (n : ℕ) → to_come current ≡ Ok n → readable ≡ current
 
+-- A walk that has read no record is where it began.
 pub no_record_read : (first : RecordSection) → RecordsRead first first first
 no_record_read first = record { follows = record { section = refl; next = λ outcome moves. moves }; last = λ n is. refl }
 
+-- A walk goes on after a record that was read, and stops where one can't be.
 pub record_read : (first readable readable' old new : RecordSection) (outcome : Result ParsedRecord ParseError) → (is_ok outcome ≡ true → readable' ≡ new) → (is_ok outcome ≡ false → readable' ≡ readable)
     → MovesPastRecord old new (Some outcome) → CountsDown (to_come old) (to_come new) (Some outcome) → octets_of new ≡ octets_of old → section_of new ≡ section_of old
     → RecordsRead first readable old → RecordsRead first readable' new
@@ -123,8 +125,10 @@ module _ (which : Section) (b : List ℕ) (first last : RecordSection) (begins :
   pub isnt_last : which ≢ Additional → section_of last ≢ Additional
   isnt_last other is = other (sym begins.fresh.section ∙ sym same.section ∙ is)
 
+-- The walk ends where the authority section has no start.
 pub authorities_stop : (b : List ℕ) (first last : RecordSection) (e : ParseError) → BeginsSection Answer b first → SameNextFollows first last → MovesToNext last (Err e) → AuthoritiesFault b (fault_of e)
 authorities_stop b first last e begins same moves = inr (position first, begins.start, next_stops Answer b first last begins same e moves)
 
+-- The walk ends where the additional section has no start.
 pub additionals_stop : (b : List ℕ) (first last : RecordSection) (e : ParseError) → BeginsSection Authority b first → SameNextFollows first last → MovesToNext last (Err e) → AdditionalsFault b (fault_of e)
 additionals_stop b first last e begins same moves = inr (position first, begins.start, next_stops Authority b first last begins same e moves)

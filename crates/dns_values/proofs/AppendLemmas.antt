@@ -115,6 +115,7 @@ more_values index kind value kinds values old middle new u (Err errors.WrongCoun
 more_values index kind value kinds values old middle new u (Err errors.TooLong) a b = absurd b
 more_values index kind value kinds values old middle new u (Err errors.OutOfMemory) a b = (suc b.0, ((a.0, a.1), b.1))
 
+-- The values of fields are appended in order.
 pub values_more : (index : ℕ) (fields : List Field) (d : Field) (values : List NewValue) (v : NewValue) (old middle new : List ℕ) (u : Unit {0}) (result : Result Unit ValueError) → 1 ≤ length fields → 1 ≤ length values
     → v ≡ get_or values 0 v → AppendsValue (get_or fields 0 d).1 v old middle (Ok u) → AppendsValues (index + 1) (kinds (drop 1 fields)) (drop 1 values) middle new result
     → AppendsValues index (kinds fields) values old new result

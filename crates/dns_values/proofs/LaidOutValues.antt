@@ -218,6 +218,7 @@ module _ (others : Layout) (rest : List Part) (after : IsLaidOut others rest) wh
 
 -- all fields
 
+-- Parts of values are laid out as the kinds of the values say.
 pub values_laid : (ks : List Kind) (vs : List NewValue) (parts : List Part) → rest_is_last ks ≡ true → AreValuesOf ks vs parts → IsLaidOut (layout_of ks) parts
 unfolding layout_of
 values_laid [] [] [] last are = refl
@@ -242,6 +243,7 @@ part_is : (kind : Kind) (form : Form) (value : NewValue) (part : Part) (parts : 
 part_is kind forms.Name (values.Name name) part parts is are = subst (λ (p : Part). AreParts (p ∷ parts)) (sym is) (name_is kind (shape_of kind) name parts are)
 part_is kind form value part parts is are = subst (λ (p : Part). AreParts (p ∷ parts)) (sym is.1) are
 
+-- Parts of values are parts.
 pub values_are : (ks : List Kind) (vs : List NewValue) (parts : List Part) → AreValuesOf ks vs parts → AreParts parts
 values_are [] [] [] are = tt
 values_are (kind ∷ ks) (value ∷ vs) (part ∷ parts) are = part_is kind (value_form kind) value part parts are.0 (values_are ks vs parts are.1)
@@ -255,6 +257,7 @@ by_test : (own others : List Definition) (b : Bool) → rest_is_last (kinds_in o
 by_test own others true first after = first
 by_test own others false first after = after
 
+-- In each type, a field that takes the rest is the last.
 pub type_last : (types : List TypeDefinition) (rtype : ℕ) → list_all (λ type. rest_is_last (kinds_in type.fields)) types ≡ true → rest_is_last (kinds_in (fields_in types rtype)) ≡ true
 type_last [] rtype all = refl
 type_last (type ∷ types) rtype all =

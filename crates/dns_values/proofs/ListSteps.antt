@@ -23,6 +23,7 @@ record Splits (Left First Next : List ℕ → Type 0) : Type 0 where
   pub parts : (octets : List ℕ) → Left octets → (first : List ℕ) × (after : List ℕ) × First first × (octets ≡ first ++ after) × Next after
   pub both : (first after : List ℕ) → First first → Next after → Left (first ++ after)
 
+-- Nothing is appended yet.
 pub between_start : (Whole : List ℕ → Type 0) (old : List ℕ) → IsBetween Whole Whole old old
 between_start Whole old = record { front = []; appended = sym (append-nil old); whole = λ after is. is; left = λ octets is. (octets, is) }
 
@@ -40,6 +41,7 @@ pub record AreSame (Whole Left : List ℕ → Type 0) : Type 0 where
   pub into : (octets : List ℕ) → Whole octets → (after : List ℕ) × Left after
   pub back : (after : List ℕ) → Left after → (octets : List ℕ) × Whole octets
 
+-- What is whole is the same whole.
 pub same_start : (Whole : List ℕ → Type 0) → AreSame Whole Whole
 same_start Whole = record { into = λ octets is. (octets, is); back = λ after is. (after, is) }
 
@@ -105,11 +107,13 @@ pub strings_end : (strings : List (Bor (List ℕ))) (k : ℕ) (old now : List �
 strings_end strings k old now u past between =
     between_end (AreStringsIn strings) (AreStringsIn (drop k strings)) old now u between (subst (λ (ss : List (Bor (List ℕ))). AreStringsIn ss []) (sym (drop_all k strings past)) refl)
 
+-- After the last prefix all of them are appended.
 pub prefixes_end : (prefixes : List AddressPrefix) (k : ℕ) (old now : List ℕ) (u : Unit {0}) → length prefixes ≤ k → IsBetween (ArePrefixesIn prefixes) (ArePrefixesIn (drop k prefixes)) old now
     → Appends (ArePrefixesIn prefixes) old now (Ok u)
 prefixes_end prefixes k old now u past between =
     between_end (ArePrefixesIn prefixes) (ArePrefixesIn (drop k prefixes)) old now u between (subst (λ (ps : List AddressPrefix). ArePrefixesIn ps []) (sym (drop_all k prefixes past)) refl)
 
+-- After the last parameter all of them are appended.
 pub parameters_end : (least : ℕ) (parameters : List (ℕ × Bor (List ℕ))) (k : ℕ) (old now : List ℕ) (u : Unit {0}) → length parameters ≤ k
     → IsBetween (AreParametersIn 0 parameters) (AreParametersIn least (drop k parameters)) old now → Appends (AreParametersIn 0 parameters) old now (Ok u)
 parameters_end least parameters k old now u past between =

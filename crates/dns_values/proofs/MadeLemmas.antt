@@ -28,6 +28,7 @@ last_of_type rtype all = type_last record_types rtype all
 abbrev pub AreOctetsOfValues : ℕ → List NewValue → List ℕ → Type 0
 AreOctetsOfValues rtype values octets = (parts : List Part) × AreValuesOf (kinds_of rtype) values parts × (octets ≡ octets_of_parts parts)
 
+-- The octets of all fields are the RDATA.
 pub whole_octets : (rtype : ℕ) (fields : List Field) (values : List NewValue) (start octets : List ℕ) → definitions fields ≡ definitions_of rtype → start ≡ []
     → (parts : List Part) × AreValuesOf (kinds fields) values parts × (octets ≡ start ++ octets_of_parts parts) → AreOctetsOfValues rtype values octets
 whole_octets rtype fields values start octets same empty h = (
@@ -48,6 +49,7 @@ error_is ks values errors.OutOfMemory same is = (same, is.0, is.1)
 error_is ks values errors.WrongCount same is = absurd is
 error_is ks values errors.TooLong same is = absurd is
 
+-- The error of the first value that is refused is the result.
 pub error_of : (rtype : ℕ) (fields : List Field) (values : List NewValue) (e : ValueError) → definitions fields ≡ definitions_of rtype → length fields ≡ length values → IsErrorFrom 0 (kinds fields) values e
     → IsErrorOf (kinds_of rtype) values e
 error_of rtype fields values e same equal is =
@@ -60,6 +62,7 @@ refused_as index kind ks value values refusals.WrongKind is = (0, (omega arith),
 refused_as index kind ks value values refusals.OutOfRange is = (0, (omega arith), is)
 refused_as index kind ks value values refusals.OutOfMemory is = (0, is)
 
+-- A value that is refused is the first such one.
 pub first_refused : (index : ℕ) (fields : List Field) (d : Field) (values : List NewValue) (v : NewValue) (refusal : Refusal) → 1 ≤ length fields → 1 ≤ length values → v ≡ get_or values 0 v
     → RefusesValue (get_or fields 0 d).1 (value_form (get_or fields 0 d).1) v refusal → IsErrorFrom index (kinds fields) values (error_at refusal index)
 first_refused index [] d values v refusal some other is refused = absurd (omega arith)

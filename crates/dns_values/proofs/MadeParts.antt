@@ -74,6 +74,7 @@ only_memory kinds vs parts errors.TooLong are short is =
     absurd (omega (arith, same, long, short))
 only_memory kinds vs parts errors.OutOfMemory are short is = refl
 
+-- Values that fit their fields make RDATA, and others make none.
 pub values_are_made : ValuesAreMade
 values_are_made rtype vs parts (Ok owned) are short h = (h.0, one_list (kinds_of rtype) vs _ parts h.1 are)
 values_are_made rtype vs parts (Err error) are short h = only_memory (kinds_of rtype) vs parts error are short h

@@ -41,6 +41,7 @@ aaaa_values address size = ((address, refl, (size, refl)), tt)
 name_size : NamesAreBounded → (name : ParsedName) → parts_size (CompressibleName (labels name) ∷ []) ≤ 255
 name_size bounded name = let few = bounded (labels name) (encoded_name name.name_at.0.1) in omega (arith, few)
 
+-- A preference and a name make the RDATA of MX.
 pub made_mx : NamesAreBounded → (preference : ℕ) (exchange : ParsedName) (name : Labels) (result : Result OwnedFieldData ValueError) → preference < 65536 → labels exchange ≡ name
     → MakesData 15 (Number preference ∷ Name exchange ∷ []) result → MakesParts 15 (number_of preference ∷ CompressibleName name ∷ []) result
 made_mx bounded preference exchange name result small same h =
@@ -49,6 +50,7 @@ made_mx bounded preference exchange name result small same h =
     subst (λ (l : Labels). MakesParts 15 (number_of preference ∷ CompressibleName l ∷ []) result) same
     (values_are_made 15 _ (number_of preference ∷ CompressibleName (labels exchange) ∷ []) result (mx_values preference exchange small) (omega (arith, few, two)) h)
 
+-- Three numbers and a name make the RDATA of SRV.
 pub made_srv : NamesAreBounded → (priority weight port : ℕ) (target : ParsedName) (name : Labels) (result : Result OwnedFieldData ValueError) → priority < 65536 → weight < 65536 → port < 65536 → labels target ≡ name
     → MakesData 33 (Number priority ∷ Number weight ∷ Number port ∷ Name target ∷ []) result
     → MakesParts 33 (number_of priority ∷ number_of weight ∷ number_of port ∷ UncompressedName true name ∷ []) result
@@ -60,5 +62,6 @@ made_srv bounded priority weight port target name result a b c same h =
     subst (λ (l : Labels). MakesParts 33 (number_of priority ∷ number_of weight ∷ number_of port ∷ UncompressedName true l ∷ []) result) same
     (values_are_made 33 _ (number_of priority ∷ number_of weight ∷ number_of port ∷ UncompressedName true (labels target) ∷ []) result (srv_values priority weight port target a b c) (omega (arith, few, first, second, third)) h)
 
+-- Sixteen octets make the RDATA of AAAA.
 pub made_aaaa : (address : List ℕ) (result : Result OwnedFieldData ValueError) → length address ≡ 16 → MakesData 28 (Ipv6 address ∷ []) result → MakesParts 28 (Octets address ∷ []) result
 made_aaaa address result size h = values_are_made 28 _ (Octets address ∷ []) result (aaaa_values address size) (omega (arith, size)) h

@@ -14,6 +14,7 @@ fits_more n (suc size) some h =
     let same : 256 ^ (suc size - 1) ≡ 256 ^ size = ap (λ k. 256 ^ k) less in
     omega (arith, h, power, same)
 
+-- A number without its last octet fits one octet less.
 pub fits_less : (n size : ℕ) → size ≢ 0 → n < 256 ^ size → n / 256 < 256 ^ (size - 1)
 fits_less n zero some h = absurd (some refl)
 fits_less n (suc size) some h =
@@ -22,6 +23,7 @@ fits_less n (suc size) some h =
     let same : 256 ^ (suc size - 1) ≡ 256 ^ size = ap (λ k. 256 ^ k) less in
     omega (arith, h, power, same)
 
+-- The last octets of a number are as many as asked for.
 pub length-last_octets : (size n : ℕ) → length (last_octets size n) ≡ size
 unfolding last_octets
 length-last_octets zero n = refl
@@ -33,6 +35,7 @@ number_append : (high : ℕ) (octets : List ℕ) (o : ℕ) → number_after high
 number_append high [] o = refl
 number_append high (x ∷ octets) o = number_append (high * 256 + x) octets o
 
+-- A number that fits is the number of its last octets.
 pub number_back : (size n : ℕ) → n < 256 ^ size → number_after 0 (last_octets size n) ≡ n
 unfolding last_octets
 number_back zero n small = let one : n ≡ 0 = omega arith in sym one

@@ -47,5 +47,6 @@ one_part : (kind : Kind) (form : Form) (value : NewValue) (first second : Part) 
 one_part kind forms.Name (values.Name name) first second a b = a ∙ sym b
 one_part kind form value first second (xs, e, a) (ys, f, b) = e ∙ ap (λ (zs : List ℕ). OctetsPart zs) (one_octets kind form value xs ys a b) ∙ sym f
 
+-- RDATA has one list of values.
 pub values_are_one : ValuesAreOne
 values_are_one kind value first second a b = one_part kind (value_form kind) value first second a b

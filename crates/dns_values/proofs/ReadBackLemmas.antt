@@ -143,6 +143,7 @@ prefixes_read (values.Prefixes prefixes) part (octets, e, are) = (octets, ap (λ
 prefixes_read (values.Octets given) part (octets, e, (n, is)) = plain_read kinds.AddressPrefixes given.now octets part (λ xs. refl) e is
 prefixes_read _ part is = absurd is.2
 
+-- A value that was put in is the value that is read.
 pub value_read : (kind : Kind) (value : NewValue) (part : Part) → IsValueOf kind value part → ReadsBack value (part_value kind part)
 value_read kinds.Number8 value part is = number_read kinds.Number8 1 value part (λ xs. refl) is
 value_read kinds.Number16 value part is = number_read kinds.Number16 2 value part (λ xs. refl) is

@@ -18,6 +18,7 @@ split_first text string after (next ∷ more) front back long is = (
   is,
 )
 
+-- A text is split after 255 octets.
 pub split_more : (text left : List ℕ) (string : Bor (List ℕ)) (after : List ℕ) (old new : List (Bor (List ℕ))) → ContinuesSplit text old left → string.now ≡ take 255 left → after ≡ drop 255 left → 255 < length left
     → new ≡ old ++ string ∷ [] → ContinuesSplit text new after
 split_more text left string after old new continues front back long pushed = λ more is.

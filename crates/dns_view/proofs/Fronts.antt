@@ -24,12 +24,14 @@ ellipsis_small : (cut : Bool) → length (ellipsis_text cut) ≤ 3
 ellipsis_small true = omega arith
 ellipsis_small false = omega arith
 
+-- A text within a limit is no longer than the limit.
 pub within_limit : (limit : ℕ) (text : List ℕ) → 3 ≤ limit → length (escaped_within limit text) ≤ limit
 within_limit limit text some =
     let front = front_within limit text in
     let cut = nat_lt (length front) (length text) in
     omega (arith, length-append (escaped front) (ellipsis_text cut), front_small limit text some, ellipsis_small cut)
 
+-- The words of a row are no longer than its limit.
 pub words_bounded : (brief : Bool) (message : List ℕ) (row : Row) (words : List ℕ) → limits_words brief row ≡ true → length (words_text brief message row words) ≤ words_limit (row_octets message row)
 words_bounded brief message row words limited =
     let limit = words_limit (row_octets message row) in

@@ -74,5 +74,6 @@ module _ (large : Bool) (message : List ℕ) where
       let more = row_shown row (lines large rows) (All-head P row rows h) after.0 in
       (more.0, more.1 ∙ ap (λ l. row_octets message row ++ l) after.1)
 
+-- Rows that are joined have the same octets.
 pub joined_octets : (large : Bool) (message : List ℕ) (rows : List Row) → All (λ row. row.end ≤ length message) rows → flat_map (row_octets message) (joined large rows) ≡ flat_map (row_octets message) rows
 joined_octets large message rows h = (rows_shown large message rows h).1

@@ -29,6 +29,7 @@ row_tiles large row (line ∷ after) start end is order h =
       | false ↦ (is, order, h)
     ]
 
+-- Rows that are joined tile the same octets.
 pub joined_tiles : (large : Bool) (rows : List Row) (start end : ℕ) → Tiles rows start end → Tiles (joined large rows) start end
 joined_tiles large [] start end h = h
 joined_tiles large (row ∷ rows) start end h = row_tiles large row (lines large rows) start end h.0 h.1 (joined_tiles large rows row.end end h.2)
@@ -153,6 +154,7 @@ module _ (message : List ℕ) (text_of : Row → List ℕ) (others : List (List 
         | false ↦ λ e. after
       ] refl
 
+-- No two elements of a page have one ID.
 pub ids_differ : (brief : Bool) (message : List ℕ) (rows : List Row) → length message < 2 ^ 64 → Tiles rows 0 (length message) → AreDifferent (page_ids brief message rows)
 ids_differ brief message rows small h =
     let lines = joined brief rows in

@@ -66,6 +66,7 @@ line_printed r a b c d message line row is some first others closed =
 four : (a b c d : List ℕ) → a ++ (b ++ (c ++ d)) ≡ a ++ b ++ c ++ d
 four a b c d = simp append_assoc
 
+-- The pieces of an arrow's style are its text.
 pub arrow_pieces : (from target : ℕ) → codes " style=--p:" ++ (decimal from ++ (codes "," ++ decimal target)) ≡ arrow_text from target
 arrow_pieces from target = four (codes " style=--p:") (decimal from) (codes ",") (decimal target)
 

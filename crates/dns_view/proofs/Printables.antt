@@ -7,6 +7,7 @@ use Rattle.std.proofs.lemmas.List.Folds.{list_all-append}
 use Rattle.dns_view.specs.Pages.{escaped_octet, front_within}
 use Rattle.dns_view.specs.Printable.{are_printable, is_printable}
 
+-- A conjunction of truths is true.
 pub both_true : (a b : Bool) → a ≡ true → b ≡ true → (a && b) ≡ true
 both_true a b p q = ap₂ (λ x y. x && y) p q
 
@@ -22,6 +23,7 @@ parts_printable n xs h =
 pub printable_take : (n : ℕ) (xs : List ℕ) → are_printable xs ≡ true → are_printable (take n xs) ≡ true
 printable_take n xs h = (parts_printable n xs h).0
 
+-- What is left of printable characters is printable.
 pub printable_drop : (n : ℕ) (xs : List ℕ) → are_printable xs ≡ true → are_printable (drop n xs) ≡ true
 printable_drop n xs h = (parts_printable n xs h).1
 

@@ -96,12 +96,14 @@ field_named fields.OptionCode = named_o
 field_named (fields.OptionLength _) = named_o
 field_named (fields.OptionData _) = named_o
 
+-- The style has a rule for the class of each row's colour.
 pub colours_ruled : ColoursHaveRules
 colours_ruled (kinds.Field field) = field_ruled field
 colours_ruled kinds.ShortHeader = rule_f
 colours_ruled (kinds.Fault _) = rule_f
 colours_ruled kinds.Unread = rule_f
 
+-- The legend names each colour.
 pub colours_named : ColoursAreNamed
 colours_named (kinds.Field field) = field_named field
 colours_named kinds.ShortHeader = named_f

@@ -32,6 +32,7 @@ appends_kept (Some front) None c xs h k = absurd h
 appends_kept (Some front) (Some bs) None xs h k = absurd k
 appends_kept (Some front) (Some bs) (Some cs) xs h k = k ∙ h
 
+-- A form that was printed stays printed if the output is kept.
 pub form_kept : (form : Form) (octets : List ℕ) (a b c : Option (List ℕ)) → PrintsForm form octets a b → Keeps b c → PrintsForm form octets a c
 form_kept Text octets a b c p k = (p.0, p.1, (p.2.0, p.2.1, appends_kept a b c _ p.2.2 k))
 form_kept Page octets a b c p k = (p.0, p.1, (p.2.0, p.2.1, appends_kept a b c _ p.2.2 k))

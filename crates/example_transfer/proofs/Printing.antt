@@ -24,6 +24,7 @@ use Rattle.example_transfer.specs.Printed.{ending, HasNoOctets, IsItemText, IsIt
 use Rattle.example_transfer.specs.Printed.IsRecordLine.{as_fields, as_octets}
 use Rattle.example_transfer.specs.Transfer.{AreMessagesOf, AreTransferred, Taken, is_whole}
 
+-- What a transfer gives: a record, or an error.
 abbrev pub Item : Type 0
 Item = Result ParsedRecord ParseError
 

@@ -29,6 +29,7 @@ parts (fault b bs xs x whole) = inr (x, whole)
 whole_or_not : (xs ys : List Taken) → xs ≡ ys → is_whole xs ≡ true → is_whole ys ≡ false → ⊥
 whole_or_not xs ys e whole faulty = let k : true ≡ false = sym whole ∙ ap is_whole e ∙ faulty in cc
 
+-- Messages give at most one list of records.
 pub one_transfer : (bs : List (List ℕ)) (xs ys : List Taken) → AreTransferred bs xs → AreTransferred bs ys → xs ≡ ys
 one_transfer [] xs ys x y = parts x ∙ sym (parts y)
 one_transfer (b ∷ bs) xs ys x y =

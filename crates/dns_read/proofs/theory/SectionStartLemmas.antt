@@ -31,6 +31,7 @@ module _ {Start : ℕ → Type 0} {FaultOf : Fault → Type 0} (h : StartsOrFaul
   none_found (inl x) f fault = absurd (h.not_both x.0 f x.1 fault)
   none_found (inr g) f fault = refl
 
+-- A section that starts at an offset has that start.
 pub start_found : (which : Section) (b : List ℕ) (p : ℕ) → StartsAt which b p → start_of which b ≡ Some p
 unfolding start_of
 start_found Answer b p start = let h = start_or_fault.answers b in found_at h h.some p start
@@ -43,6 +44,7 @@ found_start Answer b p e = let h = start_or_fault.answers b in starts_where_foun
 found_start Authority b p e = let h = start_or_fault.authorities b in starts_where_found h h.some p e
 found_start Additional b p e = let h = start_or_fault.additionals b in starts_where_found h h.some p e
 
+-- `start_of` finds an offset exactly if the section starts there.
 pub starts_are_found : StartsAreFound
 starts_are_found which b p = (found_start which b p, start_found which b p)
 
@@ -51,10 +53,12 @@ pub no_answers : (b : List ℕ) (f : Fault) → AnswersFault b f → start_of An
 unfolding start_of
 no_answers b f fault = let h = start_or_fault.answers b in none_found h h.some f fault
 
+-- If the authority section has a fault, it has no start.
 pub no_authorities : (b : List ℕ) (f : Fault) → AuthoritiesFault b f → start_of Authority b ≡ None
 unfolding start_of
 no_authorities b f fault = let h = start_or_fault.authorities b in none_found h h.some f fault
 
+-- If the additional section has a fault, it has no start.
 pub no_additionals : (b : List ℕ) (f : Fault) → AdditionalsFault b f → start_of Additional b ≡ None
 unfolding start_of
 no_additionals b f fault = let h = start_or_fault.additionals b in none_found h h.some f fault

@@ -12,8 +12,10 @@ questions_from-reading : (b : List ℕ) (n p : ℕ) → ReadingQuestions b n p (
 unfolding questions_from
 questions_from-reading b n p = ((one_reading_of_questions b).some n p).1
 
+-- The questions from an offset are a reading of them.
 pub questions_from_are_read : QuestionsFromAreRead
 questions_from_are_read b = are_readings (one_reading_of_questions b) (questions_from b) (questions_from-reading b)
 
+-- Questions have one reading.
 pub questions_from-only : (b : List ℕ) (n p : ℕ) (xs : List (Result QuestionItem Fault)) → ReadingQuestions b n p xs → questions_from b n p ≡ xs
 questions_from-only b = (questions_from_are_read b).only

@@ -33,9 +33,11 @@ module _ {X : Type 0} (Reads : ℕ → ℕ → X → Type 0) (FaultOf : ℕ → 
   readings_end : ReadingsEnd Reads FaultOf
   readings_end = record { short = λ n p xs r. short_reading r; last = λ n p xs before after f r e. last_fault before after f r e }
 
+-- A reading of questions ends after its count of them, or at a fault.
 pub readings_of_questions_end : ReadingsOfQuestionsEnd
 readings_of_questions_end b = readings_end (ReadsQuestion b) (QuestionFaultAt b)
 
+-- A reading of records ends after its count of them, or at a fault.
 pub readings_of_records_end : ReadingsOfRecordsEnd
 readings_of_records_end b = readings_end (ReadsRecord b) (RecordFaultAt b)
 

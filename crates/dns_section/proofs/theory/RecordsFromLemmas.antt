@@ -9,5 +9,6 @@ records_from-reading : (b : List ℕ) (n p : ℕ) → ReadingRecords b n p (reco
 unfolding records_from
 records_from-reading b n p = ((one_reading_of_records b).some n p).1
 
+-- The records from an offset are a reading of them.
 pub records_from_are_read : RecordsFromAreRead
 records_from_are_read b = are_readings (one_reading_of_records b) (records_from b) (records_from-reading b)

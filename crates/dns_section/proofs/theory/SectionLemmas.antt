@@ -32,6 +32,7 @@ starts_after Answer next b p q after start skipped = let e : Authority ≡ next 
 starts_after Authority next b p q after start skipped = let e : Additional ≡ next = cc in subst (λ k. StartsAt k b q) e (p, start, skipped)
 starts_after Additional next b p q after start skipped = absurd (cc)
 
+-- A cursor that enters the next section begins it.
 pub begins_next : (which next : Section) (b : List ℕ) (old new : RecordSection) → section_after which ≡ Some next → BeginsSection which b old → EntersNext old new → BeginsSection next b new
 begins_next which next b old new after begins enters =
     let section : section_of new ≡ next = cc in

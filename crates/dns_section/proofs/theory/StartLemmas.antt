@@ -121,8 +121,10 @@ authorities b = section_after (answers b) (records_skip_or_stop b (answer_count 
 additionals : (b : List ℕ) → StartsOrFaults (AdditionalsStart b) (AdditionalsFault b)
 additionals b = section_after (authorities b) (records_skip_or_stop b (authority_count b))
 
+-- A section has a start or a fault.
 pub start_or_fault : StartOrFault
 start_or_fault = record { answers = answers; authorities = authorities; additionals = additionals }
 
+-- A section has at most one start.
 pub one_start : OneStart
 one_start = record { answers = λ b. (answers b).one; authorities = λ b. (authorities b).one; additionals = λ b. (additionals b).one }
