@@ -36,7 +36,7 @@
 #include <stdint.h>
 
 /* The version of this header and its library, as text and as a number: 10000 * major + 100 * minor + patch. */
-#define DNSM_VERSION "1.0.0"
+#define DNSM_VERSION "2.0.0"
 #define DNSM_VERSION_NUMBER 10000
 
 #ifdef __cplusplus

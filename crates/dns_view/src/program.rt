@@ -52,7 +52,7 @@ Exit status: 0; 1 if the number of digits is odd; 2 for a wrong argument;
 ";
 
 /// What `--version` prints.
-const VERSION: &str = "dnsview 1.0.0\n";
+const VERSION: &str = "dnsview 2.0.0\n";
 
 /// Reads a message, as octets or in hexadecimal digits, prints it, and returns the exit status of
 /// the program. Only what is wrong is printed to `errors`.
