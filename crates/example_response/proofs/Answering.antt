@@ -10,7 +10,7 @@ use Rattle.dns_message.specs.Builders.{Built, PushReturns, Represents, MovesStat
 use Rattle.dns_message.specs.declared.builder.PushError.{PushError}
 use Rattle.dns_message.specs.declared.builder.PushError.TheVariants.{CountOverflow, LimitExceeded, ShortBuf, OutOfMemory}
 use Rattle.example_response.specs.Response.{all_or_none, size}
-use Rattle.example_response.proofs.Sizes.{longer_answers, items_within}
+use Rattle.dns_message.proofs.CallerLemmas.{longer_with_answers, items_are_few}
 
 -- a state with further answers
 abbrev with_answers : List RecordItem → State → State
@@ -44,7 +44,7 @@ one_more s xs x mid new h moves accepted = record {
 -- with the first of further answers, a message is no longer than with all
 some_within : (s : State) (b : Built) → Represents InAnswer Tree s b → (xs ys : List RecordItem) → size (with_answers xs s) ≤ size (with_answers (xs ++ ys) s)
 some_within s b h xs ys =
-    subst (λ (t : State). size (with_answers xs t) ≤ size (with_answers (xs ++ ys) t)) (sym h.last) (longer_answers s xs ys)
+    subst (λ (t : State). size (with_answers xs t) ≤ size (with_answers (xs ++ ys) t)) (sym h.last) (longer_with_answers Tree s xs ys)
 
 -- if one answer exceeds the limit, all of them do
 limit_exceeded : (s : State) (xs : List RecordItem) (x : RecordItem) (ys : List RecordItem) (b mid : Built) → Represents InAnswer Tree s b → MoreAnswers s mid xs
@@ -59,7 +59,7 @@ count_exceeded : (s : State) (xs : List RecordItem) (x : RecordItem) (mid : Buil
 count_exceeded s xs x mid so_far exceeds =
     let t = with_answers xs s in
     let p = exceeds t so_far.represents in
-    let k = items_within (with_record InAnswer x t) in
+    let k = items_are_few Tree (with_record InAnswer x t) in
     let n = length-append t.answers (x ∷ []) in
     omega (arith, p, k, n)
 

@@ -11,7 +11,8 @@ use Rattle.dns_message.specs.Builders.{AreAccepted, GivesAnswer, answering, read
 use Rattle.dns_message.specs.declared.builder.PushError.{PushError}
 use Rattle.dns_message.specs.declared.builder.PushError.TheVariants.{CountOverflow, LimitExceeded, ShortBuf, OutOfMemory}
 use Rattle.example_response.specs.Response.{IsReason, IsResponse, all_or_none, asked_again, most_before_opt, opt_if_asked, own_opt, response_to, size}
-use Rattle.example_response.proofs.Sizes.{sized, size_moved, size_entered, size_limited, cut_within, longer_questions, items_within, with_opt_size}
+use Rattle.dns_message.proofs.CallerLemmas.{message_size, moving_adds_nothing, tc_rewound_is_shorter, longer_with_questions, items_are_few}
+use Rattle.example_response.proofs.Sizes.{size_entered, size_limited, with_opt_size}
 
 -- the state of a new builder with the limit of a response
 abbrev pub limited : State
@@ -35,13 +36,13 @@ either_has part x false all none a n = n
 module _ (b : List ℕ) where
   -- the first state of a response is within the limit: it is a header section
   starts_within : size (answering 0 b limited) ≤ 512
-  starts_within = let e = sized (answering 0 b limited) in omega (arith, e)
+  starts_within = let e = message_size Tree (answering 0 b limited) in omega (arith, e)
 
   -- a response with all questions of the query is within the limit
   pub started_within : AreAccepted None true Tree (answering 0 b limited) (readable_questions b) → size (asked_again b) ≤ 512
   started_within accepted =
       let l = accepted_within None true Tree (answering 0 b limited) (readable_questions b) accepted starts_within in
-      let e = size_moved (answering 0 b limited) (readable_questions b) in
+      let e = moving_adds_nothing Tree (answering 0 b limited) (readable_questions b) in
       let n = size_limited (asked_again b) 512 in
       omega (arith, e, l, n)
 
@@ -57,16 +58,16 @@ module _ (b : List ℕ) where
       let s = answering 0 b limited in
       let p = gives.1 in
       let xs = gives.0 ++ p.next ∷ [] in
-      let l = longer_questions s xs p.others in
+      let l = longer_with_questions Tree s xs p.others in
       let all : xs ++ p.others ≡ readable_questions b = append_assoc gives.0 (p.next ∷ []) p.others ∙ sym p.all in
-      let e = size_moved s (readable_questions b) ∙ ap (λ (zs : List QuestionItem). size (asking zs)) (sym all) in
+      let e = moving_adds_nothing Tree s (readable_questions b) ∙ ap (λ (zs : List QuestionItem). size (asking zs)) (sym all) in
       let k = p.refused in
       let n = size_limited (asked_again b) 512 in
       let small = most_small (opt_of b) in
       omega (arith, e, k, l, n, small)
   not_started CountOverflow gives =
       let p = gives.1 in
-      let k = items_within (asking (gives.0 ++ p.next ∷ [])) in
+      let k = items_are_few Tree (asking (gives.0 ++ p.next ∷ [])) in
       let n = length-append gives.0 (p.next ∷ []) in
       let q = p.refused in
       omega (arith, k, n, q)
@@ -85,7 +86,7 @@ module _ (b : List ℕ) where
     -- it is within the limit
     pub answered_within : size (asked_again b) ≤ most_before_opt (opt_of b) → size answered ≤ most_before_opt (opt_of b)
     answered_within l =
-        let m = cut_within (asked_again b) in
+        let m = tc_rewound_is_shorter Tree (asked_again b) in
         let e = size_entered (all_or_none xs (asked_again b)) 512 in
         let k = either_within all none (most_before_opt (opt_of b)) (omega (arith, l, m)) (nat_le (size all) (most_before_opt (opt_of b))) refl in
         omega (arith, e, k)
