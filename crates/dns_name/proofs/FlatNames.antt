@@ -10,7 +10,8 @@ use Rattle.dns_name.proofs.theory.HeadLemmas.{root_begins, label_begins, at_root
 use Rattle.dns_name.proofs.theory.LabelsLemmas.{length-uncompressed}
 use Rattle.dns_name.proofs.theory.UncompressedNames.{drop_label, drop_root, get_drop}
 
--- A walk from `start` has only met labels up to `at`, where the name's remaining labels are encoded. So the octets from `start` on are the uncompressed name exactly if those from `at` on are the uncompressed remaining labels.
+-- A walk from `start` has only met labels up to `at`, where the name's remaining labels are encoded. So the octets from
+-- `start` on are the uncompressed name exactly if those from `at` on are the uncompressed remaining labels.
 pub record Flat (b : List ℕ) (start at : ℕ) (whole : Labels) : Type 0 where
   pub rest : Labels
   pub encoded : NameAt b at rest

@@ -4,7 +4,8 @@ use Rattle.std.specs.Prelude.{All, not, if◌then◌else◌}
 use Rattle.std.proofs.lemmas.Bool.Decides.{nat_tests}
 use Rattle.std.proofs.lemmas.List.Elements.{All-head, All-tail}
 use Rattle.dns_name.specs.Names.{Labels}
-use Rattle.dns_name.specs.NameTexts.{dot, zero_digit, backslash, is_special, is_graphic, is_digit, is_plain, decimal_value, decimal_text, octet_text, label_text, name_text, dotted_text, SpellsOctet, SpellsLabel, SpellsLabels, PrintedNamesSpell, DottedNamesSpell}
+use Rattle.dns_name.specs.NameTexts.{dot, zero_digit, backslash, is_special, is_graphic, is_digit, is_plain, decimal_value, decimal_text, octet_text}
+use Rattle.dns_name.specs.NameTexts.{label_text, name_text, dotted_text, SpellsOctet, SpellsLabel, SpellsLabels, PrintedNamesSpell, DottedNamesSpell}
 
 special_graphic : (o : ℕ) → is_special o ≡ true → is_graphic o ≡ true
 special_graphic o h = grind (arith, nat_tests)

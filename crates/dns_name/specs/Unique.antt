@@ -122,7 +122,9 @@ LabelsTake-prop labels left count = hlevel props
 FrontOfSize-prop : (name : Labels) (left : ℕ) → IsProp (FrontOfSize name left)
 FrontOfSize-prop name left x y =
     let P : ℕ → Type 0 = λ count. (z : LabelsTake (with_root name) left count) → x ≡ (count, z) in
-    subst P (one_count (with_root name) left x.0 y.0 x.1 y.1) (λ z. ap (λ (w : LabelsTake (with_root name) left x.0). let front : FrontOfSize name left = (x.0, w) in front) (LabelsTake-prop (with_root name) left x.0 x.1 z)) y.1
+    subst P (one_count (with_root name) left x.0 y.0 x.1 y.1)
+    (λ z. ap (λ (w : LabelsTake (with_root name) left x.0). let front : FrontOfSize name left = (x.0, w) in front)
+    (LabelsTake-prop (with_root name) left x.0 x.1 z)) y.1
 
 pub LabelsAt-prop : (b : List ℕ) (p left : ℕ) → IsProp (LabelsAt b p left)
 LabelsAt-prop b p left x y =

@@ -20,9 +20,6 @@ impl CachedName {
     ghost use Rattle.dns_name.specs.CachedNames.{IsCached, LeadsBackTo};
     ghost use Rattle.dns_name.specs.Unique.{NameOfSizeAndCount};
 
-    /// Pointers lead to offsets below this one.
-    pub(crate) const POINTER_END: usize = 16_384;
-
     /// Caches no name.
     pub fn new() -> CachedName
         ensures { (b : List ℕ) → IsCached b result }

@@ -6,6 +6,7 @@ ghost use Rattle.dns_name.specs.ParsedName.{labels, BeginsAt, ParsesName, ReadsE
 ghost use Rattle.dns_name.specs.Parsers.{seen, offset};
 
 use crate::cached_name::CachedName;
+use crate::head::Head;
 use crate::parsed_name::ParsedName;
 use crate::parser::Parser;
 use dns_octets::ParseError;
@@ -43,7 +44,7 @@ pub fn parse_cached<'a>(
 pub fn cached_at(name: &ParsedName<'_>, pos: usize) -> CachedName
     ensures { (b : List ℕ) → NameAt b pos (labels name.now) → IsCached b result }
 {
-    if pos >= CachedName::POINTER_END {
+    if pos >= Head::POINTER_END {
         return CachedName::new();
     }
     CachedName {

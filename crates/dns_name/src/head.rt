@@ -2,9 +2,6 @@ ghost use Rattle.std.specs.Prelude.{◌≡◌, ℕ, ◌+◌, ◌<◌, ◌≤◌,
 
 use dns_octets::{FormError, ParseError};
 
-/// The maximum size of a name's labels in octets: 255 less the root's zero octet.
-pub(crate) const MAX_SIZE: usize = 254;
-
 /// What begins at an offset in a name (RFC 1035 section 4.1.4).
 #[derive(Clone, Copy, Debug, PartialEq, Eq)]
 pub enum Head {
@@ -30,6 +27,14 @@ pub(crate) struct LabelRow {
 impl Head {
     ghost use Rattle.dns_name.specs.Names.{head_at, max_size, Reads, BeginsOrFails};
     ghost use Rattle.dns_name.specs.CachedNames.{IsInReach, SkipsLabelsOrFails};
+
+    /// The maximum size of a name's labels in octets, each with its length octet: 255 less the
+    /// root's zero octet (RFC 1035 section 2.3.4).
+    pub const MAX_SIZE: usize = 254;
+
+    /// The first offset that no pointer leads to, since a pointer has 14 bits (RFC 1035 section
+    /// 4.1.4).
+    pub const POINTER_END: usize = 16_384;
 
     /// Returns what begins at offset `offset` in a name (RFC 1035 section 4.1.4).
     ///
@@ -99,7 +104,7 @@ impl Head {
         let head = Head::at(octets, offset)?;
         if let Head::Label(len) = head {
             let taken = usize::from(len) + 1;
-            if size + taken > MAX_SIZE {
+            if size + taken > Head::MAX_SIZE {
                 return Err(ParseError::Form(FormError::LONG_NAME));
             }
             if taken > octets.len() - offset {
@@ -118,10 +123,10 @@ impl Head {
         size: usize,
     ) -> Result<LabelRow, ParseError>
         requires within { start ≤ length octets.now }
-        requires short { size ≤ MAX_SIZE }
+        requires short { size ≤ max_size }
         ensures { SkipsLabelsOrFails octets.now start size result }
     {
-        let longest = start + (MAX_SIZE - size);
+        let longest = start + (Head::MAX_SIZE - size);
         let mut pos = start;
         let mut count = 0;
         'walk: loop {

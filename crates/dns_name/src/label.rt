@@ -19,6 +19,9 @@ impl<'a> Label<'a> {
     ghost use Rattle.dns_name.specs.NameOrders.{framed_order};
     ghost use Rattle.dns_name.specs.Unique.{EncodedName};
 
+    /// The maximum length of a label in octets (RFC 1035 section 2.3.4).
+    pub const MAX_LEN: usize = 63;
+
     pub(crate) fn new(octets: &'a [u8]) -> Self
         requires { length octets.now < 64 }
         ensures { label_octets result ≡ octets.now }

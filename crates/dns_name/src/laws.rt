@@ -1,8 +1,10 @@
 //! Theorems on names in octets and as texts, and on how the values of this crate compare and clone.
 //! The functions do nothing: each contract is a theorem over all octets and offsets, texts or
 //! values.
-ghost use Rattle.std.specs.Prelude.{◌≡◌, ◌↔◌, IsTrue};
-ghost use Rattle.dns_name.specs.Laws.{NameOrFault, NameOrFaultNotBoth, OneName, OneFault, EncodedNamesAreNames, EndOrSkipFault, EndOrSkipFaultNotBoth, OneEnd, EncodedNamesEnd, SkipFaultsAreFaults, SkippingEndsAlike, SkippingFailsAlike};
+ghost use Rattle.std.specs.Prelude.{◌≡◌, ◌≤◌, ◌↔◌, ℕ, List, length, IsTrue};
+ghost use Rattle.dns_name.specs.Names.{IsLabel, max_size, pointer_end};
+ghost use Rattle.dns_name.specs.Laws.{NameOrFault, NameOrFaultNotBoth, OneName, OneFault, EncodedNamesAreNames};
+ghost use Rattle.dns_name.specs.Laws.{EndOrSkipFault, EndOrSkipFaultNotBoth, OneEnd, EncodedNamesEnd, SkipFaultsAreFaults, SkippingEndsAlike, SkippingFailsAlike};
 ghost use Rattle.dns_name.specs.Laws.{NameOrderIsTotal, ComposedOrderIsTotal, NameOrderAgrees, ComposedOrderAgrees, EqualNamesHashAlike};
 ghost use Rattle.dns_name.specs.NameTexts.{DottedNamesSpell, OneTextFault, OneTextName, PrintedNamesSpell, TextNameOrFault, TextNameOrFaultNotBoth};
 
@@ -23,6 +25,15 @@ pub fn one_name_or_fault()
     ensures not_both { NameOrFaultNotBoth }
     ensures one_name { OneName }
     ensures one_fault { OneFault }
+{}
+
+/// The constants are the limits that the definitions of labels, names and pointers have (RFC 1035
+/// sections 2.3.4 and 4.1.4).
+pub fn name_limits()
+    ensures label { (label : List ℕ) → 1 ≤ length label
+        → IsLabel label ↔ (length label ≤ Label.MAX_LEN) }
+    ensures size { Head.MAX_SIZE ≡ max_size }
+    ensures pointer { Head.POINTER_END ≡ pointer_end }
 {}
 
 /// An encoded name has labels of 1 to 63 octets, and at most 255 octets in all.

@@ -23,6 +23,9 @@ pub struct Name<Octs: Octets> {
 impl Name<&'static [u8]> {
     ghost use Rattle.dns_name.specs.NameReading.{name_labels};
 
+    /// The maximum length of a name in octets, with the root's zero octet (RFC 1035 section 2.3.4).
+    pub const MAX_LEN: usize = Head::MAX_SIZE + 1;
+
     /// Returns the root name.
     pub fn root_slice() -> Self
         ensures { name_labels result ≡ [] }

@@ -5,6 +5,7 @@ ghost use Rattle.dns_name.specs.Names.{max_size};
 ghost use Rattle.dns_name.specs.NameReading.{AreOctets, LabelFirst, ReadsName, ReadsOctet, SpellsSomeName, StepsLabel};
 
 use crate::flatten::append_label;
+use crate::head::Head;
 use crate::label::Label;
 use crate::name::Name;
 use crate::name_error::{FromStrError, PresentationError};
@@ -12,13 +13,6 @@ use arrayvec::ArrayVec;
 use dns_octets::OctetsFrom;
 use std::alloc::Global;
 use std::str::FromStr;
-
-/// The maximum length of a label in octets.
-const MAX_LABEL: usize = 63;
-
-/// The maximum size of a name's labels in octets, each with its length octet: 255 less the root's
-/// zero octet.
-const MAX_SIZE: usize = 254;
 
 /// Reads an escape of three digits, after the backslash and its first digit `hundreds`.
 fn read_decimal(hundreds: u8, text: &[u8]) -> Result<(u8, &[u8]), PresentationError>
@@ -77,7 +71,7 @@ fn next_octet(
     len: usize,
     size: usize,
 ) -> Result<Option<(u8, &[u8])>, PresentationError>
-    requires short { len ≤ MAX_LABEL }
+    requires short { len ≤ Label.MAX_LEN }
     requires short_enough { size ≤ max_size }
     ensures { StepsLabel text.now len size result }
 {
@@ -92,10 +86,10 @@ fn next_octet(
         };
     }
     let (octet, rest) = read_octet(*first, after)?;
-    if len == MAX_LABEL {
+    if len == Label::MAX_LEN {
         return Err(PresentationError::LongLabel);
     }
-    if size + len + 2 > MAX_SIZE {
+    if size + len + 2 > Head::MAX_SIZE {
         return Err(PresentationError::LongName);
     }
     Ok(Some((octet, rest)))

@@ -3,7 +3,7 @@ ghost use Rattle.dns_name.specs.Unique.{NameOfSizeAndCount, NameOfSizeAndCount-p
 
 use crate::cached_name::CachedName;
 use crate::cached_reading::parse_cached;
-use crate::head::{Head, MAX_SIZE};
+use crate::head::Head;
 use crate::label_iter::LabelIter;
 use crate::parser::Parser;
 use dns_octets::{FormError, ParseError};
@@ -32,7 +32,7 @@ pub(crate) struct NameExtent {
 }
 
 impl<'a> ParsedName<'a> {
-    ghost use Rattle.dns_name.specs.Names.{Labels, uncompressed, with_root, NameAt};
+    ghost use Rattle.dns_name.specs.Names.{Labels, max_size, uncompressed, with_root, NameAt};
     ghost use Rattle.dns_name.specs.Parsers.{seen, offset};
     ghost use Rattle.dns_name.specs.CachedNames.{IsCached, ArrivesOrFails, MeasuresOrFails};
     ghost use Rattle.dns_name.specs.ParsedName.{labels, BeginsAt, ParsesName, SkipsName, ReadsEncoded, IsFlat, labels_left};
@@ -88,7 +88,7 @@ impl<'a> ParsedName<'a> {
             return Err(ParseError::Form(FormError::BAD_POINTER));
         }
         let known = before + usize::from(cached.size);
-        if target == cached.pos && known <= MAX_SIZE {
+        if target == cached.pos && known <= Head::MAX_SIZE {
             return Ok(NameExtent {
                 end: row.end + 2,
                 size: known,
@@ -109,7 +109,7 @@ impl<'a> ParsedName<'a> {
     #[inline(always)]
     fn size_at(octets: &[u8], start: u16, before: usize) -> Result<(usize, usize), ParseError>
         requires within { start ≤ length octets.now }
-        requires short { before ≤ MAX_SIZE }
+        requires short { before ≤ max_size }
         ensures { MeasuresOrFails octets.now start before result }
     {
         let mut pos = usize::from(start);

@@ -24,7 +24,11 @@ pub record Knows (m : CompressionTable) (names : List Labels) : Type 0 where
 
 -- A suffix of a suffix is a suffix.
 pub suffix_suffix : {s t name : Labels} → IsSuffix s t → IsSuffix t name → IsSuffix s name
-suffix_suffix {s = s} {t = t} {name = name} a b = record { first = b.first ++ a.first; whole = b.whole ∙ ap (λ (u : Labels). b.first ++ u) a.whole ∙ sym (append_assoc b.first a.first s); some = a.some }
+suffix_suffix {s = s} {t = t} {name = name} a b = record {
+  first = b.first ++ a.first;
+  whole = b.whole ∙ ap (λ (u : Labels). b.first ++ u) a.whole ∙ sym (append_assoc b.first a.first s);
+  some = a.some;
+}
 
 -- A suffix of a shared suffix is shared.
 pub shared_suffix : (names : List Labels) (s t : Labels) → IsSuffix s t → IsShared names t → IsShared names s
@@ -39,7 +43,7 @@ shared_some (name ∷ names) s (inl h) = h.some
 shared_some (name ∷ names) s (inr h) = shared_some names s h
 
 -- Each suffix before the one in the table can enter the table.
-abbrev pub AllKept : {rule : Rule} {m : CompressionTable} {p entry_count : ℕ} {name : Labels} {text : List ℕ} {ss : List Suffix} → CompressesAs rule m p entry_count name text ss → Type 0
+abbrev pub AllKept : {rule : Rule} {m : CompressionTable} {p entry_count : ℕ} {name : Labels} {encoding : List ℕ} {ss : List Suffix} → CompressesAs rule m p entry_count name encoding ss → Type 0
 AllKept at_root = Unit {0}
 AllKept (at_entry e) = Unit {0}
 AllKept (at_kept e k s) = AllKept s
@@ -49,7 +53,8 @@ AllKept (at_far e k) = ⊥
 abbrev pub Best : List Labels → Labels → ℕ → Type 0
 Best names name n =
     ((n ≡ name_size name + 1) × ((first rest : Labels) → name ≡ first ++ rest → IsShared names rest → ⊥))
-    ⊎ ((first : Labels) × (rest : Labels) × (name ≡ first ++ rest) × IsShared names rest × (n ≡ name_size first + 2) × ((f r : Labels) → name ≡ f ++ r → IsShared names r → name_size first ≤ name_size f))
+    ⊎ ((first : Labels) × (rest : Labels) × (name ≡ first ++ rest) × IsShared names rest × (n ≡ name_size first + 2)
+    × ((f r : Labels) → name ≡ f ++ r → IsShared names r → name_size first ≤ name_size f))
 
 -- The root takes one octet.
 best_root : (names : List Labels) → Best names [] 1
@@ -80,13 +85,14 @@ best_label names label others n without (inr a) =
     )
 
 -- A name is written as short as possible.
-pub best : {rule : Rule} {m : CompressionTable} {p entry_count : ℕ} {name : Labels} {text : List ℕ} {ss : List Suffix} (names : List Labels) → Knows m names → (s : CompressesAs rule m p entry_count name text ss) → AllKept s → Best names name (length text)
+pub best : {rule : Rule} {m : CompressionTable} {p entry_count : ℕ} {name : Labels} {encoding : List ℕ} {ss : List Suffix} (names : List Labels)
+    → Knows m names → (s : CompressesAs rule m p entry_count name encoding ss) → AllKept s → Best names name (length encoding)
 best names knows at_root k = best_root names
 best names knows (at_entry {first = first} {rest = rest} {x = x} e) k = inr ([], first ∷ rest, refl, knows.only (first ∷ rest) x e, refl, λ f r e s. omega arith)
-best names knows (at_kept {first = first} {rest = rest} {text = text} e is s) k =
+best names knows (at_kept {first = first} {rest = rest} {encoding = encoding} e is s) k =
     let without : IsShared names (first ∷ rest) → ⊥ = λ s. let h = knows.has (first ∷ rest) s in let c : None ≡ Some h.0 = sym e ∙ h.1 in cc in
-    let size : 1 + length first + length text ≡ suc (length (first ++ text)) = let l = length-append first text in omega arith in
-    subst (λ n. Best names (first ∷ rest) n) size (best_label names first rest (length text) without (best names knows s k))
+    let size : 1 + length first + length encoding ≡ suc (length (first ++ encoding)) = let l = length-append first encoding in omega arith in
+    subst (λ n. Best names (first ∷ rest) n) size (best_label names first rest (length encoding) without (best names knows s k))
 best names knows (at_far e is) k = absurd k
 
 -- A name is a suffix of itself.
@@ -103,7 +109,8 @@ each_others label others [] h = tt
 each_others label others (s ∷ ss) h = (suffix_others s.labels label others h.0, each_others label others ss h.1)
 
 -- The suffixes that are written out are suffixes of the name.
-compress_suffixes : {rule : Rule} {m : CompressionTable} {p entry_count : ℕ} {name : Labels} {text : List ℕ} {ss : List Suffix} → CompressesAs rule m p entry_count name text ss → Each (λ s. IsSuffix s.labels name) ss
+compress_suffixes : {rule : Rule} {m : CompressionTable} {p entry_count : ℕ} {name : Labels} {encoding : List ℕ} {ss : List Suffix}
+    → CompressesAs rule m p entry_count name encoding ss → Each (λ s. IsSuffix s.labels name) ss
 compress_suffixes at_root = tt
 compress_suffixes (at_entry e) = tt
 compress_suffixes (at_kept {first = first} {rest = rest} {ss = ss} e k s) = (suffix_whole first rest, each_others first rest ss (compress_suffixes s))
@@ -124,7 +131,8 @@ no_suffix : (s : Labels) → IsSuffix s [] → ⊥
 no_suffix s h = let some = h.some in let l : 0 ≡ length h.first + length s = ap length h.whole ∙ length-append h.first s in omega arith
 
 -- Each suffix of the name was shared, or is written out.
-listed : {rule : Rule} {m : CompressionTable} {p entry_count : ℕ} {name : Labels} {text : List ℕ} {ss : List Suffix} (names : List Labels) (t : Labels) → Knows m names → (s : CompressesAs rule m p entry_count name text ss) → AllKept s → IsSuffix t name → IsShared names t ⊎ Listed t ss
+listed : {rule : Rule} {m : CompressionTable} {p entry_count : ℕ} {name : Labels} {encoding : List ℕ} {ss : List Suffix} (names : List Labels)
+    (t : Labels) → Knows m names → (s : CompressesAs rule m p entry_count name encoding ss) → AllKept s → IsSuffix t name → IsShared names t ⊎ Listed t ss
 listed names t knows at_root k h = absurd (no_suffix t h)
 listed names t knows (at_entry {first = first} {rest = rest} {x = x} e) k h = inl (shared_suffix names t (first ∷ rest) h (knows.only (first ∷ rest) x e))
 listed names t knows (at_kept {first = first} {rest = rest} e is s) k h =
@@ -207,27 +215,31 @@ pub hash_keeps_in_range : KeepsInPointerRange Hash
 hash_keeps_in_range = record { keeps = λ p entry_count h few. refl; chosen = λ ss h. ap (λ (b : Bool). cond b ss []) h }
 
 -- If every written label is within pointer range, each suffix before the one in the table can enter the table.
-pub in_range_kept : {rule : Rule} {m : CompressionTable} {p entry_count : ℕ} {name : Labels} {text : List ℕ} {ss : List Suffix} (r : KeepsInPointerRange rule) (b : List ℕ) (q : ℕ) (s : CompressesAs rule m p entry_count name text ss) → IsName name → LabelsInPointerRange b q p → At b p text → SharesAll rule (entry_count + length ss) → AllKept s
+pub in_range_kept : {rule : Rule} {m : CompressionTable} {p entry_count : ℕ} {name : Labels} {encoding : List ℕ} {ss : List Suffix}
+    (r : KeepsInPointerRange rule) (b : List ℕ) (q : ℕ) (s : CompressesAs rule m p entry_count name encoding ss) → IsName name
+    → LabelsInPointerRange b q p → At b p encoding → SharesAll rule (entry_count + length ss) → AllKept s
 in_range_kept r b q at_root is in_range h few = tt
 in_range_kept r b q (at_entry e) is in_range h few = tt
-in_range_kept {rule = rule} r b q (at_kept {entry_count = entry_count} {first = first} {rest = rest} {text = text} {ss = ss} e k s) is in_range h few =
+in_range_kept {rule = rule} r b q (at_kept {entry_count = entry_count} {first = first} {rest = rest} {encoding = encoding} {ss = ss} e k s) is in_range h few =
     let tail = name_tail first rest is in
-    let a = in_range_label in_range (label_begins tail.0 (label_part first text h)) in
-    in_range_kept r b q s tail.1 a.1 (after_label first text h) (few_less rule (entry_count + 1 + length ss) (entry_count + suc (length ss)) (omega arith) few)
+    let a = in_range_label in_range (label_begins tail.0 (label_part first encoding h)) in
+    in_range_kept r b q s tail.1 a.1 (after_label first encoding h) (few_less rule (entry_count + 1 + length ss) (entry_count + suc (length ss)) (omega arith) few)
 in_range_kept {rule = rule} r b q (at_far {p = p} {entry_count = entry_count} {first = first} {rest = rest} e k) is in_range h few =
     let a = in_range_label in_range (label_begins (name_tail first rest is).0 (label_part first (uncompressed rest) h)) in
     let t : true ≡ false = sym (r.keeps p entry_count a.0 (few_less rule entry_count (entry_count + 0) (omega arith) few)) ∙ k in
     absurd (cc)
 
 -- If every written label is within pointer range, so is each suffix that is written out.
-pub in_range_suffixes : {rule : Rule} {m : CompressionTable} {p entry_count : ℕ} {name : Labels} {text : List ℕ} {ss : List Suffix} (b : List ℕ) (q : ℕ) → CompressesAs rule m p entry_count name text ss → IsName name → LabelsInPointerRange b q p → At b p text → list_all (λ s. nat_lt s.offset 16384) ss ≡ true
+pub in_range_suffixes : {rule : Rule} {m : CompressionTable} {p entry_count : ℕ} {name : Labels} {encoding : List ℕ} {ss : List Suffix}
+    (b : List ℕ) (q : ℕ) → CompressesAs rule m p entry_count name encoding ss → IsName name → LabelsInPointerRange b q p → At b p encoding
+    → list_all (λ s. nat_lt s.offset 16384) ss ≡ true
 in_range_suffixes b q at_root is in_range h = refl
 in_range_suffixes b q (at_entry e) is in_range h = refl
-in_range_suffixes b q (at_kept {p = p} {first = first} {rest = rest} {text = text} e k s) is in_range h =
+in_range_suffixes b q (at_kept {p = p} {first = first} {rest = rest} {encoding = encoding} e k s) is in_range h =
     let tail = name_tail first rest is in
-    let a = in_range_label in_range (label_begins tail.0 (label_part first text h)) in
+    let a = in_range_label in_range (label_begins tail.0 (label_part first encoding h)) in
     let small : nat_lt p 16384 ≡ true = let k = a.0 in grind (arith, common_steps) in
-    let after = in_range_suffixes b q s tail.1 a.1 (after_label first text h) in
+    let after = in_range_suffixes b q s tail.1 a.1 (after_label first encoding h) in
     rw (small, after) refl
 in_range_suffixes b q (at_far e k) is in_range h = refl
 
@@ -260,7 +272,8 @@ len_new : (r : CompressionTable) (k : Labels) (v : TableEntry) → get r k ≡ N
 len_new r k v e = len-insert suffix_total r k v ∙ ap (λ (o : Option TableEntry). cond (is_some o) (len r) (len r + 1)) e
 
 -- Each suffix that is written out adds one entry.
-pub len_compress : {rule : Rule} {m : CompressionTable} {p entry_count : ℕ} {name : Labels} {text : List ℕ} {ss : List Suffix} (q : ℕ) → CompressesAs rule m p entry_count name text ss → len (add_suffixes m ss q) ≡ len m + length ss
+pub len_compress : {rule : Rule} {m : CompressionTable} {p entry_count : ℕ} {name : Labels} {encoding : List ℕ} {ss : List Suffix} (q : ℕ)
+    → CompressesAs rule m p entry_count name encoding ss → len (add_suffixes m ss q) ≡ len m + length ss
 len_compress q at_root = omega arith
 len_compress q (at_entry e) = omega arith
 len_compress {m = m} q (at_kept {p = p} {first = first} {rest = rest} {ss = ss} e k s) =

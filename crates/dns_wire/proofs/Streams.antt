@@ -28,7 +28,8 @@ shortened t u v xs (a ∷ b ∷ c ∷ bytes) n two e f is = absurd (omega arith)
 pub kept_whole : (xs : List ℕ) (n : ℕ) → length xs ≤ n → plain xs ≡ cut_to n (plain xs)
 kept_whole xs n l = same_written _ _ (grind (arith, common_steps)) (sym (cut_nothing n))
 
-exceeds : (capacity : Option ℕ) (t : Written) (xs : List ℕ) → 2 ≤ length t.octets → Fits capacity (length t.octets) → Exceeds capacity (length (t.octets ++ xs)) → Exceeds (stream_capacity capacity) (length (drop 2 t.octets ++ xs))
+exceeds : (capacity : Option ℕ) (t : Written) (xs : List ℕ) → 2 ≤ length t.octets → Fits capacity (length t.octets)
+    → Exceeds capacity (length (t.octets ++ xs)) → Exceeds (stream_capacity capacity) (length (drop 2 t.octets ++ xs))
 exceeds None t xs l f h = absurd h
 exceeds (Some capacity) t xs l f h =
     let a = length-append t.octets xs in
@@ -37,7 +38,8 @@ exceeds (Some capacity) t xs l f h =
     omega arith
 
 -- A message within the capacity of the wrapped target and within the length is within the message's capacity.
-fits_stream : (capacity : Option ℕ) (t : Written) (xs : List ℕ) → 2 ≤ length t.octets → length (drop 2 t.octets ++ xs) ≤ 65535 → Fits capacity (length (t.octets ++ xs)) → Fits (stream_capacity capacity) (length (drop 2 t.octets ++ xs))
+fits_stream : (capacity : Option ℕ) (t : Written) (xs : List ℕ) → 2 ≤ length t.octets → length (drop 2 t.octets ++ xs) ≤ 65535
+    → Fits capacity (length (t.octets ++ xs)) → Fits (stream_capacity capacity) (length (drop 2 t.octets ++ xs))
 fits_stream None t xs l few f = few
 fits_stream (Some capacity) t xs l few f =
     let a = length-append t.octets xs in
@@ -51,16 +53,20 @@ answers capacity grows t xs ShortBuf l f few h = exceeds capacity t xs l f h
 answers capacity grows t xs OutOfMemory l f few h = (fits_stream capacity t xs l few h.0, h.1)
 
 refuses : (capacity : Option ℕ) (grows : Bool) (xs : List ℕ) (t u : Written) (e : AppendError) → 2 ≤ length t.octets → Fits capacity (length t.octets) → length (drop 2 t.octets ++ xs) ≤ 65535
-    → Appends capacity grows (encode_octets xs) t u {X = Unit {0}} (Err e) → Appends (stream_capacity capacity) grows (encode_octets xs) (plain (drop 2 t.octets)) (plain (drop 2 u.octets)) {X = Unit {0}} (Err e)
+    → Appends capacity grows (encode_octets xs) t u {X = Unit {0}} (Err e)
+    → Appends (stream_capacity capacity) grows (encode_octets xs) (plain (drop 2 t.octets)) (plain (drop 2 u.octets)) {X = Unit {0}} (Err e)
 refuses capacity grows xs t u e l f few h = record { ok = tt; err = ap (λ (w : Written). plain (drop 2 w.octets)) h.err; outcome = answers capacity grows t xs e l f few h.outcome }
 
 -- An error in appending to the wrapped target is one in appending to the message.
-pub refused : (capacity : Option ℕ) (grows : Bool) (xs : List ℕ) (t u : Written) (v : List ℕ) (r : Result (Unit {0}) AppendError) (e : AppendError) → 2 ≤ length t.octets → Fits capacity (length t.octets) → drop 2 t.octets ≡ v → length v + length xs ≤ 65535 → r ≡ Err e
+pub refused : (capacity : Option ℕ) (grows : Bool) (xs : List ℕ) (t u : Written) (v : List ℕ) (r : Result (Unit {0}) AppendError)
+    (e : AppendError) → 2 ≤ length t.octets → Fits capacity (length t.octets) → drop 2 t.octets ≡ v → length v + length xs ≤ 65535 → r ≡ Err e
     → Appends capacity grows (encode_octets xs) t u {X = Unit {0}} (Err e) → Appends (stream_capacity capacity) grows (encode_octets xs) (plain v) (plain (drop 2 u.octets)) r
 refused capacity grows xs t u v r e l f is few out h =
     rw (out, ← is) (refuses capacity grows xs t u e l f (rw (length-append, is) few) h)
 
-written_two_on : (ys bytes : List ℕ) (offset : ℕ) → 2 ≤ length ys → drop 2 (take (offset + 2) ys ++ bytes ++ drop (offset + 2 + length bytes) ys) ≡ take offset (drop 2 ys) ++ bytes ++ drop (offset + length bytes) (drop 2 ys)
+written_two_on : (ys bytes : List ℕ) (offset : ℕ) → 2 ≤ length ys
+    → drop 2 (take (offset + 2) ys ++ bytes ++ drop (offset + 2 + length bytes) ys) ≡ take offset (drop 2 ys) ++ bytes ++ drop
+    (offset + length bytes) (drop 2 ys)
 written_two_on [] bytes offset l = absurd (omega arith)
 written_two_on (a ∷ []) bytes offset l = absurd (omega arith)
 written_two_on (a ∷ b ∷ ys) bytes offset l =
@@ -69,11 +75,13 @@ written_two_on (a ∷ b ∷ ys) bytes offset l =
     rw (f, e) refl
 
 -- Overwriting the wrapped target two octets further on overwrites the message at the offset.
-pub over : (t u : Written) (xs bytes : List ℕ) (offset : ℕ) → 2 ≤ length t.octets → u ≡ overwrite (offset + 2) bytes t → drop 2 t.octets ≡ xs → plain (drop 2 u.octets) ≡ overwrite offset bytes (plain xs)
+pub over : (t u : Written) (xs bytes : List ℕ) (offset : ℕ) → 2 ≤ length t.octets → u ≡ overwrite (offset + 2) bytes t
+    → drop 2 t.octets ≡ xs → plain (drop 2 u.octets) ≡ overwrite offset bytes (plain xs)
 over t u xs bytes offset l e is =
     same_written _ _ (ap (λ (w : Written). drop 2 w.octets) e ∙ written_two_on t.octets bytes offset l ∙ ap (λ (ys : List ℕ). take offset ys ++ bytes ++ drop (offset + length bytes) ys) is) refl
 
 -- If the wrapped target is within its capacity, the message is within its own.
-pub fits : (capacity : Option ℕ) (t : Written) (xs : List ℕ) → 2 ≤ length t.octets → length t.octets ≤ 65537 → Fits capacity (length t.octets) → drop 2 t.octets ≡ xs → Fits (stream_capacity capacity) (length xs)
+pub fits : (capacity : Option ℕ) (t : Written) (xs : List ℕ) → 2 ≤ length t.octets → length t.octets ≤ 65537
+    → Fits capacity (length t.octets) → drop 2 t.octets ≡ xs → Fits (stream_capacity capacity) (length xs)
 fits None t xs l k f is = let c = message_length t xs l is in omega arith
 fits (Some capacity) t xs l k f is = let c = message_length t xs l is in omega arith

@@ -62,7 +62,8 @@ pub record EncodesByChoice (rule : Rule) (m : CompressionTable) (w : ℕ) (name 
 abbrev pub NamesByChoice : Type 0
 NamesByChoice = (rule : Rule) → compresses rule ≡ true → (m : CompressionTable) (w : ℕ) (name : Labels) → EncodesByChoice rule m w name (encode_name rule name m w)
 
--- A suffix at this offset is kept out of the table, which has `entry_count` entries: a pointer can't hold the offset, or the static rule's table is full. Plain keeps all out; hash decides once the whole name is written.
+-- A suffix at this offset is kept out of the table, which has `entry_count` entries: a pointer can't hold the offset, or
+-- the static rule's table is full. Plain keeps all out; hash decides once the whole name is written.
 abbrev pub IsKeptOut : Rule → ℕ → ℕ → Type 0
 IsKeptOut Plain offset entry_count = ⊤
 IsKeptOut Static offset entry_count = (16384 ≤ offset) ⊎ (24 ≤ entry_count)

@@ -17,7 +17,9 @@ abbrev pub IsShared : List Labels → Labels → Type 0
 IsShared [] suffix = ⊥
 IsShared (name ∷ names) suffix = IsSuffix suffix name ⊎ IsShared names suffix
 
--- One way to write the parts after the `earlier` names (newest first), and its length in octets. Octets are written as they are, and so is a name that is never compressed: no later name shares its suffixes. A name that may be compressed is written whole, as its labels and the zero octet, or as k ≥ 0 labels and a 2-octet pointer to a suffix of an earlier such name.
+-- One way to write the parts after the `earlier` names (newest first), and its length in octets. Octets are written as they are, and
+-- so is a name that is never compressed: no later name shares its suffixes. A name that may be compressed is written whole, as its
+-- labels and the zero octet, or as k ≥ 0 labels and a 2-octet pointer to a suffix of an earlier such name.
 pub data Compression : List Labels → List Part → ℕ → Type 0 where
   none : {earlier : List Labels} → Compression earlier [] 0
   octets : {earlier : List Labels} {xs : List ℕ} {parts : List Part} {n : ℕ} → Compression earlier parts n

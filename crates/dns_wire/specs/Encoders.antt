@@ -9,7 +9,8 @@ use Rattle.std.specs.Int.{to_be_bytes, w16}
 use Rattle.std.specs.List.{list_all}
 use Rattle.dns_name.specs.Names.{Labels, framed, uncompressed, pointer_end}
 
--- The compression table of a target: suffixes of names that were written, each with its offset. RFC 1035 section 4.1.4. Below, `m` is a table and `w` the length of the octets so far, which is the offset of the next one.
+-- The compression table of a target: suffixes of names that were written, each with its offset. RFC 1035 section 4.1.4.
+-- Below, `m` is a table and `w` the length of the octets so far, which is the offset of the next one.
 
 -- The order of the table's keys. Suffixes are looked up octet for octet, so suffixes that differ in case are different keys.
 abbrev pub suffix_cmp : Labels → Labels → Ordering

@@ -4,7 +4,8 @@ use Rattle.dns_name.specs.Names.{Labels, IsName, uncompressed, NameAt, NameEndsA
 use Rattle.dns_name.specs.declared.head.Head.TheVariants.{Root, Label, Pointer}
 use Rattle.dns_wire.specs.Encoders.{Rule, Encoder, encode_octets, both, encode_name}
 
--- A part of RDATA: octets, a name that may be compressed, or a name that is never compressed (RFC 3597 section 4). The flag of the last says whether its canonical form is lowercased (RFC 4034 section 6.2).
+-- A part of RDATA: octets, a name that may be compressed, or a name that is never compressed (RFC 3597 section 4).
+-- The flag of the last says whether its canonical form is lowercased (RFC 4034 section 6.2).
 pub data Part : Type 0 where
   Octets : List ℕ → Part
   CompressibleName : Labels → Part

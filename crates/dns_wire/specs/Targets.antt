@@ -103,4 +103,5 @@ table_entry_code = code_by (ℕ × ℕ) (coded× coded_ℕ coded_ℕ) (λ s. (s.
 
 -- The code of a target: its octets and its table.
 abbrev pub written_code : Coded Written
-written_code = code_by (List ℕ × CompressionTable) (coded× (coded_list coded_ℕ) (code (coded_list (coded_list coded_ℕ)) table_entry_code)) (λ w. (w.octets, w.table)) (λ p. record { octets = p.0; table = p.1 }) (λ _. refl)
+written_code = code_by (List ℕ × CompressionTable) (coded× (coded_list coded_ℕ) (code (coded_list (coded_list coded_ℕ)) table_entry_code))
+    (λ w. (w.octets, w.table)) (λ p. record { octets = p.0; table = p.1 }) (λ _. refl)

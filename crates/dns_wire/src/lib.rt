@@ -21,5 +21,5 @@ pub use dns_octets::{
     AppendError, BufferFrom, FormError, Octets, OctetsFrom, OctetsMut, ParseError, ShortBuf,
     laws as error_laws, value_laws,
 };
-pub use stream_target::StreamTarget;
+pub use stream_target::{MAX_OCTETS, StreamTarget};
 pub use to_name::ToNameExt;

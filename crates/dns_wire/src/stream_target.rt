@@ -14,8 +14,10 @@ use std::marker::Model;
 /// The octets of the length before a message.
 const PREFIX_LEN: usize = 2;
 
-/// The maximum length of a message, which two octets can represent.
-const MOST_OCTETS: usize = 65_535;
+/// The maximum length in octets of a message over a stream, of RDATA and of an option's data: the
+/// largest number that two octets represent (RFC 1035 sections 3.2.1 and 4.2.2; RFC 6891 section
+/// 6.1.2).
+pub const MAX_OCTETS: usize = 65_535;
 
 /// A target that stores the length of its message as two octets before the message (RFC 1035
 /// section 4.2.2).
@@ -131,7 +133,7 @@ impl<T: Composer> Composer for StreamTarget<T> {
 
     fn append_slice(&mut self, octets: &[u8]) -> Result<(), AppendError> {
         let len = self.target.as_slice().len() - PREFIX_LEN;
-        if octets.len() > MOST_OCTETS - len {
+        if octets.len() > MAX_OCTETS - len {
             return Err(AppendError::ShortBuf);
         }
         self.target.append_slice(octets)?;

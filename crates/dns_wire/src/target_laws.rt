@@ -1,11 +1,15 @@
 //! Theorems on targets and what is written to them. The functions do nothing: each contract is a
 //! theorem over all contents, names and parts.
+ghost use Rattle.std.specs.Prelude.{◌≡◌};
 ghost use Rattle.dns_wire.specs.Choice.{NamesByChoice, MayEnterUnlessKeptOut, HashAddsAllOrNone};
 ghost use Rattle.dns_wire.specs.Compression.{PartsAreShortest, PartsPointToLabels, ShortPartsAreInPointerRange};
 ghost use Rattle.dns_wire.specs.TargetLaws.{NamesAreWhereAgreed, NamesStayWithMore, NamesAreWithinAll, NamesOfWithin, NamesStayWhenOverwritten};
 ghost use Rattle.dns_wire.specs.TargetLaws.{EntriesAreNames, NamesAreAtOrAfter, NothingIsTarget, NameKeeps, OctetsKeep, CutKeeps, OverwriteKeeps};
 ghost use Rattle.dns_wire.specs.TargetLaws.{CutUndoes, NamesGrow, OctetsGrow, PartsGrow, BothGrow, EncodersStayAtOrAfter, NamesStayAtOrAfter};
 ghost use Rattle.dns_wire.specs.TargetLaws.{NamesReadBack, PartsReadBack, NamesAreShort, AppendsCompose, ComposesBoth, ComposesFirst};
+ghost use Rattle.dns_wire.specs.Stream.{most_octets};
+
+use crate::stream_target::MAX_OCTETS;
 
 /// A name encoded in a content is encoded in every longer one, and in one with octets overwritten
 /// that the name doesn't use.
@@ -77,4 +81,9 @@ pub fn parts_point_to_labels()
 pub fn parts_are_shortest()
     ensures shortest { PartsAreShortest }
     ensures in_range { ShortPartsAreInPointerRange }
+{}
+
+/// The constant is the maximum length that the definition of a message over a stream has.
+pub fn stream_length()
+    ensures { MAX_OCTETS ≡ most_octets }
 {}

@@ -33,7 +33,9 @@ module _ (b : List ℕ) where
 
   -- How a fault arises at a label: the name is too long, the label runs past the end, or the fault is after it.
   abbrev AtLabel : ℕ → ℕ → ℕ → Fault → Type 0
-  AtLabel p s n f = ((max_size < s + n + 1) × (f ≡ Form LONG_NAME)) ⊎ (((s + n + 1 ≤ max_size) × (length b < p + 1 + n) × (f ≡ ShortInput)) ⊎ ((s + n + 1 ≤ max_size) × (p + 1 + n ≤ length b) × Faulty b (p + 1 + n) (s + n + 1) f))
+  AtLabel p s n f = ((max_size < s + n + 1) × (f ≡ Form LONG_NAME))
+      ⊎ (((s + n + 1 ≤ max_size) × (length b < p + 1 + n) × (f ≡ ShortInput))
+      ⊎ ((s + n + 1 ≤ max_size) × (p + 1 + n ≤ length b) × Faulty b (p + 1 + n) (s + n + 1) f))
 
   fault_label : {p s n : ℕ} {f : Fault} → Faulty b p s f → head_at b p ≡ Ok (Label n) → AtLabel p s n f
   fault_label (head h) e = cc

@@ -1,11 +1,13 @@
 -- A text has at most one leftmost fault, and none if it represents a name.
-use Rattle.std.proofs.Common.{◌≡◌, ◌∙◌, ℕ, zero, suc, ◌+◌, ◌<◌, ◌≤◌, true, false, nat_eq, nat_lt, List, [], ◌∷◌, ◌++◌, length, ap, sym, subst, refl, arith, inl, inr, append_assoc, append-nil, length-append, ◌⊎◌, Bool}
+use Rattle.std.proofs.Common.{◌≡◌, ◌∙◌, ℕ, zero, suc, ◌+◌, ◌<◌, ◌≤◌, true, false, nat_eq, nat_lt, List, [], ◌∷◌, ◌++◌, length}
+use Rattle.std.proofs.Common.{ap, sym, subst, refl, arith, inl, inr, append_assoc, append-nil, length-append, ◌⊎◌, Bool}
 use Rattle.std.specs.Prelude.{All, Option, Some, None, if◌then◌else◌}
 use Rattle.std.proofs.lemmas.Bool.Decides.{nat_tests}
 use Rattle.std.proofs.lemmas.List.Elements.{All-head, All-tail}
 use Rattle.std.proofs.lemmas.Bool.{cases_lt}
 use Rattle.dns_name.specs.Names.{Labels, IsLabel, name_size, max_size}
-use Rattle.dns_name.specs.NameTexts.{dot, backslash, SpellsFirst, SpellsLabel, SpellsLabels, NameTextFaulty, OneTextFault, TextNameOrFaultNotBoth, OneTextName, SpellsOctet, SpellsName, NameTextFault, TextNameOrFault}
+use Rattle.dns_name.specs.NameTexts.{dot, backslash, SpellsFirst, SpellsLabel, SpellsLabels, NameTextFaulty, NameTextFault}
+use Rattle.dns_name.specs.NameTexts.{OneTextFault, TextNameOrFault, TextNameOrFaultNotBoth, OneTextName, SpellsOctet, SpellsName}
 use Rattle.dns_name.specs.declared.name_error.PresentationError.{PresentationError}
 use Rattle.dns_name.specs.declared.name_error.PresentationError.TheVariants.{EmptyLabel, BadSymbol, BadEscape, LongLabel, LongName}
 use Rattle.dns_name.proofs.OctetTexts.{octet_read, first_is, first_shorter, octet_long, none_read, symbol_read, octet_view, none_spelled, symbol_of}

@@ -1,6 +1,7 @@
 -- At each offset: one name or one fault, and one end of an encoding or one skip fault.
 use Rattle.std.proofs.Common.{arith, inl, inr, refl, Ok, Err}
-use Rattle.dns_name.specs.Laws.{NameOrFault, NameOrFaultNotBoth, OneName, OneFault, EndOrSkipFault, EndOrSkipFaultNotBoth, OneEnd, EncodedNamesEnd, SkipFaultsAreFaults, SkippingEndsAlike, SkippingFailsAlike}
+use Rattle.dns_name.specs.Laws.{NameOrFault, NameOrFaultNotBoth, OneName, OneFault, EndOrSkipFault, EndOrSkipFaultNotBoth}
+use Rattle.dns_name.specs.Laws.{OneEnd, EncodedNamesEnd, SkipFaultsAreFaults, SkippingEndsAlike, SkippingFailsAlike}
 use Rattle.dns_name.specs.Parsers.{seen}
 use Rattle.dns_name.specs.Unique.{same_name as same, encoded_short}
 use Rattle.dns_name.proofs.theory.NameOrFaultLaws as answers

@@ -46,7 +46,8 @@ module _ (b : List ℕ) where
     rest : LabelsAt b next_offset (left - (length (label_octets l) + 1))
     gives : labels ≡ label_octets l ∷ take rest.1.0 (with_root rest.0.0)
 
-  after : (next_offset left count : ℕ) (name : Labels) (l : Label) → left ≢ 0 → IsFirst b name l next_offset → LabelsTake (with_root name) left count → After next_offset left (take count (with_root name)) l
+  after : (next_offset left count : ℕ) (name : Labels) (l : Label) → left ≢ 0 → IsFirst b name l next_offset
+      → LabelsTake (with_root name) left count → After next_offset left (take count (with_root name)) l
   after next_offset left zero name l some f c = absurd (some (sym c.1))
   after next_offset left (suc k) [] l some f c =
       let none : k ≡ 0 = omega (arith, c.0) in

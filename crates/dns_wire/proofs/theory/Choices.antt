@@ -1,12 +1,14 @@
 -- A name is encoded by its longest suffix in the table, and by how many of the suffixes before that may enter the table.
-use Rattle.std.proofs.Common.{◌≡◌, ◌≢◌, ◌⊎◌, inl, inr, ◌&&◌, nat_lt, if◌then◌else◌, slice_index_or, ℕ, zero, suc, ◌+◌, ◌<◌, ◌≤◌, Bool, true, false, Option, Some, None, List, [], ◌∷◌, ◌++◌, length, take, append_assoc, ap, sym, ◌∙◌, refl, subst, arith, below_more}
+use Rattle.std.proofs.Common.{◌≡◌, ◌≢◌, ◌⊎◌, inl, inr, ◌&&◌, nat_lt, if◌then◌else◌, slice_index_or, ℕ, zero, suc, ◌+◌, ◌<◌, ◌≤◌, Bool, true, false}
+use Rattle.std.proofs.Common.{Option, Some, None, List, [], ◌∷◌, ◌++◌, length, take, append_assoc, ap, sym, ◌∙◌, refl, subst, arith, below_more}
 use Rattle.std.proofs.lemmas.Bool.Decides.{nat_tests}
 use Rattle.std.proofs.lemmas.List.Folds.{list_all_at}
 use Rattle.std.proofs.lemmas.List.Sums.{list_all-from_AllPass}
 use Rattle.std.specs.List.{list_all}
 use Rattle.std.specs.FinMap.{get, len}
 use Rattle.dns_name.specs.Names.{Labels, framed, uncompressed, name_size}
-use Rattle.dns_wire.specs.Encoders.{CompressionTable, TableEntry, Suffix, add_suffixes, Rule, Plain, Static, Tree, Hash, compresses, pointer, CompressedName, compress, compress_label, may_enter, entering_suffixes, encode_name}
+use Rattle.dns_wire.specs.Encoders.{CompressionTable, TableEntry, Suffix, add_suffixes, Rule, Plain, Static, Tree, Hash, compresses}
+use Rattle.dns_wire.specs.Encoders.{pointer, CompressedName, compress, compress_label, may_enter, entering_suffixes, encode_name}
 use Rattle.dns_wire.specs.Choice.{first_suffixes, label_offset, IsNew, IsThere, IsFound, Enters, found_octets, planned_octets, NamesByChoice, MayEnterUnlessKeptOut, HashAddsAllOrNone}
 
 -- `may_enter` at equal offsets and counts.
@@ -22,8 +24,10 @@ enters_parent : (rule : Rule) (w entry_count : ℕ) (label : List ℕ) (parent :
     → Enters rule (w + 1 + length label) (entry_count + 1) parent from count
 enters_parent rule w entry_count label parent from count h = record {
   within = omega (arith, h.within);
-  in_range = λ i l. enters_same rule (label_offset w (label ∷ parent) (suc i)) (label_offset (w + 1 + length label) parent i) (entry_count + suc i) (entry_count + 1 + i) true (omega arith) (omega arith) (h.in_range (suc i) (omega arith));
-  far = λ l. enters_same rule (label_offset w (label ∷ parent) (suc count)) (label_offset (w + 1 + length label) parent count) (entry_count + suc count) (entry_count + 1 + count) false (omega arith) (omega arith) (h.far (omega arith));
+  in_range = λ i l. enters_same rule (label_offset w (label ∷ parent) (suc i)) (label_offset (w + 1 + length label) parent i)
+      (entry_count + suc i) (entry_count + 1 + i) true (omega arith) (omega arith) (h.in_range (suc i) (omega arith));
+  far = λ l. enters_same rule (label_offset w (label ∷ parent) (suc count)) (label_offset (w + 1 + length label) parent count)
+      (entry_count + suc count) (entry_count + 1 + count) false (omega arith) (omega arith) (h.far (omega arith));
 }
 
 new_parent : (m : CompressionTable) (label : List ℕ) (parent : Labels) (from : ℕ) → IsNew m (label ∷ parent) (suc from) → IsNew m parent from
@@ -49,7 +53,8 @@ compress_far rule m w entry_count (label ∷ parent) zero (suc count) new l h le
 compress_far rule m w entry_count (label ∷ parent) (suc from) (suc count) new l h less =
     compress_entering rule m w entry_count label parent from count new h
     ∙ ap (λ (after : CompressedName). let s : CompressedName = record { octets = framed label ++ after.octets; suffixes = record { labels = label ∷ parent; offset = w } ∷ after.suffixes } in s)
-    (compress_far rule m (w + 1 + length label) (entry_count + 1) parent from count (new_parent m label parent from new) (omega arith) (enters_parent rule w entry_count label parent from count h) (omega arith))
+    (compress_far rule m (w + 1 + length label) (entry_count + 1) parent from count (new_parent m label parent from new) (omega arith)
+    (enters_parent rule w entry_count label parent from count h) (omega arith))
 
 -- One more label before a pointer.
 pointed_more : (label : List ℕ) (parent : Labels) (from offset : ℕ)
@@ -77,8 +82,13 @@ compress_pointed rule m w entry_count (label ∷ parent) zero offset new there h
 compress_pointed rule m w entry_count (label ∷ parent) (suc from) offset new there h =
     compress_entering rule m w entry_count label parent from from new h
     ∙ ap (λ (after : CompressedName). let s : CompressedName = record { octets = framed label ++ after.octets; suffixes = record { labels = label ∷ parent; offset = w } ∷ after.suffixes } in s)
-    (compress_pointed rule m (w + 1 + length label) (entry_count + 1) parent from offset (new_parent m label parent from new) (let l = there.0 in omega arith, there.1) (enters_parent rule w entry_count label parent from from h))
-    ∙ ap (λ (xs : List ℕ). let s : CompressedName = record { octets = xs; suffixes = record { labels = label ∷ parent; offset = w } ∷ first_suffixes from parent (w + 1 + length label) } in s) (pointed_more label parent from offset)
+    (compress_pointed rule m (w + 1 + length label) (entry_count + 1) parent from offset (new_parent m label parent from new)
+    (let l = there.0 in omega arith, there.1) (enters_parent rule w entry_count label parent from from h))
+    ∙ ap (λ (xs : List ℕ). let s : CompressedName = record {
+      octets = xs;
+      suffixes = record { labels = label ∷ parent; offset = w } ∷ first_suffixes from parent (w + 1 + length label);
+    } in s)
+    (pointed_more label parent from offset)
 
 -- If no suffix is in the table and all may enter, all labels are written.
 compress_new : (rule : Rule) (m : CompressionTable) (w entry_count : ℕ) (name : Labels) (from : ℕ) → IsNew m name from → from ≡ length name → Enters rule w entry_count name from from
@@ -113,22 +123,24 @@ compress_planned rule m w entry_count name from count offset false t f k =
     ∙ ap (λ (j : ℕ). let s : CompressedName = record { octets = found_octets name from offset; suffixes = first_suffixes j name w } in s) (sym all)
 
 -- Octets and suffixes give the encoding.
-pub record GivesEncoded (rule : Rule) (name : Labels) (m : CompressionTable) (w : ℕ) (text : List ℕ) (ss : List Suffix) : Type 0 where
-  pub octets : (encode_name rule name m w).octets ≡ text
-  pub table : (encode_name rule name m w).table ≡ add_suffixes m (entering_suffixes rule ss) (w + length text)
+pub record GivesEncoded (rule : Rule) (name : Labels) (m : CompressionTable) (w : ℕ) (encoding : List ℕ) (ss : List Suffix) : Type 0 where
+  pub octets : (encode_name rule name m w).octets ≡ encoding
+  pub table : (encode_name rule name m w).table ≡ add_suffixes m (entering_suffixes rule ss) (w + length encoding)
 
 -- `encode_name` by the result of `compress`.
-pub encoded_by : (rule : Rule) (m : CompressionTable) (w : ℕ) (name : Labels) (text : List ℕ) (ss : List Suffix) → rule ≢ Plain → compress rule m w (len m) name ≡ record { octets = text; suffixes = ss }
-    → GivesEncoded rule name m w text ss
+pub encoded_by : (rule : Rule) (m : CompressionTable) (w : ℕ) (name : Labels) (encoding : List ℕ) (ss : List Suffix) → rule ≢ Plain
+    → compress rule m w (len m) name ≡ record { octets = encoding; suffixes = ss }
+    → GivesEncoded rule name m w encoding ss
 unfolding encode_name
-encoded_by Plain m w name text ss n e = absurd (n refl)
-encoded_by rule m w name text ss n e = record {
+encoded_by Plain m w name encoding ss n e = absurd (n refl)
+encoded_by rule m w name encoding ss n e = record {
   octets = ap (λ (s : CompressedName). s.octets) e;
   table = ap (λ (s : CompressedName). add_suffixes m (entering_suffixes rule s.suffixes) (w + length s.octets)) e;
 }
 
 -- A name is encoded by the suffix that is found and by how many suffixes before it may enter.
-pub encoded_planned : (rule : Rule) (m : CompressionTable) (w : ℕ) (name : Labels) (from count : ℕ) (offset : Option ℕ) → rule ≢ Plain → IsFound m name from offset → Enters rule w (len m) name from count
+pub encoded_planned : (rule : Rule) (m : CompressionTable) (w : ℕ) (name : Labels) (from count : ℕ) (offset : Option ℕ) → rule ≢ Plain
+    → IsFound m name from offset → Enters rule w (len m) name from count
     → GivesEncoded rule name m w (planned_octets (nat_lt count from) name from offset) (first_suffixes count name w)
 encoded_planned rule m w name from count offset n f k = encoded_by rule m w name _ _ n (compress_planned rule m w (len m) name from count offset (nat_lt count from) refl f k)
 
@@ -198,7 +210,7 @@ names_by_choice rule c m w name =
       count = entering.0;
       enters = entering.1;
       octets = given.octets;
-      table = given.table ∙ ap (λ (text : List ℕ). add_suffixes m (entering_suffixes rule (first_suffixes entering.0 name w)) (w + length text)) (sym given.octets);
+      table = given.table ∙ ap (λ (encoding : List ℕ). add_suffixes m (entering_suffixes rule (first_suffixes entering.0 name w)) (w + length encoding)) (sym given.octets);
     }
 
 -- The static rule's test fails only from offset 16,384 or from 24 entries on.

@@ -1,5 +1,7 @@
 -- Encoded names remain encoded, and are read back.
-use Rattle.std.proofs.Common.{◌≡◌, ℕ, ◌+◌, ◌-◌, ◌/◌, ◌%◌, ◌<◌, ◌≤◌, List, [], ◌∷◌, ◌++◌, take, drop, length, length-append, length-take, length-drop, append-nil, append_assoc, arith, ap, sym, ◌∙◌, refl, zero, suc, inl, inr, subst}
+use Rattle.std.proofs.Common.{◌≡◌, ℕ, ◌+◌, ◌-◌, ◌/◌, ◌%◌, ◌<◌, ◌≤◌, List, [], ◌∷◌, ◌++◌, take, drop, length, length-append}
+use Rattle.std.proofs.Common.{length-take, length-drop, append-nil, append_assoc, arith, ap, sym, ◌∙◌, refl, zero, suc, inl, inr}
+use Rattle.std.proofs.Common.{subst}
 use Rattle.std.specs.Prelude.{Some, Ok, slice_get, drop}
 use Rattle.std.proofs.lemmas.List.{drop-append-le, take-append-drop, nil_from_length, append-nil}
 use Rattle.std.proofs.Math.Seq.{take-append_seam, drop-append_seam, take-append-add}

@@ -9,7 +9,8 @@ use Rattle.std.specs.Ordering.{eq_by_cmp}
 use Rattle.std.proofs.lemmas.Bool.Decides.{nat_tests}
 use Rattle.std.proofs.lemmas.Cmp.{eq_by_cmp_equiv}
 use Rattle.dns_name.specs.Names.{Labels}
-use Rattle.dns_wire.specs.Encoders.{suffix_cmp, suffix_total, suffix_exact, TableEntry, CompressionTable, ends_within, cut, IsWithin, IsAtOrAfter, IsOldOrWithin, Extends, Suffix, add_suffixes, nothing, IsClear}
+use Rattle.dns_wire.specs.Encoders.{suffix_cmp, suffix_total, suffix_exact, TableEntry, CompressionTable, ends_within, cut}
+use Rattle.dns_wire.specs.Encoders.{IsWithin, IsAtOrAfter, IsOldOrWithin, Extends, Suffix, add_suffixes, nothing, IsClear}
 use Rattle.dns_wire.specs.Targets.{IsTableOf}
 
 -- What a truncated table has for a suffix.

@@ -8,7 +8,10 @@ use Rattle.std.proofs.lemmas.Grind.{common_steps}
 use Rattle.std.specs.Ordering.{eq_by_cmp}
 use Rattle.dns_name.specs.Names.{Labels, IsName, name_size, max_size, uncompressed, framed}
 use Rattle.dns_name.proofs.theory.UncompressedNames.{name_tail}
-use Rattle.dns_wire.specs.Encoders.{TableEntry, CompressionTable, add_suffixes, Extends, IsGrowing, Rule, Plain, Static, Tree, Hash, Encoder, encode_octets, both, with_length, Suffix, CompressedName, compress_label, compress, entering_suffixes, pointer as encode_pointer, encode_name, IsWithin, suffix_cmp, suffix_total, may_enter}
+use Rattle.dns_wire.specs.Encoders.{TableEntry, CompressionTable, add_suffixes, Extends, IsGrowing, Rule, Plain, Static, Tree}
+use Rattle.dns_wire.specs.Encoders.{Hash, Encoder, encode_octets, both, with_length, Suffix, CompressedName, compress_label}
+use Rattle.dns_wire.specs.Encoders.{compress, entering_suffixes, pointer as encode_pointer, encode_name, IsWithin, suffix_cmp}
+use Rattle.dns_wire.specs.Encoders.{suffix_total, may_enter}
 use Rattle.dns_wire.specs.Parts.{Part, Octets, CompressibleName, UncompressedName, encode_part, encode_parts}
 use Rattle.dns_wire.specs.Targets.{At, Compressed, Labelled, IsTableEntry, IsTableOf}
 use Rattle.dns_wire.specs.Targets.Compressed.{root, label, pointer}
@@ -30,23 +33,29 @@ newer m w w' (s ∷ ss) l h = (h.0, omega (arith, h.1), newer m w w' ss l h.2)
 pub data CompressesAs (rule : Rule) (m : CompressionTable) : ℕ → ℕ → Labels → List ℕ → List Suffix → Type 0 where
   at_root : {p entry_count : ℕ} → CompressesAs rule m p entry_count [] (0 ∷ []) []
   at_entry : {p entry_count : ℕ} {first : List ℕ} {rest : Labels} {x : TableEntry} → get m (first ∷ rest) ≡ Some x → CompressesAs rule m p entry_count (first ∷ rest) (encode_pointer x.offset) []
-  at_kept : {p entry_count : ℕ} {first : List ℕ} {rest : Labels} {text : List ℕ} {ss : List Suffix} → get m (first ∷ rest) ≡ None → may_enter rule p entry_count ≡ true
-      → CompressesAs rule m (p + 1 + length first) (entry_count + 1) rest text ss → CompressesAs rule m p entry_count (first ∷ rest) (framed first ++ text) (record { labels = first ∷ rest; offset = p } ∷ ss)
-  at_far : {p entry_count : ℕ} {first : List ℕ} {rest : Labels} → get m (first ∷ rest) ≡ None → may_enter rule p entry_count ≡ false → CompressesAs rule m p entry_count (first ∷ rest) (uncompressed (first ∷ rest)) []
+  at_kept : {p entry_count : ℕ} {first : List ℕ} {rest : Labels} {encoding : List ℕ} {ss : List Suffix} → get m (first ∷ rest) ≡ None → may_enter rule p entry_count ≡ true
+      → CompressesAs rule m (p + 1 + length first) (entry_count + 1) rest encoding ss
+      → CompressesAs rule m p entry_count (first ∷ rest) (framed first ++ encoding) (record { labels = first ∷ rest; offset = p } ∷ ss)
+  at_far : {p entry_count : ℕ} {first : List ℕ} {rest : Labels} → get m (first ∷ rest) ≡ None → may_enter rule p entry_count ≡ false
+      → CompressesAs rule m p entry_count (first ∷ rest) (uncompressed (first ∷ rest)) []
 
-label_as : (rule : Rule) (m : CompressionTable) (p entry_count : ℕ) (o : Option TableEntry) (keep : Bool) (first : List ℕ) (rest : Labels) (after : CompressedName) → get m (first ∷ rest) ≡ o → may_enter rule p entry_count ≡ keep
-    → CompressesAs rule m (p + 1 + length first) (entry_count + 1) rest after.octets after.suffixes → let compressed = compress_label o keep first (record { labels = first ∷ rest; offset = p }) after in CompressesAs rule m p entry_count (first ∷ rest) compressed.octets compressed.suffixes
+label_as : (rule : Rule) (m : CompressionTable) (p entry_count : ℕ) (o : Option TableEntry) (keep : Bool) (first : List ℕ) (rest : Labels)
+    (after : CompressedName) → get m (first ∷ rest) ≡ o → may_enter rule p entry_count ≡ keep
+    → CompressesAs rule m (p + 1 + length first) (entry_count + 1) rest after.octets after.suffixes
+    → let compressed = compress_label o keep first (record { labels = first ∷ rest; offset = p }) after in
+    CompressesAs rule m p entry_count (first ∷ rest) compressed.octets compressed.suffixes
 label_as rule m p entry_count (Some x) keep first rest after e k s = at_entry e
 label_as rule m p entry_count None true first rest after e k s = at_kept e k s
 label_as rule m p entry_count None false first rest after e k s = at_far e k
 
 -- A compressed name is the labels before its pointer, and the pointer, and adds their entries to the table.
-pub compresses_as : (rule : Rule) (m : CompressionTable) (p entry_count : ℕ) (name : Labels) → let compressed = compress rule m p entry_count name in CompressesAs rule m p entry_count name compressed.octets compressed.suffixes
+pub compresses_as : (rule : Rule) (m : CompressionTable) (p entry_count : ℕ) (name : Labels)
+    → let compressed = compress rule m p entry_count name in CompressesAs rule m p entry_count name compressed.octets compressed.suffixes
 compresses_as rule m p entry_count [] = at_root
 compresses_as rule m p entry_count (first ∷ rest) = label_as rule m p entry_count _ _ first rest _ refl refl (compresses_as rule m (p + 1 + length first) (entry_count + 1) rest)
 
 -- The suffixes that are written out are new.
-compress_new : {rule : Rule} {m : CompressionTable} {p entry_count : ℕ} {name : Labels} {text : List ℕ} {ss : List Suffix} → CompressesAs rule m p entry_count name text ss → AreNew m p ss
+compress_new : {rule : Rule} {m : CompressionTable} {p entry_count : ℕ} {name : Labels} {encoding : List ℕ} {ss : List Suffix} → CompressesAs rule m p entry_count name encoding ss → AreNew m p ss
 compress_new at_root = tt
 compress_new (at_entry e) = tt
 compress_new {m = m} (at_kept {p = p} {first = first} {ss = ss} e k s) = (e, omega arith, newer m (p + 1 + length first) p ss (omega arith) (compress_new s))
@@ -70,7 +79,8 @@ extends-add_suffixes m (s ∷ ss) w end l h =
     inserted m (add_suffixes m ss end) s.labels (record { offset = s.offset; end = end }) w end (extends-add_suffixes m ss w end l h.2) h.0 h.1 l (omega arith)
 
 -- A written name takes at least one octet.
-compress_long : {rule : Rule} {m : CompressionTable} {p entry_count : ℕ} {name : Labels} {text : List ℕ} {ss : List Suffix} → CompressesAs rule m p entry_count name text ss → 0 < length text
+compress_long : {rule : Rule} {m : CompressionTable} {p entry_count : ℕ} {name : Labels} {encoding : List ℕ} {ss : List Suffix}
+    → CompressesAs rule m p entry_count name encoding ss → 0 < length encoding
 compress_long at_root = omega arith
 compress_long (at_entry e) = omega arith
 compress_long (at_kept e k s) = omega arith
@@ -79,7 +89,8 @@ compress_long (at_far e k) = omega arith
 -- Adding the suffixes of a name extends the table.
 named : (rule : Rule) (name : Labels) (m : CompressionTable) (w entry_count : ℕ)
     → let compressed = compress rule m w entry_count name in Extends m (add_suffixes m (entering_suffixes rule compressed.suffixes) (w + length compressed.octets)) w (w + length compressed.octets)
-named rule name m w entry_count = let long = compress_long (compresses_as rule m w entry_count name) in extends-add_suffixes m _ w _ (omega arith) (kept_new rule m w _ (compress_new (compresses_as rule m w entry_count name)))
+named rule name m w entry_count = let long = compress_long (compresses_as rule m w entry_count name) in
+    extends-add_suffixes m _ w _ (omega arith) (kept_new rule m w _ (compress_new (compresses_as rule m w entry_count name)))
 
 -- The encoding of a name is growing.
 pub encode_name_grows : (rule : Rule) (name : Labels) → IsGrowing (encode_name rule name)
@@ -146,14 +157,15 @@ later : (m : CompressionTable) (p q : ℕ) → p ≤ q → IsWithin m p → IsWi
 later m p q l ends s x e = omega (arith, ends s x e)
 
 -- The written octets of a name encode it.
-compressed_by : {rule : Rule} {m : CompressionTable} {p entry_count : ℕ} {name : Labels} {text : List ℕ} {ss : List Suffix} (b : List ℕ) (q : ℕ) → CompressesAs rule m p entry_count name text ss → IsName name → IsWithin m p
-    → At b p text → q ≡ p + length text → Compressed m b q p name
+compressed_by : {rule : Rule} {m : CompressionTable} {p entry_count : ℕ} {name : Labels} {encoding : List ℕ} {ss : List Suffix} (b : List ℕ)
+    (q : ℕ) → CompressesAs rule m p entry_count name encoding ss → IsName name → IsWithin m p
+    → At b p encoding → q ≡ p + length encoding → Compressed m b q p name
 compressed_by b q at_root is ends h e = root h e
 compressed_by b q (at_entry {first = first} {rest = rest} {x = x} g) is ends h e = pointer g (ends (first ∷ rest) x g) h (omega arith)
-compressed_by {m = m} b q (at_kept {p = p} {first = first} {rest = rest} {text = text} g k s) is ends h e =
-    let n = length-append first text in
+compressed_by {m = m} b q (at_kept {p = p} {first = first} {rest = rest} {encoding = encoding} g k s) is ends h e =
+    let n = length-append first encoding in
     let tail = name_tail first rest is in
-    label tail.0 (label_part first text h) (compressed_by b q s tail.1 (later m p (p + 1 + length first) (omega arith) ends) (after_label first text h) (omega arith))
+    label tail.0 (label_part first encoding h) (compressed_by b q s tail.1 (later m p (p + 1 + length first) (omega arith) ends) (after_label first encoding h) (omega arith))
 compressed_by {m = m} b q (at_far {p = p} {first = first} {rest = rest} g k) is ends h e = compressed_full m b q p (first ∷ rest) is h e
 
 -- An offset is within pointer range.
@@ -181,17 +193,24 @@ record Out (InRange : ℕ → Type 0) (m : CompressionTable) (b : List ℕ) (q :
   in_range : InRange s.offset
 
 -- Each suffix that is written out is encoded at its offset.
-all_out : {rule : Rule} {m : CompressionTable} {p entry_count : ℕ} {name : Labels} {text : List ℕ} {ss : List Suffix} (b : List ℕ) (q : ℕ) → CompressesAs rule m p entry_count name text ss → IsName name → IsWithin m p
-    → At b p text → q ≡ p + length text → Each (Out (InRangeFor rule) m b q) ss
+all_out : {rule : Rule} {m : CompressionTable} {p entry_count : ℕ} {name : Labels} {encoding : List ℕ} {ss : List Suffix} (b : List ℕ) (q : ℕ)
+    → CompressesAs rule m p entry_count name encoding ss → IsName name → IsWithin m p
+    → At b p encoding → q ≡ p + length encoding → Each (Out (InRangeFor rule) m b q) ss
 all_out b q at_root is ends h e = tt
 all_out b q (at_entry g) is ends h e = tt
-all_out {rule = rule} {m = m} b q (at_kept {p = p} {entry_count = entry_count} {first = first} {rest = rest} {text = text} g k s) is ends h e =
-    let n = length-append first text in
+all_out {rule = rule} {m = m} b q (at_kept {p = p} {entry_count = entry_count} {first = first} {rest = rest} {encoding = encoding} g k s) is ends h e =
+    let n = length-append first encoding in
     let tail = name_tail first rest is in
     let ends' : IsWithin m (p + 1 + length first) = later m p (p + 1 + length first) (omega arith) ends in
-    let after = after_label first text h in
-    let end : q ≡ p + 1 + length first + length text = omega arith in
-    (record { compressed = (tail.0, label_part first text h, compressed_by b q s tail.1 ends' after end); short = is.short; in_range = in_range_for rule p entry_count k }, all_out b q s tail.1 ends' after end)
+    let after = after_label first encoding h in
+    let end : q ≡ p + 1 + length first + length encoding = omega arith in (
+      record {
+        compressed = (tail.0, label_part first encoding h, compressed_by b q s tail.1 ends' after end);
+        short = is.short;
+        in_range = in_range_for rule p entry_count k;
+      },
+      all_out b q s tail.1 ends' after end,
+    )
 all_out b q (at_far g k) is ends h e = tt
 
 in_range_tested : (m : CompressionTable) (b : List ℕ) (q : ℕ) (ss : List Suffix) → list_all (λ s. nat_lt s.offset 16384) ss ≡ true
@@ -242,9 +261,9 @@ new_kept m n b s x g h =
     kept_moved m n b b s x (λ p xs l fits h. h) (λ t y e less. g t y e) (record { in_range = h.in_range; short = h.short; compressed = h.compressed })
 
 -- Octets after a content encode a name, and the table after them is sound.
-pub record EncodesName (b : List ℕ) (name : Labels) (text : List ℕ) (n : CompressionTable) : Type 0 where
-  pub compressed : Compressed n (b ++ text) (length b + length text) (length b) name
-  pub is_table : IsTableOf (b ++ text) n
+pub record EncodesName (b : List ℕ) (name : Labels) (encoding : List ℕ) (n : CompressionTable) : Type 0 where
+  pub compressed : Compressed n (b ++ encoding) (length b + length encoding) (length b) name
+  pub is_table : IsTableOf (b ++ encoding) n
 
 by_rule : (rule : Rule) (m n : CompressionTable) (b : List ℕ) (name : Labels) (entry_count : ℕ) → IsName name → IsTableOf b m
     → n ≡ add_suffixes m (entering_suffixes rule (compress rule m (length b) entry_count name).suffixes) (length b + length (compress rule m (length b) entry_count name).octets)
@@ -253,18 +272,19 @@ by_rule : (rule : Rule) (m n : CompressionTable) (b : List ℕ) (name : Labels) 
 by_rule rule m n b name entry_count l r is g =
     let w = length b in
     let written = compress rule m w entry_count name in
-    let text = written.octets in
-    let q = w + length text in
-    let h = at_end b text in
+    let encoding = written.octets in
+    let q = w + length encoding in
+    let h = at_end b encoding in
     let within = ends_within_content r in
-    let all = in_range_kept rule m (b ++ text) q written.suffixes (all_out (b ++ text) q (compresses_as rule m w entry_count name) l within h refl) in
+    let all = in_range_kept rule m (b ++ encoding) q written.suffixes (all_out (b ++ encoding) q (compresses_as rule m w entry_count name) l within h refl) in
     record {
-      compressed = moved m n (b ++ text) (b ++ text) 0 q (λ p xs low fits h. h) (λ t x e less. g t x e) (omega arith) (compressed_by (b ++ text) q (compresses_as rule m w entry_count name) l within h refl);
+      compressed = moved m n (b ++ encoding) (b ++ encoding) 0 q (λ p xs low fits h. h) (λ t x e less. g t x e) (omega arith)
+          (compressed_by (b ++ encoding) q (compresses_as rule m w entry_count name) l within h refl);
       is_table = record {
         each = λ s x e.
-            elim (found m (entering_suffixes rule written.suffixes) q (Out IsInPointerRange m (b ++ text) q) s x all (ap (λ (n : CompressionTable). get n s) (sym is) ∙ e)) [
-              | inl old ↦ kept_more n text s x g (r.each s x old)
-              | inr new ↦ new_kept m n (b ++ text) s x g (subst (λ q. Out IsInPointerRange m (b ++ text) q (record { labels = s; offset = x.offset })) (sym new.1) new.0)
+            elim (found m (entering_suffixes rule written.suffixes) q (Out IsInPointerRange m (b ++ encoding) q) s x all (ap (λ (n : CompressionTable). get n s) (sym is) ∙ e)) [
+              | inl old ↦ kept_more n encoding s x g (r.each s x old)
+              | inr new ↦ new_kept m n (b ++ encoding) s x g (subst (λ q. Out IsInPointerRange m (b ++ encoding) q (record { labels = s; offset = x.offset })) (sym new.1) new.0)
             ];
       };
     }

@@ -1,5 +1,6 @@
 -- Encodings in order, and what each of them writes.
-use Rattle.std.proofs.Common.{◌≡◌, ℕ, ◌+◌, ◌≤◌, List, [], ◌∷◌, ◌++◌, length, length-append, append_assoc, arith, sym, ◌∙◌, refl, subst, ◌-◌, ◌<◌, ◌^◌, ap, nat_le, Bool, true, false, cond, Option, Some, None, Ok, Err}
+use Rattle.std.proofs.Common.{◌≡◌, ℕ, ◌+◌, ◌≤◌, List, [], ◌∷◌, ◌++◌, length, length-append, append_assoc, arith, sym, ◌∙◌, refl}
+use Rattle.std.proofs.Common.{subst, ◌-◌, ◌<◌, ◌^◌, ap, nat_le, Bool, true, false, cond, Option, Some, None, Ok, Err}
 use Rattle.std.proofs.Math.Seq.{take-append_seam}
 use Rattle.std.specs.Int.{to_be_bytes, from_be_bytes, w16, w32}
 use Rattle.std.proofs.lemmas.Nat.{from_be_bytes-to_be_bytes_2, from_be_bytes-to_be_bytes_4}
@@ -192,8 +193,8 @@ size-with_length : (a : Encoder) (t : Written)
     → length (append (both (encode_octets (to_be_bytes w16 (length_of a t))) a) t).octets ≡ length t.octets + 2 + length_of a t
 unfolding length_of
 size-with_length a t =
-    let text = (a t.table (length t.octets + 2)).octets in
-    let n = length-append t.octets (to_be_bytes w16 (length text) ++ text) in
+    let encoding = (a t.table (length t.octets + 2)).octets in
+    let n = length-append t.octets (to_be_bytes w16 (length encoding) ++ encoding) in
     omega arith
 
 length_small : (a : Encoder) (t : Written) → ((m : CompressionTable) (w : ℕ) → length (a m w).octets ≤ 65535) → length_of a t ≤ 65535

@@ -9,14 +9,15 @@ use Rattle.dns_wire.proofs.theory.EncodedNames.{CompressesAs, compresses_as}
 use Rattle.dns_wire.proofs.theory.EncodedNames.CompressesAs.{at_root, at_entry, at_kept, at_far}
 
 -- A written name takes at most as many octets as it does uncompressed: a pointer takes two, and a length octet and the root's zero octet take as many.
-compress_short : {rule : Rule} {m : CompressionTable} {p entry_count : ℕ} {name : Labels} {text : List ℕ} {ss : List Suffix} → CompressesAs rule m p entry_count name text ss → length text ≤ length (uncompressed name)
+compress_short : {rule : Rule} {m : CompressionTable} {p entry_count : ℕ} {name : Labels} {encoding : List ℕ} {ss : List Suffix}
+    → CompressesAs rule m p entry_count name encoding ss → length encoding ≤ length (uncompressed name)
 compress_short at_root = omega arith
 compress_short (at_entry {first = first} {rest = rest} e) =
     let size = length-uncompressed rest in
     let both = length-append first (uncompressed rest) in
     omega arith
-compress_short (at_kept {first = first} {rest = rest} {text = text} e k s) =
-    let written = length-append first text in
+compress_short (at_kept {first = first} {rest = rest} {encoding = encoding} e k s) =
+    let written = length-append first encoding in
     let whole = length-append first (uncompressed rest) in
     let less = compress_short s in
     omega arith

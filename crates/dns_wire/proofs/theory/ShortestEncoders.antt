@@ -4,7 +4,8 @@ use Rattle.std.specs.Prelude.{Some, None}
 use Rattle.std.specs.Int.{to_be_bytes, w16}
 use Rattle.std.specs.FinMap.{get, len, get-empty}
 use Rattle.dns_name.specs.Names.{Labels, IsName, name_size, max_size, uncompressed, NameEndsAt}
-use Rattle.dns_wire.specs.Encoders.{CompressionTable, TableEntry, nothing, suffix_cmp, Suffix, add_suffixes, Rule, Plain, Static, Tree, Hash, Encoder, Encoded, encode_octets, both, with_length, compress, entering_suffixes, encode_name}
+use Rattle.dns_wire.specs.Encoders.{CompressionTable, TableEntry, nothing, suffix_cmp, Suffix, add_suffixes, Rule, Plain, Static, Tree}
+use Rattle.dns_wire.specs.Encoders.{Hash, Encoder, Encoded, encode_octets, both, with_length, compress, entering_suffixes, encode_name}
 use Rattle.dns_wire.specs.Parts.{Part, Octets, CompressibleName, UncompressedName, AreParts, encode_parts, PartsInPointerRange}
 use Rattle.dns_wire.specs.Targets.{At, IsTableOf, Written, IsTarget, append}
 use Rattle.dns_wire.specs.Compression.{IsShared, Compression, SharesAll, AddsShortest, PartsAreShortest}
@@ -14,7 +15,8 @@ use Rattle.dns_wire.proofs.theory.EncodedNames.{encode_name_grows, compresses_as
 use Rattle.dns_wire.proofs.theory.EncoderLaws.{length_of, append-with_length, append-both, encodes_name, encodes_octets}
 use Rattle.dns_wire.proofs.theory.CompressionTables.{gets, nothing_is_kept}
 use Rattle.dns_wire.proofs.theory.CompressedNames.{at_append, at_end, compressed_ends, compressed_more, kept_more}
-use Rattle.dns_wire.proofs.SharedSuffixes.{Knows, Best, KeepsInPointerRange, tree_keeps_in_range, static_keeps_in_range, hash_keeps_in_range, best, knows_more, in_range_kept, in_range_suffixes, few_less, shared_some, len_compress, len_add_suffixes}
+use Rattle.dns_wire.proofs.SharedSuffixes.{Knows, Best, KeepsInPointerRange, tree_keeps_in_range, static_keeps_in_range, hash_keeps_in_range}
+use Rattle.dns_wire.proofs.SharedSuffixes.{best, knows_more, in_range_kept, in_range_suffixes, few_less, shared_some, len_compress, len_add_suffixes}
 use Rattle.dns_name.proofs.theory.Steps.{name_size-append}
 
 -- The names that may be compressed among these parts, before other names.
@@ -105,7 +107,8 @@ shortens_uncompressed rule lowercased name t =
             knows = knows;
             in_range = subst (λ q. PartsInPointerRange ((t.octets ++ xs) ++ c) end q rest) (sym e) in_range;
             rises = omega arith;
-            attains = λ n s. let o : Compression names (UncompressedName lowercased name ∷ rest) (length xs + n) = uncompressed_name s in subst (λ k. Compression names (UncompressedName lowercased name ∷ rest) k) (omega arith) o;
+            attains = λ n s. let o : Compression names (UncompressedName lowercased name ∷ rest) (length xs + n) = uncompressed_name s in
+                subst (λ k. Compression names (UncompressedName lowercased name ∷ rest) k) (omega arith) o;
             least = λ n s. let o = uncompressed_parts s in (o.0, o.1, omega (arith, o.2));
           };
     }
@@ -145,7 +148,11 @@ least_name names name rest l n (inr a) (inr b) = let m = a.5 b.0 b.1 b.2 b.3 in 
 pub record CompressesShortest (rule : Rule) : Type 0 where
   pub in_range : KeepsInPointerRange rule
   pub few : (name : Labels) (m : CompressionTable) (w : ℕ) → SharesAll rule (len (encode_name rule name m w).table) → SharesAll rule (len m + length (compress rule m w (len m) name).suffixes)
-  pub writes : (name : Labels) (m : CompressionTable) (w : ℕ) → let compressed = compress rule m w (len m) name in encode_name rule name m w ≡ record { octets = compressed.octets; table = add_suffixes m (entering_suffixes rule compressed.suffixes) (w + length compressed.octets) }
+  pub writes : (name : Labels) (m : CompressionTable) (w : ℕ) → let compressed = compress rule m w (len m) name in
+      encode_name rule name m w ≡ record {
+        octets = compressed.octets;
+        table = add_suffixes m (entering_suffixes rule compressed.suffixes) (w + length compressed.octets);
+      }
 
 -- The tree rule is one.
 compresses_tree : CompressesShortest Tree
@@ -174,8 +181,14 @@ compresses_shortest Tree n few = compresses_tree
 compresses_shortest Hash n few = compresses_hash
 
 -- A name written with the octets and the suffixes that `compress` gives is as short as possible.
-name_short : (rule : Rule) (name : Labels) (t : Written) (encoded : Encoded) (c : List ℕ) (names : List Labels) (rest : List Part) (end : ℕ) → KeepsInPointerRange rule → IsName name → Knows t.table names
-    → let compressed = compress rule t.table (length t.octets) (len t.table) name in encoded ≡ record { octets = compressed.octets; table = add_suffixes t.table (entering_suffixes rule compressed.suffixes) (length t.octets + length compressed.octets) }
+name_short : (rule : Rule) (name : Labels) (t : Written) (encoded : Encoded) (c : List ℕ) (names : List Labels) (rest : List Part) (end : ℕ)
+    → KeepsInPointerRange rule → IsName name → Knows t.table names
+    → let compressed = compress rule t.table (length t.octets) (len t.table) name in
+    encoded ≡ record {
+      octets = compressed.octets;
+      table = add_suffixes t.table (entering_suffixes rule compressed.suffixes)
+          (length t.octets + length compressed.octets);
+    }
     → ((s : Labels) (x : TableEntry) → get t.table s ≡ Some x → get encoded.table s ≡ Some x)
     → NameEndsAt ((t.octets ++ encoded.octets) ++ c) (length t.octets) (length (t.octets ++ encoded.octets))
     → PartsInPointerRange ((t.octets ++ encoded.octets) ++ c) end (length t.octets) (CompressibleName name ∷ rest)
@@ -186,14 +199,14 @@ name_short rule name t encoded c names rest end r is knows e g name_ends in_rang
     let w = length t.octets in
     let compressed = compress rule m w (len m) name in
     let b = (t.octets ++ encoded.octets) ++ c in
-    let text : encoded.octets ≡ compressed.octets = ap (λ (x : Encoded). x.octets) e in
-    let at = subst (λ (xs : List ℕ). At b w xs) text (at_append c (at_end t.octets encoded.octets)) in
+    let same : encoded.octets ≡ compressed.octets = ap (λ (x : Encoded). x.octets) e in
+    let at = subst (λ (xs : List ℕ). At b w xs) same (at_append c (at_end t.octets encoded.octets)) in
     let all = in_range_kept r b in_range.0 (compresses_as rule m w (len m) name) is in_range.1 at few in
     let chosen = in_range_suffixes b in_range.0 (compresses_as rule m w (len m) name) is in_range.1 at in
     let q = w + length compressed.octets in
     let table : encoded.table ≡ add_suffixes m compressed.suffixes q = ap (λ (x : Encoded). x.table) e ∙ ap (λ (ss : List Suffix). add_suffixes m ss q) (r.chosen compressed.suffixes chosen) in
     let shortest : Best names name (length compressed.octets) = best names knows (compresses_as rule m w (len m) name) all in
-    let long : length (t.octets ++ encoded.octets) ≡ w + length compressed.octets = length-append t.octets encoded.octets ∙ ap (λ (xs : List ℕ). w + length xs) text in
+    let long : length (t.octets ++ encoded.octets) ≡ w + length compressed.octets = length-append t.octets encoded.octets ∙ ap (λ (xs : List ℕ). w + length xs) same in
     record {
       knows = knows_more rule m encoded.table names w (len m) q name knows all table g;
       in_range = subst (λ k. PartsInPointerRange b end k rest) (in_range_end name_ends in_range.1) in_range.2;
@@ -216,7 +229,8 @@ shortens_name rule name r is t =
     let compressed = compress rule t.table w (len t.table) name in
     let p = encodes_name rule name is in
     record {
-      longer = subst (λ (x : Encoded). len t.table ≤ len x.table) (sym (r.writes name t.table w)) (len_add_suffixes t.table (entering_suffixes rule compressed.suffixes) (w + length compressed.octets));
+      longer = subst (λ (x : Encoded). len t.table ≤ len x.table) (sym (r.writes name t.table w))
+          (len_add_suffixes t.table (entering_suffixes rule compressed.suffixes) (w + length compressed.octets));
       keeps = p.keeps t;
       short = λ c names rest end h knows in_range few.
           let after = is_table_more encoded.table (t.octets ++ encoded.octets) c (p.keeps t h) in
@@ -259,12 +273,14 @@ adds_both rule a b ps qs t x y =
       longer = omega arith;
       keeps = λ h. second.keeps (first.keeps h);
       short = λ c names rest end h knows in_range few.
-          let text = (b u.table (length u.octets)).octets in
-          let e : v.octets ++ c ≡ u.octets ++ (text ++ c) = append_assoc u.octets text c in
+          let encoding = (b u.table (length u.octets)).octets in
+          let e : v.octets ++ c ≡ u.octets ++ (encoding ++ c) = append_assoc u.octets encoding c in
           let in_range' = subst (λ (l : List Part). PartsInPointerRange (v.octets ++ c) end (length t.octets) l) (append_assoc ps qs rest) in_range in
-          let one = first.short (text ++ c) names (qs ++ rest) end h knows (subst (λ (o : List ℕ). PartsInPointerRange o end (length t.octets) (ps ++ (qs ++ rest))) e in_range') (few_less rule (len u.table) (len v.table) on few) in
+          let one = first.short (encoding ++ c) names (qs ++ rest) end h knows
+          (subst (λ (o : List ℕ). PartsInPointerRange o end (length t.octets) (ps ++ (qs ++ rest))) e in_range')
+          (few_less rule (len u.table) (len v.table) on few) in
           let two = second.short c (added ps names) rest end (first.keeps h) one.knows (subst (λ (o : List ℕ). PartsInPointerRange o end (length u.octets) (qs ++ rest)) (sym e) one.in_range) few in
-          short_both names ps qs rest (v.octets ++ c) (u.octets ++ (text ++ c)) (length t.octets) (length u.octets) (length v.octets) end u.table v.table one two;
+          short_both names ps qs rest (v.octets ++ c) (u.octets ++ (encoding ++ c)) (length t.octets) (length u.octets) (length v.octets) end u.table v.table one two;
     }
 
 -- Two encodings in order.
@@ -276,9 +292,11 @@ pub shortens_parts : (rule : Rule) (parts : List Part) → CompressesShortest ru
 unfolding encode_parts
 shortens_parts rule [] r is = shortens_none rule
 shortens_parts rule (Octets xs ∷ parts) r is = shortens_both rule (encode_octets xs) (encode_parts rule parts) (Octets xs ∷ []) parts (shortens_octets rule xs xs refl) (shortens_parts rule parts r is)
-shortens_parts rule (CompressibleName name ∷ parts) r is = shortens_both rule (encode_name rule name) (encode_parts rule parts) (CompressibleName name ∷ []) parts (shortens_name rule name r is.0) (shortens_parts rule parts r is.1)
+shortens_parts rule (CompressibleName name ∷ parts) r is = shortens_both rule (encode_name rule name) (encode_parts rule parts)
+    (CompressibleName name ∷ []) parts (shortens_name rule name r is.0) (shortens_parts rule parts r is.1)
 shortens_parts rule (UncompressedName lowercased name ∷ parts) r is =
-    shortens_both rule (encode_octets (uncompressed name)) (encode_parts rule parts) (UncompressedName lowercased name ∷ []) parts (shortens_uncompressed rule lowercased name) (shortens_parts rule parts r is.1)
+    shortens_both rule (encode_octets (uncompressed name)) (encode_parts rule parts) (UncompressedName lowercased name ∷ []) parts
+    (shortens_uncompressed rule lowercased name) (shortens_parts rule parts r is.1)
 
 -- The encoding of parts preceded by their length is as short as possible.
 pub shortens_with_length : (rule : Rule) (a : Encoder) (parts : List Part) → Shortens rule a parts → Shortens rule (with_length a) (Octets (0 ∷ 0 ∷ []) ∷ parts)
@@ -295,7 +313,8 @@ knows_nothing = record {
 }
 
 -- Parts added to a target with an empty table take the octets of a shortest compression.
-pub encoded_shortest : (rule : Rule) (parts : List Part) (t u : Written) → AddsShort rule parts t u → IsTarget t → Knows t.table [] → PartsInPointerRange u.octets (length u.octets) (length t.octets) parts → SharesAll rule (len u.table)
+pub encoded_shortest : (rule : Rule) (parts : List Part) (t u : Written) → AddsShort rule parts t u → IsTarget t → Knows t.table []
+    → PartsInPointerRange u.octets (length u.octets) (length t.octets) parts → SharesAll rule (len u.table)
     → AddsShortest parts t u
 encoded_shortest rule parts t u x h knows in_range few =
     let end = length u.octets in

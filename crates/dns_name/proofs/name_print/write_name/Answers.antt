@@ -28,7 +28,8 @@ loop-label-preserved-then-not-is_root g c = (
       let second = c.write_label.ensures.text (search rules) in (
         so_far.0 ++ (c.loop-label.separator.now ++ label_text (label_octets c.in-Some.label)),
         print_three _ _ _ _ _ _ _ _ _ so_far.1 first second refl,
-        one_label_printed so_far.0 _ _ _ _ (λ e. let root : c.is_root.result ≡ true = c.is_root.ensures.1 e in cc) (ap (λ ls. so_far.0 ++ text_left c.loop-label.separator.now ls) (sym left) ∙ so_far.2),
+        one_label_printed so_far.0 _ _ _ _ (λ e. let root : c.is_root.result ≡ true = c.is_root.ensures.1 e in cc)
+            (ap (λ ls. so_far.0 ++ text_left c.loop-label.separator.now ls) (sym left) ∙ so_far.2),
       )
       ),
 )

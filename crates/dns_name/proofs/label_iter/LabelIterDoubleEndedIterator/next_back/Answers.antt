@@ -45,4 +45,16 @@ walk-preserved c =
 pub returns-clause-goes : goal.returns-clause-goes
 returns-clause-goes c =
     let taken : c.len-taken.result + 1 ≡ length (label_octets c.first_at-after.result.0) + 1 = ap (λ n. n + 1) c.len-taken.ensures in
-    record { on = λ _. (tt, tt, search (rules, back_fewer _ _ _ _ _ _ _ c.first_at-after.result.0 c.args.self.now.labels_at c.walk.invariant c.first_at-after.ensures taken c.if-skipped-taken.true)); keeps = tt; rests = λ _. tt }
+    record {
+      on = λ _. (
+        tt,
+        tt,
+        search (
+          rules,
+          back_fewer _ _ _ _ _ _ _ c.first_at-after.result.0 c.args.self.now.labels_at c.walk.invariant
+              c.first_at-after.ensures taken c.if-skipped-taken.true,
+        ),
+      );
+      keeps = tt;
+      rests = λ _. tt;
+    }
