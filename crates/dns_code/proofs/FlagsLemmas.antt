@@ -34,4 +34,6 @@ names_shown-set names i d within set =
 pub names_shown-unset : (names : List (Bool × Bor (List ℕ))) (i : ℕ) (d : Bool × Bor (List ℕ)) → i < length names → (get_or names i d).0 ≡ false
     → names_shown (take (i + 1) names) ≡ names_shown (take i names)
 names_shown-unset names i d within unset =
-    rw (take_more names i d within) (simp flat_map-append (ap (λ (b : Bool). names_shown (take i names) ++ (name_if_set b (get_or names i d).1.now ++ [])) unset ∙ append-nil (names_shown (take i names))))
+    rw (take_more names i d within) (simp flat_map-append
+    (ap (λ (b : Bool). names_shown (take i names) ++ (name_if_set b (get_or names i d).1.now ++ [])) unset
+    ∙ append-nil (names_shown (take i names))))

@@ -2,6 +2,7 @@ ghost use Rattle.std.specs.Prelude.{◌≡◌, ◌<◌, ◌≤◌, ◌+◌, ◌-
 ghost use Rattle.dns_code.specs.Bits.{number_in, ChangesNumber};
 
 use crate::error::CountOverflow;
+use crate::section::HeaderSection;
 
 /// The four counts of a message, its octets 4 to 11: the number of entries of each section (RFC
 /// 1035 section 4.1.1).
@@ -41,7 +42,7 @@ impl HeaderCounts {
         ensures { counts_octets result ≡ slice_range message.now 4 header_size }
     {
         let mut octets = [0; 8];
-        octets.copy_from_slice(&message[4..12]);
+        octets.copy_from_slice(&message[4..HeaderSection::LEN]);
         HeaderCounts { octets }
     }
 

@@ -31,6 +31,11 @@ pub fn octets_of_fields()
     ensures section { SectionIsHeaderAndCounts }
 {}
 
+/// The constant is the length that the definition of a header section has.
+pub fn header_section_length()
+    ensures { HeaderSection.LEN ≡ header_size }
+{}
+
 /// Says which flags a text denotes, if any. The printed text of flags denotes those flags.
 pub fn texts_of_flags()
     ensures texts { FlagsTexts }

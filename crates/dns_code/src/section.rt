@@ -29,6 +29,9 @@ impl HeaderSection {
     ghost use Rattle.dns_code.specs.HeaderCounts.{counts_octets};
     ghost use Rattle.dns_code.specs.HeaderSection.{header_size, section_octets, section_header, section_counts};
 
+    /// The length of a header section in octets (RFC 1035 section 4.1.1).
+    pub const LEN: usize = 12;
+
     /// A header section with all bits 0.
     pub fn new() -> Self
         ensures { section_octets result ≡ replicate header_size 0 }
@@ -42,7 +45,7 @@ impl HeaderSection {
         ensures { section_octets result ≡ take header_size message.now }
     {
         let mut octets = [0; 12];
-        octets.copy_from_slice(&message[..12]);
+        octets.copy_from_slice(&message[..HeaderSection::LEN]);
         HeaderSection { octets }
     }
 
@@ -53,8 +56,8 @@ impl HeaderSection {
             section_octets section
             ≡ slice_range (seen parser.old) (offset parser.old) (offset parser.old + header_size)) }
     {
-        let octets = parser.peek(12)?;
-        parser.advance(12)?;
+        let octets = parser.peek(HeaderSection::LEN)?;
+        parser.advance(HeaderSection::LEN)?;
         Ok(HeaderSection::for_message_slice(octets))
     }
 

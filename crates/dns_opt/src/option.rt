@@ -4,7 +4,7 @@ ghost use Rattle.dns_opt.specs.Options.{OptionItem};
 
 use crate::error::LongOptData;
 use dns_code::OptionCode;
-use dns_wire::Octets;
+use dns_wire::{MAX_OCTETS, Octets};
 
 /// One option of an OPT record: a code and octets.
 pub trait ComposeOptData {
@@ -38,7 +38,7 @@ impl<Octs: Octets> UnknownOptData<Octs> {
         ensures octets { IfOk result (λ unknown. buffer_of unknown ≡ octets) }
         ensures long { IsErr result ↔ (65535 < length (Octs.octets octets)) }
     {
-        if octets.octets().len() > 65535 {
+        if octets.octets().len() > MAX_OCTETS {
             return Err(LongOptData);
         }
         Ok(UnknownOptData {

@@ -13,7 +13,8 @@ use Rattle.dns_wire.specs.Choice.{first_suffixes}
 use Rattle.dns_name.proofs.theory.NameOrFaultLaws.{one_answer, not_both}
 use Rattle.dns_wire.proofs.theory.TargetTheorems.{entries_are_names}
 use Rattle.dns_wire.proofs.theory.CompressionTables.{cut-within, cut_nothing, get-insert_same, get-insert_other, insert_cases, cut-insert_late, AreShorter, get-add_suffixes_longer}
-use Rattle.dns_target.specs.TableEntries.{AreAdded, with_names, table_entries, name_of, name_in, named, table_in, AreNew, last_end, AreOrdered, cut_table_entries, with_suffixes, FirstLabelAt, AreNamesAt}
+use Rattle.dns_target.specs.TableEntries.{AreAdded, with_names, table_entries, name_of, name_in, named, table_in, AreNew, last_end}
+use Rattle.dns_target.specs.TableEntries.{AreOrdered, cut_table_entries, with_suffixes, FirstLabelAt, AreNamesAt}
 use Rattle.dns_target.proofs.NewestFirst.{cut_keeps}
 
 inside_by : {b : List ℕ} {lo hi p : ℕ} {n : Labels} → NameAtWithin b lo hi p n → p < hi
@@ -169,6 +170,7 @@ pub first_suffixes-new : (m : CompressionTable) (c : ℕ) (name : Labels) (w end
 first_suffixes-new m zero name w end h = tt
 first_suffixes-new m (suc c) [] w end h = tt
 first_suffixes-new m (suc c) (label ∷ parent) w end h = (
-  get-add_suffixes_longer m (first_suffixes c parent (w + 1 + length label)) end (label ∷ parent) (h 0 (omega arith)) (shorter_suffixes c parent (w + 1 + length label) (length (label ∷ parent)) (omega arith)),
+  get-add_suffixes_longer m (first_suffixes c parent (w + 1 + length label)) end (label ∷ parent) (h 0 (omega arith))
+      (shorter_suffixes c parent (w + 1 + length label) (length (label ∷ parent)) (omega arith)),
   first_suffixes-new m c parent (w + 1 + length label) end (λ k l. h (suc k) (omega arith)),
 )

@@ -26,8 +26,8 @@ pub record IsLast (b : List ℕ) (m : CompressionTable) (n : Labels) (ms : List 
   pub hashed : AreHashed b (x ∷ all_hashed_of (take k ms))
   pub sought : IsSought b m n (table_entries_at (x ∷ all_hashed_of (take k ms)))
 
--- A fingerprint that was looked at is passed.
-pub looked_at : (b : List ℕ) (m : CompressionTable) (n : Labels) (ms : List Fingerprint) (i k : ℕ) (x : Fingerprint) → i ≡ k + 1 → IsSuffixSought b m n ms i → x ≡ get_or ms k x → IsLast b m n ms k (hashed_of x)
+pub looked_at : (b : List ℕ) (m : CompressionTable) (n : Labels) (ms : List Fingerprint) (i k : ℕ) (x : Fingerprint) → i ≡ k + 1
+    → IsSuffixSought b m n ms i → x ≡ get_or ms k x → IsLast b m n ms k (hashed_of x)
 looked_at b m n ms i k x e h is =
     let w : IsSuffixSought b m n ms (k + 1) = subst (λ j. IsSuffixSought b m n ms j) e h in
     let l : k < length ms = let z = w.within in omega arith in
@@ -43,7 +43,8 @@ sought_other b m n ms k x h other = record {
 }
 
 -- it isn't, because the hashes differ
-pub other_hash : (b : List ℕ) (m : CompressionTable) (n : Labels) (ms : List Fingerprint) (k hash : ℕ) (x : FingerprintEntry) → IsLast b m n ms k x → hash ≡ hash_of n → x.hash ≢ hash → n ≢ name_in b x.offset
+pub other_hash : (b : List ℕ) (m : CompressionTable) (n : Labels) (ms : List Fingerprint) (k hash : ℕ) (x : FingerprintEntry)
+    → IsLast b m n ms k x → hash ≡ hash_of n → x.hash ≢ hash → n ≢ name_in b x.offset
 other_hash b m n ms k hash x h e differs = λ q. differs (h.hashed.0 ∙ ap hash_of (sym q) ∙ sym e)
 
 -- removing entries with and without their hashes is the same
@@ -81,7 +82,9 @@ linked_push heads done ms after m n h made count is o some =
     let long : length done ≡ size = ap length is ∙ length-set heads (bucket size m.hash) n in
     let there : 0 < size = omega arith in
     let last : suc (length ms) ≡ n = omega arith in
-    chained_same _ _ _ _ _ _ _ _ (ap (set heads (bucket size m.hash)) last ∙ sym is) (sym (buckets_push size ms after m made) ∙ ap (λ s. buckets_of s after) (sym long)) (sym (olders_push ms after m made)) (sym (one_more ms after m made))
+    chained_same _ _ _ _ _ _ _ _ (ap (set heads (bucket size m.hash)) last ∙ sym is)
+    (sym (buckets_push size ms after m made) ∙ ap (λ s. buckets_of s after) (sym long)) (sym (olders_push ms after m made))
+    (sym (one_more ms after m made))
     (chained_push heads (buckets_of size ms) (olders_of ms) (length ms) (bucket size m.hash) m.older (h there) (length-buckets size ms) (length-olders ms) (bucket_in size m.hash there) (o there))
 
 -- the last entry is removed
@@ -107,7 +110,9 @@ chain_step heads done ms after x m k n h l next is hashed_suffix linked o made s
     let there : 0 < size = omega arith in
     let z : suc k ≡ n = omega arith in
     let here : at ≡ get_or (buckets_of size ms) k 0 = ap (λ (y : Fingerprint). bucket size y.hash) is ∙ sym (get_or-map (λ (y : Fingerprint). bucket size y.hash) ms k x 0 l) in
-    let buckets : buckets_of size ms ≡ buckets_of size after = sym (ap (buckets_of size) made ∙ map-set_same (λ (y : Fingerprint). bucket size y.hash) ms k m x (ap (λ (y : FingerprintEntry). bucket size y.hash) hashed_suffix ∙ ap (λ (y : Fingerprint). bucket size y.hash) is)) in
+    let buckets : buckets_of size ms ≡ buckets_of size after = sym
+    (ap (buckets_of size) made ∙ map-set_same (λ (y : Fingerprint). bucket size y.hash) ms k m x
+    (ap (λ (y : FingerprintEntry). bucket size y.hash) hashed_suffix ∙ ap (λ (y : Fingerprint). bucket size y.hash) is)) in
     chained_same _ _ _ _ _ _ _ _ (ap (set heads at) z ∙ sym linked) (buckets ∙ ap (λ s. buckets_of s after) (sym long)) (sym (ap olders_of made ∙ map-set (λ (y : Fingerprint). y.older) ms k m)) z
     (link heads (buckets_of size ms) (set (olders_of ms) k m.older) k at (chained_set heads (buckets_of size ms) (olders_of ms) k m.older (h there)) here (bucket_in size x.hash there)
     (get_or-set_same (olders_of ms) k m.older 0 (omega (arith, length-olders ms)) ∙ o there))
@@ -121,7 +126,8 @@ pub read_twice : (ms : List Fingerprint) (k : ℕ) (x y : Fingerprint) → k < l
 read_twice ms k x y l a b = a ∙ get_or_default ms k x y l ∙ sym b
 
 -- at first all entries remain
-pub sought_start : (b : List ℕ) (xs : List FingerprintEntry) (n : Labels) (ms : List Fingerprint) → all_hashed_of ms ≡ xs → AreNamesAt b (table_entries_at xs) → AreHashed b xs → IsSuffixSought b (table_in b (table_entries_at xs)) n ms (length ms)
+pub sought_start : (b : List ℕ) (xs : List FingerprintEntry) (n : Labels) (ms : List Fingerprint) → all_hashed_of ms ≡ xs
+    → AreNamesAt b (table_entries_at xs) → AreHashed b xs → IsSuffixSought b (table_in b (table_entries_at xs)) n ms (length ms)
 sought_start b xs n ms e names_at hashed =
     let all : xs ≡ all_hashed_of (take (length ms) ms) = sym (ap all_hashed_of (take_all (length ms) ms (omega arith)) ∙ e) in
     record {
@@ -134,12 +140,14 @@ no_hash_entry : Fingerprint
 no_hash_entry = record { hash = 0; offset = 0; end = 0; older = 0 }
 
 -- entries in other buckets aren't the name's
-others_skip : (b : List ℕ) (m : CompressionTable) (n : Labels) (ms : List Fingerprint) (size hash : ℕ) → hash ≡ hash_of n → SkipsOthers (IsSuffixSought b m n ms) (buckets_of size ms) (bucket size hash) (length ms)
+others_skip : (b : List ℕ) (m : CompressionTable) (n : Labels) (ms : List Fingerprint) (size hash : ℕ) → hash ≡ hash_of n
+    → SkipsOthers (IsSuffixSought b m n ms) (buckets_of size ms) (bucket size hash) (length ms)
 others_skip b m n ms size hash e j l other h =
     let x = get_or ms j no_hash_entry in
     let k : suc j ≡ j + 1 = omega arith in
     let last = looked_at b m n ms (suc j) j x k h (get_or_default ms j no_hash_entry x l) in
-    sought_other b m n ms j (hashed_of x) last (other_hash b m n ms j hash (hashed_of x) last e (λ q. other (get_or-map (λ (y : Fingerprint). bucket size y.hash) ms j no_hash_entry 0 l ∙ ap (bucket size) q)))
+    sought_other b m n ms j (hashed_of x) last (other_hash b m n ms j hash (hashed_of x) last e
+    (λ q. other (get_or-map (λ (y : Fingerprint). bucket size y.hash) ms j no_hash_entry 0 l ∙ ap (bucket size) q)))
 
 -- a walk along the bucket of a hash
 abbrev pub IsBucketWalked : List ℕ → List ℕ → CompressionTable → Labels → List Fingerprint → ℕ → ℕ → Type 0
@@ -164,7 +172,8 @@ pub bucket_next : (heads : List ℕ) (b : List ℕ) (m : CompressionTable) (n : 
 bucket_next heads b m n ms x hash t k h some e w is on hashed =
     let l : k < length ms = let z = w.sought.within in omega arith in
     let size = length heads in
-    walk_next (IsSuffixSought b m n ms) heads (buckets_of size ms) (olders_of ms) (length ms) (bucket size hash) k x.older (h some) l (others_skip b m n ms size hash hashed) (w.same k (omega arith)) on (older_is ms x k l is)
+    walk_next (IsSuffixSought b m n ms) heads (buckets_of size ms) (olders_of ms) (length ms) (bucket size hash) k x.older (h some) l
+    (others_skip b m n ms size hash hashed) (w.same k (omega arith)) on (older_is ms x k l is)
 
 -- a link leads to an older entry
 pub bucket_older-le : (heads : List ℕ) (ms : List Fingerprint) (x : Fingerprint) (k : ℕ) → IsLinked heads ms → 0 < length heads → k < length ms → x ≡ get_or ms k x → x.older ≤ k

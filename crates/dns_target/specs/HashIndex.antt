@@ -96,8 +96,15 @@ pub keyed_again : (b c : List ℕ) (ss : List KeyedSuffix) → named c (table_en
 keyed_again b c [] e h = tt
 keyed_again b c (s ∷ ss) e h =
     let parts = heads_same _ _ _ _ e in
-    let n = h.0.0 in
-    ((n, subst (λ (m : CompressionTable). ParentIsName m s.parent n) (ap (λ (ps : List (Labels × TableEntry)). from_entries {R = suffix_cmp} ps) (sym parts.1)) h.0.1, parts.0 ∙ h.0.2), keyed_again b c ss parts.1 h.1)
+    let n = h.0.0 in (
+      (
+        n,
+        subst (λ (m : CompressionTable). ParentIsName m s.parent n)
+            (ap (λ (ps : List (Labels × TableEntry)). from_entries {R = suffix_cmp} ps) (sym parts.1)) h.0.1,
+        parts.0 ∙ h.0.2,
+      ),
+      keyed_again b c ss parts.1 h.1,
+    )
 
 -- if the names at the offsets stay, an offset stays that of a suffix
 pub parent_again : (b c : List ℕ) (ss : List KeyedSuffix) (offset : Option ℕ) → named c (table_entries_in ss) ≡ named b (table_entries_in ss) → IsParent b ss offset → IsParent c ss offset

@@ -1,10 +1,11 @@
--- The nodes of a tree of suffixes, the newest first, the table entries that they give, and how they are stored. A node is given by its index, counted from the oldest, and the root by `None`. RFC 1035 section 4.1.4.
+-- The nodes of a tree of suffixes, the newest first, the table entries that they give, and how they are stored. A node
+-- is given by its index, counted from the oldest, and the root by `None`. RFC 1035 section 4.1.4.
 use Rattle.std.specs.Prelude.{◌≡◌, ◌≢◌, ℕ, suc, ◌+◌, ◌<◌, ◌≤◌, ◌==◌, Option, None, Some, List, [], ◌∷◌, length, if◌then◌else◌, nat_lt, drop, map, reverse, get_or}
 use Rattle.std.specs.FinMap.{from_entries}
 use Rattle.dns_name.specs.Names.{Labels, pointer_end}
 use Rattle.dns_wire.specs.Encoders.{suffix_cmp, CompressionTable, TableEntry, Tree, Suffix}
 use Rattle.dns_target.specs.TableEntries.{cut_by, named, table_entries}
-use Rattle.dns_target.specs.declared.texts.Found.{Found}
+use Rattle.dns_target.specs.declared.name_encoding.Found.{Found}
 use Rattle.dns_target.specs.declared.lookup.Lookup.{Lookup}
 use Rattle.std.proofs.Common.{◌∙◌, arith}
 use Rattle.dns_wire.specs.Choice.{Enters}

@@ -1,17 +1,17 @@
 //! A target that compresses names, over an index of the suffixes in its compression table.
 ghost use Rattle.std.specs.Prelude.{◌≡◌, ◌||◌, [], true, ℕ, List, IfOk, OnErr, IsTrue};
 ghost use Rattle.dns_wire.specs.Encoders.{nothing, Plain, encode_octets, encode_name};
-ghost use Rattle.dns_target.specs.FlatNames.{flat_labels};
 ghost use Rattle.dns_wire.specs.Targets.{Appends};
+ghost use Rattle.dns_name.specs.Uncompressed.{IsUncompressed};
 ghost use Rattle.dns_target.specs.Indexes.{compressing_not_plain};
+ghost use Rattle.dns_target.specs.TableEntries.{name_in};
 
 use crate::fingerprint_index::FingerprintIndex;
-use crate::flat_name::FlatName;
 use crate::hash_index::HashIndex;
 use crate::index::SuffixIndex;
 use crate::label_starts::{LabelStarts, note_starts};
+use crate::name_encoding::append_planned;
 use crate::static_index::StaticIndex;
-use crate::texts::append_planned;
 use crate::tree_index::TreeIndex;
 use arrayvec::ArrayVec;
 use dns_wire::{AppendError, CloneTarget, Composer, FreezeBuilder, ToName};
@@ -146,15 +146,16 @@ impl<Target: Composer, Index: SuffixIndex> Compressor<Target, Index> {
         self.target.as_slice()
     }
 
-    /// Appends a name and adds its new suffixes to the table. Nothing changes on error.
-    fn append_name(&mut self, name: FlatName<'_>) -> Result<(), AppendError>
+    /// Appends the name with these uncompressed octets, and adds its new suffixes to the table.
+    /// Nothing changes on error.
+    fn append_name(&mut self, octets: &[u8]) -> Result<(), AppendError>
+        requires { IsUncompressed octets.now }
         ensures { Appends Target.capacity (Index.takes_memory || Target.grows)
-            (encode_name Index.rule (flat_labels name.entry)) self.old self.new result }
+            (encode_name Index.rule (name_in octets.now 0)) self.old self.new result }
     {
-        let octets = name.octets();
         let mut starts = ArrayVec::new();
-        note_starts(&name, octets, &mut starts);
-        let labels = LabelStarts::new(name, octets, starts.as_slice());
+        note_starts(octets, &mut starts);
+        let labels = LabelStarts::new(octets, starts.as_slice());
         let content = self.target.as_slice();
         let offset = content.len();
         let (found, hint) = self.index.look_up(content, &labels);
@@ -211,11 +212,8 @@ impl<Target: Composer, Index: SuffixIndex> Composer for Compressor<Target, Index
 
     fn append_compressed_name<N: ToName>(&mut self, name: &N) -> Result<(), AppendError> {
         match name.as_flat_slice() {
-            Some(octets) => self.append_name(FlatName::new(octets)),
-            None => {
-                let octets = name.as_parsed().uncompressed();
-                self.append_name(FlatName::new(octets.as_slice()))
-            }
+            Some(octets) => self.append_name(octets),
+            None => self.append_name(name.as_parsed().uncompressed().as_slice()),
         }
     }
 

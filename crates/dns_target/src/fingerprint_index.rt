@@ -7,9 +7,9 @@ ghost use Rattle.dns_target.specs.TableEntries.{AreNamesAt, LabelledNameAt, offs
 
 use crate::index::{Plan, SuffixIndex};
 use crate::label_starts::LabelStarts;
+use crate::name_encoding::Found;
 use crate::names_at::is_whole_name_at;
 use crate::octets_hash::octets_hash;
-use crate::texts::{Found, POINTER_END};
 use crate::tree_index::in_range;
 use std::alloc::{AllocError, Global};
 use std::marker::Model;

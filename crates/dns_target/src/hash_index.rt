@@ -7,9 +7,9 @@ ghost use Rattle.dns_target.specs.HashIndex.{IsParent, ParentIsName, table_entri
 
 use crate::index::{Plan, SuffixIndex};
 use crate::label_starts::LabelStarts;
+use crate::name_encoding::{Found, reaches};
 use crate::names_at::is_flat_name_at;
 use crate::suffix_map::{Key, SuffixMap};
-use crate::texts::{Found, reaches};
 use std::alloc::{AllocError, Global};
 
 /// The suffixes in the table, and a recent one. The next name is first compared with the recent

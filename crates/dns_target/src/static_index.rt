@@ -6,9 +6,10 @@ ghost use Rattle.dns_target.specs.TableEntries.{AreNew, AreNamesAt, offset_in_ta
 
 use crate::index::{Plan, SuffixIndex};
 use crate::label_starts::LabelStarts;
+use crate::name_encoding::Found;
 use crate::names_at::is_name_at;
-use crate::texts::{Found, POINTER_END};
 use arrayvec::ArrayVec;
+use dns_name::Head;
 use std::alloc::AllocError;
 use std::marker::Model;
 
@@ -97,7 +98,9 @@ fn kept(labels: &LabelStarts<'_>, offset: usize, entry_count: usize, from: usize
     ensures few { entry_count + result ≤ MOST_SUFFIXES }
 {
     for count in 0..from {
-        if entry_count + count >= MOST_SUFFIXES || offset >= POINTER_END - labels.start(count) {
+        if entry_count + count >= MOST_SUFFIXES
+            || offset >= Head::POINTER_END - labels.start(count)
+        {
             return count;
         }
     }

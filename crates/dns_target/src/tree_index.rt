@@ -10,8 +10,9 @@ use crate::hashed_label::HashedLabel;
 use crate::index::{Plan, SuffixIndex};
 use crate::label_starts::LabelStarts;
 use crate::lookup::{Lookup, grow, look_up};
+use crate::name_encoding::Found;
 use crate::octets_hash::octets_hash;
-use crate::texts::{Found, POINTER_END};
+use dns_name::Head;
 use std::alloc::{AllocError, Global};
 use std::marker::Model;
 
@@ -224,7 +225,7 @@ pub(crate) fn in_range(labels: &LabelStarts<'_>, offset: usize, from: usize) -> 
     ensures { Enters TreeRule offset 0 labels.now from result }
 {
     for count in 0..from {
-        if offset >= POINTER_END - labels.start(count) {
+        if offset >= Head::POINTER_END - labels.start(count) {
             return count;
         }
     }

@@ -18,7 +18,8 @@ loop-index-preserved c =
     let size = length-set ms k m in
     record {
       within = omega arith;
-      chained = chain_step heads c.link-older.new.heads.items ms (set ms k m) x m k (k + 1) c.loop-index.invariant.chained l refl c.index.ensures hashed_suffix c.link-older.ensures.heads c.link-older.ensures.older refl;
+      chained = chain_step heads c.link-older.new.heads.items ms (set ms k m) x m k
+          (k + 1) c.loop-index.invariant.chained l refl c.index.ensures hashed_suffix c.link-older.ensures.heads c.link-older.ensures.older refl;
       suffixes = hashed_same ms (set ms k m) x m k c.index.ensures hashed_suffix refl ∙ c.loop-index.invariant.suffixes;
       long = size ∙ c.loop-index.invariant.long;
       capacity = c.loop-index.invariant.capacity;

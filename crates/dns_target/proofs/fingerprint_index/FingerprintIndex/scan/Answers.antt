@@ -21,7 +21,8 @@ loop-index-preserved c =
     sought_other _ _ _ c.self.inside.entries.items (c.loop-index.index - 1) (hashed_of c.index-entry.result.now) at
     (elim c.else-entry-hash.branch [
       | else-entry-hash-via-then-entry-hash+else-is_suffix_at w ↦ other_name _ _ _ _ _ _ _ at.sought w.from.ensures w.is_suffix_at.ensures w.if-is_suffix_at.false
-      | else-entry-hash-via-else-entry-hash w ↦ other_hash _ _ _ c.self.inside.entries.items (c.loop-index.index - 1) c.args.hash (hashed_of c.index-entry.result.now) at c.requires.hash w.if-entry-hash.false
+      | else-entry-hash-via-else-entry-hash w ↦ other_hash _ _ _ c.self.inside.entries.items (c.loop-index.index - 1) c.args.hash
+          (hashed_of c.index-entry.result.now) at c.requires.hash w.if-entry-hash.false
     ])
 
 pub is_suffix_at-requires-clause-offset : goal.is_suffix_at-requires-clause-offset

@@ -29,7 +29,10 @@ loop-index-preserved c =
     let offset = ap (λ n. c.args.offset + n) c.start.ensures.start in
     record {
       within = omega arith;
-      entries = one_added (table_entries_at c.args.self.now.suffixes) (table_entries_at c.loop-index.self.suffixes) (table_entries_at c.push.new.self.suffixes) c.args.count c.args.labels.now c.args.offset (length c.args.content.now) c.loop-index.index (c.loop-index.index - 1) _ k l h c.loop-index.invariant.entries offset (ap table_entries_at c.push.ensures.suffixes);
+      entries = one_added (table_entries_at c.args.self.now.suffixes) (table_entries_at c.loop-index.self.suffixes)
+          (table_entries_at c.push.new.self.suffixes) c.args.count c.args.labels.now c.args.offset
+          (length c.args.content.now) c.loop-index.index (c.loop-index.index - 1) _ k l h c.loop-index.invariant.entries offset
+          (ap table_entries_at c.push.ensures.suffixes);
       hashed = rw (c.push.ensures.suffixes, offset) (c.hash_by-hash.ensures ∙ ap hash_of (sym next.0), c.loop-index.invariant.hashed);
       capacity = let one = ap length c.push.ensures.suffixes in let cap = c.push.ensures.capacity in let was = c.loop-index.invariant.capacity in omega arith;
     }

@@ -15,4 +15,5 @@ loop-from-preserved c =
     }
 
 pub returns-then-is_some-clause-found : goal.returns-then-is_some-clause-found
-returns-then-is_some-clause-found c = found_at _ c.args.labels.now _ c.loop-from.from c.find-offset.result c.loop-from.invariant.new (omega arith) refl c.find-offset.ensures (sym c.is_some.ensures ∙ c.if-is_some.true)
+returns-then-is_some-clause-found c = found_at _ c.args.labels.now _ c.loop-from.from c.find-offset.result c.loop-from.invariant.new
+    (omega arith) refl c.find-offset.ensures (sym c.is_some.ensures ∙ c.if-is_some.true)

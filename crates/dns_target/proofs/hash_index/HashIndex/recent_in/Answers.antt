@@ -15,6 +15,7 @@ is_flat_name_at-requires c =
 pub returns-clause-there : goal.returns-clause-there
 returns-clause-there c =
     let parent = subst (λ (r : Option ℕ). IsParent c.args.content.now c.args.self.now.suffixes.suffixes r) c.in-Some.is c.requires.recent in
-    let encoded = subst (λ (p : ℕ). NameAt c.args.content.now p parent.0) (sym c.from.ensures) (parent_is_at c.args.content.now c.args.self.now.suffixes.suffixes c.in-Some.offset parent c.requires.entries.is_table) in
+    let encoded = subst (λ (p : ℕ). NameAt c.args.content.now p parent.0) (sym c.from.ensures)
+    (parent_is_at c.args.content.now c.args.self.now.suffixes.suffixes c.in-Some.offset parent c.requires.entries.is_table) in
     let same = c.is_flat_name_at.ensures _ parent.0 encoded c.tail.ensures.name c.tail.ensures.octets c.if-not-is_flat_name_at.false in
     subst (λ (n : Labels). ParentIsName (table_in c.args.content.now (table_entries_in c.args.self.now.suffixes.suffixes)) (Some c.in-Some.offset) n) same parent.1

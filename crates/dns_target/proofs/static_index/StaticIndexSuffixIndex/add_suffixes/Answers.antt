@@ -18,6 +18,8 @@ loop-index-preserved c =
     let within : c.args.count ≤ length c.args.labels.now = let a = c.requires.add.within in let f = found_within _ c.args.labels.now _ _ c.requires.add.found.there in omega arith in
     record {
       within = let l = c.loop-index.invariant.within in omega arith;
-      entries = one_added c.args.self.now c.loop-index.self c.push.new.self c.args.count c.args.labels.now c.args.offset (length c.args.content.now) c.loop-index.index (c.loop-index.index - 1) _ k c.loop-index.invariant.within within c.loop-index.invariant.entries (ap (λ n. c.args.offset + n) c.start.ensures.start) c.push.ensures;
+      entries = one_added c.args.self.now c.loop-index.self c.push.new.self c.args.count c.args.labels.now c.args.offset
+          (length c.args.content.now) c.loop-index.index (c.loop-index.index - 1) _ k c.loop-index.invariant.within within
+          c.loop-index.invariant.entries (ap (λ n. c.args.offset + n) c.start.ensures.start) c.push.ensures;
       size = let one = ap length c.push.ensures in let was = c.loop-index.invariant.size in omega arith;
     }

@@ -10,7 +10,9 @@ invariant_of-self c =
     let spare_capacity : 0 < spare c.self.inside.offsets = let r = c.requires.spare_capacity in omega arith in
     let updates = ok_part _ (c.insert.ensures.succeeds spare_capacity) c.insert.ensures.updates in
     let new : find c.args.self.now.suffixes c.set.new.self.label.items c.set.new.self.parent ≡ None = rw (c.set.ensures.label, c.set.ensures.parent) c.requires.new in
-    (tabled_push c.self.inside.offsets c.insert.new.self c.self.inside.keys.items _ _ c.set.new.self c.args.offset c.args.self.now.suffixes c.self.invariant (ap (λ (t : KeyedSuffixes). t.suffixes) c.self.view_is) c.push_reserved.ensures.items (one_key _ _ _ _ c.set-2.ensures.label c.set-2.ensures.parent c.set.ensures.label c.set.ensures.parent) updates.0 new).0
+    (tabled_push c.self.inside.offsets c.insert.new.self c.self.inside.keys.items _ _ c.set.new.self c.args.offset c.args.self.now.suffixes
+    c.self.invariant (ap (λ (t : KeyedSuffixes). t.suffixes) c.self.view_is) c.push_reserved.ensures.items
+    (one_key _ _ _ _ c.set-2.ensures.label c.set-2.ensures.parent c.set.ensures.label c.set.ensures.parent) updates.0 new).0
 
 pub returns-clause-suffixes : goal.returns-clause-suffixes
 returns-clause-suffixes c =
@@ -20,5 +22,7 @@ returns-clause-suffixes c =
     let new : find c.args.self.now.suffixes c.set.new.self.label.items c.set.new.self.parent ≡ None = rw (c.set.ensures.label, c.set.ensures.parent) c.requires.new in
     let label = c.set.ensures.label in
     let parent = c.set.ensures.parent in
-    (tabled_push c.self.inside.offsets c.insert.new.self c.self.inside.keys.items _ _ c.set.new.self c.args.offset c.args.self.now.suffixes c.self.invariant (ap (λ (t : KeyedSuffixes). t.suffixes) c.self.view_is) c.push_reserved.ensures.items (one_key _ _ _ _ c.set-2.ensures.label c.set-2.ensures.parent c.set.ensures.label c.set.ensures.parent) updates.0 new).1
+    (tabled_push c.self.inside.offsets c.insert.new.self c.self.inside.keys.items _ _ c.set.new.self c.args.offset c.args.self.now.suffixes
+    c.self.invariant (ap (λ (t : KeyedSuffixes). t.suffixes) c.self.view_is) c.push_reserved.ensures.items
+    (one_key _ _ _ _ c.set-2.ensures.label c.set-2.ensures.parent c.set.ensures.label c.set.ensures.parent) updates.0 new).1
     ∙ (λ i. record { label = label i; parent = parent i; offset = c.args.offset; end = c.args.end } ∷ c.args.self.now.suffixes)

@@ -13,13 +13,16 @@ index_mut-requires c =
 pub loop-last-preserved-in-None : goal.loop-last-preserved-in-None
 loop-last-preserved-in-None c = (
   linked_pop _ _ _ c.in-Some-pop.node c.loop-last.invariant.0 c.in-Some-pop.ensures.items c.in-None.is,
-  cut-popped entry_of (λ (t : Entry). t.end) c.args.len _ _ _ c.in-Some-pop.node c.in-Some.last.now c.in-Some-pop.ensures.items c.deref.ensures.value c.in-Some.ensures.value c.if-last-len.false ∙ c.loop-last.invariant.1,
+  cut-popped entry_of (λ (t : Entry). t.end) c.args.len _ _ _ c.in-Some-pop.node c.in-Some.last.now c.in-Some-pop.ensures.items
+      c.deref.ensures.value c.in-Some.ensures.value c.if-last-len.false ∙ c.loop-last.invariant.1,
 )
 
 pub loop-last-preserved : goal.loop-last-preserved
 loop-last-preserved c =
-    let done = linked_pop_at _ _ _ _ c.in-Some-pop.node _ c.index_mut.result.now c.in-Some-parent.i c.loop-last.invariant.0 c.in-Some-pop.ensures.items c.in-Some-parent.is refl c.index_mut.ensures.value refl refl refl refl in (
+    let done = linked_pop_at _ _ _ _ c.in-Some-pop.node _ c.index_mut.result.now c.in-Some-parent.i c.loop-last.invariant.0
+    c.in-Some-pop.ensures.items c.in-Some-parent.is refl c.index_mut.ensures.value refl refl refl refl in (
       done.0,
       ap (cut_entries c.args.len) done.1
-          ∙ cut-popped entry_of (λ (t : Entry). t.end) c.args.len _ _ _ c.in-Some-pop.node c.in-Some.last.now c.in-Some-pop.ensures.items c.deref.ensures.value c.in-Some.ensures.value c.if-last-len.false ∙ c.loop-last.invariant.1,
+          ∙ cut-popped entry_of (λ (t : Entry). t.end) c.args.len _ _ _ c.in-Some-pop.node c.in-Some.last.now c.in-Some-pop.ensures.items
+          c.deref.ensures.value c.in-Some.ensures.value c.if-last-len.false ∙ c.loop-last.invariant.1,
     )

@@ -6,11 +6,13 @@ use Rattle.dns_target.proofs.tree_index.TreeIndex.find.Goals as goal
 
 pub newest_of-at-requires : goal.newest_of-at-requires
 newest_of-at-requires c =
-    subst (λ (n : ℕ). IsIn n c.args.parent) (length-of c.self.inside.nodes.items c.args.self.now.entries (ap (λ (s : Shape). s.entries) c.self.view_is) ∙ ap length (sym c.deref.ensures.value)) c.requires.parent
+    subst (λ (n : ℕ). IsIn n c.args.parent) (length-of c.self.inside.nodes.items c.args.self.now.entries
+    (ap (λ (s : Shape). s.entries) c.self.view_is) ∙ ap length (sym c.deref.ensures.value)) c.requires.parent
 
 pub loop-at-init : goal.loop-at-init
 loop-at-init c =
-    walk_begins c.self.inside.nodes.items c.args.self.now.entries c.self.inside.newest c.args.parent c.newest_of-at.result c.args.label.now (ap (λ (s : Shape). s.entries) c.self.view_is) c.self.invariant c.requires.tree c.requires.parent
+    walk_begins c.self.inside.nodes.items c.args.self.now.entries c.self.inside.newest c.args.parent c.newest_of-at.result c.args.label.now
+    (ap (λ (s : Shape). s.entries) c.self.view_is) c.self.invariant c.requires.tree c.requires.parent
     (c.newest_of-at.ensures ∙ ap (λ (ns : List Node). get_or (code c.self.inside.newest ∷ children_of ns) (code c.args.parent) 0) c.deref.ensures.value)
 
 -- the search at the node that is compared, for the parent of that node
@@ -29,13 +31,15 @@ returns-then-is c =
     let here = subst (λ (o : Option ℕ). IsWalk c.args.self.now.entries c.args.parent (c.args.label.now ∷ name_at c.args.self.now.entries c.args.parent) o) c.in-Some.is c.loop-at.invariant in (
       here.0,
       found_here c.args.self.now.entries c.args.parent c.args.label.now c.in-Some.i c.requires.tree here.0 here.2
-          (label_there c.self.inside.nodes.items c.args.self.now.entries c.index.result.now c.args.label.now c.in-Some.i _ true (ap (λ (s : Shape). s.entries) c.self.view_is) here.0 c.index.ensures c.is.ensures c.if-is.true),
+          (label_there c.self.inside.nodes.items c.args.self.now.entries c.index.result.now c.args.label.now c.in-Some.i _ true
+          (ap (λ (s : Shape). s.entries) c.self.view_is) here.0 c.index.ensures c.is.ensures c.if-is.true),
     )
 
 pub older-at-requires-clause-other : goal.older-at-requires-clause-other
 older-at-requires-clause-other c =
     let here = subst (λ (o : Option ℕ). IsWalk c.args.self.now.entries c.args.parent (c.args.label.now ∷ name_at c.args.self.now.entries c.args.parent) o) c.in-Some.is c.loop-at.invariant in
-    label_there c.self.inside.nodes.items c.args.self.now.entries c.index.result.now c.args.label.now c.in-Some.i _ false (ap (λ (s : Shape). s.entries) c.self.view_is) here.0 c.index.ensures c.is.ensures c.if-is.false
+    label_there c.self.inside.nodes.items c.args.self.now.entries c.index.result.now c.args.label.now c.in-Some.i _ false
+    (ap (λ (s : Shape). s.entries) c.self.view_is) here.0 c.index.ensures c.is.ensures c.if-is.false
 
 pub loop-at-smaller : goal.loop-at-smaller
 loop-at-smaller c = fewer_follow c.older-at.result c.in-Some.i _ c.older-at.ensures.older (ap code c.in-Some.is)
