@@ -1,5 +1,6 @@
 //! RDATA in presentation format (RFC 1035 section 5.1; opaque data: RFC 3597 section 5).
-ghost use Rattle.std.specs.Prelude.{IfSome, Some};
+ghost use Rattle.std.specs.Prelude.{false, IfSome, OnErr, Some, ◌≡◌, ◌<◌, [], ◌∷◌};
+ghost use Rattle.std.specs.Fmt.{digit_glyph};
 ghost use Rattle.std.specs.List.{flat_map};
 ghost use Rattle.dns_print.specs.Printing.{PrintsOnOk};
 ghost use Rattle.dns_data.specs.NameData.{nsdname_of, cname_of};
@@ -10,7 +11,7 @@ use crate::a::A;
 use crate::name_data::{Cname, Ns};
 use crate::soa::Soa;
 use crate::unknown::UnknownRecordData;
-use dns_print::{TextWriter, write_value};
+use dns_print::{TextWriter, write_number, write_value};
 use dns_wire::Octets;
 use std::fmt;
 
@@ -86,17 +87,43 @@ impl<N: fmt::Display> fmt::Display for Soa<N> {
     }
 }
 
-/// Prints an octet as two lowercase hexadecimal digits.
-fn write_octet<W: TextWriter>(f: &mut W, octet: u8) -> fmt::Result
-    ensures { PrintsOnOk W.takes f.old result (hex_octet octet) f.new }
+/// The lowercase hexadecimal digit of a number.
+fn digit(number: u8) -> char
+    requires { number < 16 }
+    ensures glyph { result ≡ digit_glyph false number }
+    ensures ascii { result < 128 }
 {
-    write_value(f, format_args!("{octet:02x}"))
+    char::from(if number < 10 {
+        b'0' + number
+    } else {
+        b'a' + (number - 10)
+    })
+}
+
+/// Prints a lowercase hexadecimal digit.
+fn write_digit<W: TextWriter>(f: &mut W, number: u8) -> fmt::Result
+    requires { number < 16 }
+    ensures text { PrintsOnOk W.takes f.old result (digit_glyph false number ∷ []) f.new }
+    ensures err { OnErr result W.MayFail }
+{
+    f.write_char(digit(number))
+}
+
+/// Prints an octet as two lowercase hexadecimal digits.
+#[tactic(auto, using(dns_print::proofs::theory::Prints::prints, std::proofs::lemmas::Grind::common_steps))]
+fn write_octet<W: TextWriter>(f: &mut W, octet: u8) -> fmt::Result
+    ensures text { PrintsOnOk W.takes f.old result (hex_octet octet) f.new }
+    ensures err { OnErr result W.MayFail }
+{
+    write_digit(f, octet / 16)?;
+    write_digit(f, octet % 16)
 }
 
 /// Prints each octet as two lowercase hexadecimal digits.
 #[tactic(auto, using(dns_print::proofs::theory::Prints::prints, std::proofs::lemmas::Grind::common_steps))]
 fn write_hex<W: TextWriter>(f: &mut W, octets: &[u8]) -> fmt::Result
-    ensures { PrintsOnOk W.takes f.old result (flat_map hex_octet octets.now) f.new }
+    ensures text { PrintsOnOk W.takes f.old result (flat_map hex_octet octets.now) f.new }
+    ensures err { OnErr result W.MayFail }
 {
     for octet in octets {
         write_octet(f, *octet)?;
@@ -104,12 +131,14 @@ fn write_hex<W: TextWriter>(f: &mut W, octets: &[u8]) -> fmt::Result
     Ok(())
 }
 
-/// Prints opaque data.
+/// Prints opaque data. Fails only if the writer does.
 #[tactic(auto, using(dns_print::proofs::theory::Prints::prints, std::proofs::lemmas::Grind::common_steps))]
 fn write_opaque<W: TextWriter>(f: &mut W, octets: &[u8]) -> fmt::Result
-    ensures { PrintsOnOk W.takes f.old result (opaque_text octets.now) f.new }
+    ensures text { PrintsOnOk W.takes f.old result (opaque_text octets.now) f.new }
+    ensures err { OnErr result W.MayFail }
 {
-    write_value(f, format_args!("\\# {}", octets.len()))?;
+    f.write_text("\\# ")?;
+    write_number(f, octets.len() as u64)?;
     if octets.is_empty() {
         return Ok(());
     }

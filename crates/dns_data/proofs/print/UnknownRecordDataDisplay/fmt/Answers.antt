@@ -10,11 +10,11 @@ returns-clause-writes g c =
     λ plain ok.
     let same : c.octets.result.now ≡ unknown_octets c.args.self.now = first_of (cc, search rules) in
     subst (λ (octets : List ℕ). HasWritten g.W.Write.write_str_gives c.args.f.now (opaque_text octets) c.write_opaque.new.f) same
-    (printed_plain _ _ _ _ (c.write_opaque.ensures ok) plain)
+    (printed_plain _ _ _ _ (c.write_opaque.ensures.text ok) plain)
 
 pub returns-clause-styled : goal.returns-clause-styled
 returns-clause-styled g c =
     λ flush ok.
     let same : c.octets.result.now ≡ unknown_octets c.args.self.now = first_of (cc, search rules) in
     subst (λ (octets : List ℕ). HasWrittenStyled g.W.Write.write_str_gives c.args.f.now (opaque_text octets) c.write_opaque.new.f) same
-    (printed_styled _ _ _ _ (c.write_opaque.ensures ok) flush)
+    (printed_styled _ _ _ _ (c.write_opaque.ensures.text ok) flush)
