@@ -1,5 +1,6 @@
 pub mod theory
 mod CanonicalOrders
+mod ComparedOctets
 mod ComposedFields
 mod FieldLemmas
 mod ItemSteps

@@ -12,6 +12,7 @@ pub mod Gateways
 pub mod HostIdentities
 pub mod LaidOut
 pub mod Layouts
+pub mod LayoutTypes
 pub mod MadeData
 pub mod NamesOfTypes
 pub mod OrderLaws
@@ -28,4 +29,5 @@ pub mod Skipping
 pub mod Strings
 pub mod Table
 pub mod TypeMaps
+pub mod UncompressedData
 pub mod Values

@@ -248,7 +248,7 @@ pub mod fields {
     pub use dns_data_read::{from_text, read_record};
     pub use dns_fields::{
         DataOf, Encoded, Field, FieldData, Fields, Kind, OPAQUE, OwnedFieldData, RecordFields,
-        Shape, TABLE, Value, fields_of, laws,
+        Shape, TABLE, Value, fields_of, laws, layout_type,
     };
     pub use dns_fields_text::{
         AddressPrefix, AddressPrefixes, DataText, Parameter, Parameters, RecordText, Strings,
