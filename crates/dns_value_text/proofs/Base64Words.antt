@@ -33,7 +33,7 @@ back_bytes : (a b : List ℕ) → IsBytes (a ++ b) → IsBytes b
 back_bytes [] b h = h
 back_bytes (x ∷ a) b h = back_bytes a b (λ k. h (suc k))
 
--- What is left of octets is octets.
+-- the last of octets are octets
 pub bytes-drop : (n : ℕ) (a : List ℕ) → IsBytes a → IsBytes (drop n a)
 bytes-drop n a h = back_bytes (take n a) (drop n a) (subst IsBytes (sym (take-append-drop n a)) h)
 
@@ -202,7 +202,7 @@ symbols_refused s e few is =
     let test = one_scan s few in
     err_slice _ _ _ e (few_octets s few) (rw test at (sym is))
 
--- At most four symbols represent the octets that decoding gives.
+-- at most four characters that decode to a count of octets represent that many; those that decode to none represent none
 pub symbols_counted : (s : List ℕ) (r : Result ℕ DecodeSliceError) → length s ≤ 4 → r ≡ decode_slice_of standard s 3
     → MatchOption (result_ok r) ((octets : List ℕ) → ¬ IsBase64 s octets) (RepresentsCount (IsBase64 s))
 symbols_counted s (Ok n) few is = symbols_read s n few is

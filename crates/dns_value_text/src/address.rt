@@ -1,9 +1,9 @@
 //! EUI-48 and EUI-64 addresses (RFC 7043), and 64-bit locators (RFC 6742 section 2.1.2). The addresses
 //! of IPv4 and IPv6 are std's.
-ghost use Rattle.std.specs.Prelude.{OnErr, Some, ◌++◌};
+ghost use Rattle.std.specs.Prelude.{OnErr, Some, ◌≤◌, length};
 ghost use Rattle.std.specs.List.{flat_map};
 ghost use Rattle.dns_print.specs.Printing.{PrintsOnOk};
-ghost use Rattle.dns_value_text.specs.Addresses.{eui_text, hyphen_pair, locator_text, low_pair};
+ghost use Rattle.dns_value_text.specs.Addresses.{eui_text, hyphen_pair, locator_text};
 
 use crate::hexadecimal::write_hex_octet;
 use dns_print::TextWriter;
@@ -64,14 +64,20 @@ impl fmt::Display for Eui<'_> {
     }
 }
 
-/// Prints two octets as four hexadecimal digits.
+/// Prints two octets as four hexadecimal digits. Prints nothing of fewer.
 #[tactic(auto, using(dns_print::proofs::theory::Prints::prints, std::proofs::lemmas::Grind::common_steps))]
-fn write_group<W: TextWriter>(f: &mut W, high: u8, low: u8) -> fmt::Result
-    ensures text { PrintsOnOk W.takes f.old result (low_pair high ++ low_pair low) f.new }
+fn write_group<W: TextWriter>(f: &mut W, octets: &[u8]) -> fmt::Result
+    requires { length octets.now ≤ 2 }
+    ensures text { PrintsOnOk W.takes f.old result (locator_text octets.now) f.new }
     ensures err { OnErr result W.MayFail }
 {
-    write_hex_octet(f, false, high)?;
-    write_hex_octet(f, false, low)
+    match octets {
+        [high, low] => {
+            write_hex_octet(f, false, *high)?;
+            write_hex_octet(f, false, *low)
+        }
+        _ => Ok(()),
+    }
 }
 
 /// Prints octets as hexadecimal numbers of four digits, separated by colons (RFC 6742 section 2.1.2).
@@ -81,15 +87,14 @@ pub fn write_locator<W: TextWriter>(f: &mut W, octets: &[u8]) -> fmt::Result
     ensures text { PrintsOnOk W.takes f.old result (locator_text octets.now) f.new }
     ensures err { OnErr result W.MayFail }
 {
-    match octets {
-        [high, low] => write_group(f, *high, *low),
-        [high, low, after @ ..] => {
-            write_group(f, *high, *low)?;
-            f.write_text(":")?;
-            write_locator(f, after)
-        }
-        _ => Ok(()),
+    let mut left = octets;
+    'groups: while left.len() > 2 {
+        let (group, after) = left.split_at(2);
+        write_group(f, group)?;
+        f.write_text(":")?;
+        left = after;
     }
+    write_group(f, left)
 }
 
 impl fmt::Display for Locator64 {

@@ -57,17 +57,17 @@ fn write_last<W: TextWriter>(f: &mut W, octets: &[u8]) -> fmt::Result
 }
 
 /// Prints octets in base32: digits 0 to 9 and A to V, without padding (RFC 4648 section 7).
-#[tactic(auto, using(dns_print::proofs::theory::Prints::prints, std::proofs::lemmas::Grind::common_steps))]
 pub fn write_base32<W: TextWriter>(f: &mut W, octets: &[u8]) -> fmt::Result
     ensures text { PrintsOnOk W.takes f.old result (base32_text octets.now) f.new }
     ensures err { OnErr result W.MayFail }
 {
-    if octets.len() < 5 {
-        return write_last(f, octets);
+    let mut left = octets;
+    'groups: while left.len() >= 5 {
+        let (group, after) = left.split_at(5);
+        write_digits(f, 8, number_of(group))?;
+        left = after;
     }
-    let (group, after) = octets.split_at(5);
-    write_digits(f, 8, number_of(group))?;
-    write_base32(f, after)
+    write_last(f, left)
 }
 
 impl fmt::Display for Base32<'_> {
