@@ -28,6 +28,7 @@ group_shrinks size positive octets after item e =
       | false ↦ λ t. let few = leb-false size (length octets) t in let none = group_none size octets few in absurd (cc)
     ] refl
 
+-- octets that have a group: it is the first, and then come the groups of the octets after it
 pub groups_first : (size : ℕ) (octets group after : List ℕ) → 0 < size → (group ≡ take size octets) × (after ≡ drop size octets) × (length after + size ≡ length octets)
     → groups size octets ≡ group ∷ groups size after
 groups_first size octets group after positive h =
@@ -36,6 +37,7 @@ groups_first size octets group after positive h =
     ∙ ap (λ (g : List ℕ). g ∷ groups size (drop size octets)) (sym h.0)
     ∙ ap (λ (rest : List ℕ). group ∷ groups size rest) (sym h.1)
 
+-- fewer octets than a group have none
 pub groups_none : (size : ℕ) (octets : List ℕ) → length octets < size → groups size octets ≡ []
 groups_none size octets h = items_of_none (group_at size) octets (group_none size octets h)
 
@@ -44,6 +46,7 @@ pub record Cut (k : ℕ) (octets : List ℕ) (size : ℕ) (value left : List ℕ
   pub value_is : value ≡ take size (drop k octets)
   pub left_is : left ≡ drop size (drop k octets)
 
+-- what a program cuts at the smaller of a size and the number of octets left
 pub cut_at : (k : ℕ) (octets : List ℕ) (size n : ℕ) (value left : List ℕ) → let rest = take (length octets - k) (drop k octets) in
     n ≡ min size (length rest) → value ≡ take n rest → left ≡ drop n rest → Cut k octets size value left
 cut_at k octets size n value left e front back =
@@ -59,6 +62,7 @@ string_first : (octets : List ℕ) (size : ℕ) → 1 ≤ length octets → size
 string_first [] size some e = absurd (omega arith)
 string_first (x ∷ octets) size some e = rw e refl
 
+-- octets that are not empty: their first string, and then the strings of the octets after it
 pub strings_first : (octets value left : List ℕ) (size : ℕ) → 1 ≤ length octets → size ≡ get_or octets 0 0 → Cut 1 octets size value left
     → strings_of octets ≡ value ∷ strings_of left
 strings_first octets value left size some e cut =
@@ -84,6 +88,7 @@ parameter_first (a ∷ b ∷ []) key size h = let few = h.some in absurd (omega 
 parameter_first (a ∷ b ∷ c ∷ []) key size h = let few = h.some in absurd (omega arith)
 parameter_first (a ∷ b ∷ c ∷ d ∷ octets) key size h = rw (h.key_is, h.size_is) refl
 
+-- four octets or more: their first parameter, and then the parameters of the octets after it
 pub parameters_first : (octets value left : List ℕ) (key size : ℕ) → FirstParameter octets key size → Cut 4 octets size value left
     → parameters_of octets ≡ parameter_of key value ∷ parameters_of left
 parameters_first octets value left key size h cut =
@@ -110,6 +115,7 @@ prefix_first (a ∷ b ∷ []) family size bits h = let few = h.some in absurd (o
 prefix_first (a ∷ b ∷ c ∷ []) family size bits h = let few = h.some in absurd (omega arith)
 prefix_first (a ∷ b ∷ c ∷ d ∷ octets) family size bits h = rw (h.family_is, h.size_is, h.bits_is) refl
 
+-- four octets or more: their first prefix, and then the prefixes of the octets after it
 pub prefixes_first : (octets value left : List ℕ) (family size bits : ℕ) → FirstPrefix octets family size bits → Cut 4 octets (bits % 128) value left
     → prefixes_of octets ≡ prefix_of family size bits value ∷ prefixes_of left
 prefixes_first octets value left family size bits h cut =

@@ -5,6 +5,7 @@ mod FieldsLemmas
 mod HostLemmas
 mod ItemKinds
 mod KeyLemmas
+mod KindTexts
 mod NameAtLemmas
 mod OctetLemmas
 mod PrefixLemmas

@@ -52,6 +52,7 @@ few_labels : (name : Labels) → length name ≤ name_size name
 few_labels [] = omega arith
 few_labels (label ∷ name) = let others = few_labels name in omega arith
 
+-- octets that begin with an uncompressed name: it is the one that is found
 pub name_found : (name : Labels) (octets after : List ℕ) → IsName name → octets ≡ uncompressed name ++ after → name_at octets ≡ Some (name, after)
 name_found name octets after is e =
     let size = ap length e in
@@ -136,6 +137,7 @@ found_at zero size octets after name small e = absurd (cc)
 found_at (suc count) size [] after name small e = absurd (cc)
 found_at (suc count) size (n ∷ octets) after name small e = at_first count (found_at count) size n octets after name small (nat_eq n 0) refl e
 
+-- the octets begin with the name that is found
 pub name_is_found : (octets after : List ℕ) (name : Labels) → name_at octets ≡ Some (name, after) → (octets ≡ uncompressed name ++ after) × IsName name
 name_is_found octets after name e =
     let found = found_at (length octets) 0 octets after name (omega arith) e in
@@ -159,6 +161,7 @@ ends_from b p s (label ∷ name) after labels short e =
     NameContinues.label (label_begins b p n is.some is.short there) (omega arith) fits
     (subst (λ q. NameContinues b (p + 1 + n) (s + n + 1) q) end (ends_from b (p + 1 + n) (s + n + 1) name after (All-tail IsLabel label name labels) (omega arith) rest))
 
+-- a name that octets begin with ends after its labels and the root label
 pub name_ends : (octets after : List ℕ) (name : Labels) → IsName name → octets ≡ uncompressed name ++ after → NameEndsAt octets 0 (name_size name + 1)
 name_ends octets after name is e =
     let zero_more : 0 + (name_size name + 1) ≡ name_size name + 1 = omega arith in

@@ -31,5 +31,6 @@ names_bare (suc n) (size ∷ octets) h e =
     ∙ and_from (list_all is_bare (take size octets)) (are_bare (strings_of (drop size octets))) name.0
     (names_bare n (drop size octets) (omega (arith, length-drop size octets)) name.1)
 
+-- no octet of protocols that are accepted has to be escaped
 pub protocols_bare : (value : List ℕ) → are_protocols value ≡ true → are_bare (strings_of value) ≡ true
 protocols_bare value e = names_bare (length value) value (omega arith) (and_parts (are_protocols_from 0 value) (not (length value == 0)) e).0

@@ -38,6 +38,7 @@ octet_taken first count octet block left none some =
     let last : count ≡ 0 = omega arith in
     (ap (λ (n : ℕ). types_after first n octet block left) last ∙ octet_next first octet block left (get_or block 0 0) some refl, (let t = length-take (length block - 1) (drop 1 block) in let d = length-drop 1 block in omega (arith, t, d)))
 
+-- the same where no octet is left: the next block
 pub block_taken : (first count octet : ℕ) (block left : List ℕ) (next : ℕ) (own after : List ℕ) → count ≤ 0 → length block < 1 → block_at left ≡ Some (record { first = next; octets = own }, after)
     → (types_after first count octet block left ≡ types_after next 0 0 own after) × (0 + (9 * length own + 9 * length after) < count + (9 * length block + 9 * length left))
 block_taken first count octet block left next own after none empty e =

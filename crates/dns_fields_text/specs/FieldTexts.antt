@@ -109,6 +109,32 @@ value_text kind (String octets) = string_text kind octets
 value_text kind (Sized octets) = Some (sized_text octets)
 value_text kind (Octets octets) = octets_text kind octets
 
+-- whether a field of this kind always has a text
+abbrev pub always_has_text : Kind → Bool
+always_has_text kinds.Number8 = true
+always_has_text kinds.Number16 = true
+always_has_text kinds.Number32 = true
+always_has_text kinds.Number48 = true
+always_has_text kinds.Seconds = true
+always_has_text kinds.Ipv4 = true
+always_has_text kinds.Ipv6 = true
+always_has_text kinds.Eui48 = true
+always_has_text kinds.Eui64 = true
+always_has_text kinds.Locator64 = true
+always_has_text kinds.RecordType = true
+always_has_text kinds.CompressibleName = true
+always_has_text kinds.PointedName = true
+always_has_text kinds.LowercasedName = true
+always_has_text kinds.PlainName = true
+always_has_text kinds.CharacterString = true
+always_has_text kinds.Salt = true
+always_has_text kinds.SizedOctets = true
+always_has_text kinds.Strings = true
+always_has_text kinds.Text = true
+always_has_text kinds.TypeBitMap = true
+always_has_text kinds.ServiceParameters = true
+always_has_text kind = false
+
 -- whether the text of a field of this kind begins with a space
 abbrev pub begins_with_space : Kind → Bool
 begins_with_space kinds.TypeBitMap = true

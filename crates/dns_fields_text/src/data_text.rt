@@ -1,13 +1,15 @@
 //! Record data in presentation format (RFC 1035 section 5.1, RFC 3597 section 5).
 ghost use Rattle.std.specs.Prelude.{IfSome, OnErr, OnSome, ◌≡◌, [], Some, is_some};
+ghost use Rattle.std.specs.List.{list_all};
 ghost use Rattle.dns_fields.specs.FieldParts.{named_part};
 ghost use Rattle.dns_print.specs.Printing.{PrintsOnOk};
 ghost use Rattle.dns_fields_text.specs.DataTexts.{data_fields, data_line};
-ghost use Rattle.dns_fields_text.specs.FieldTexts.{field_text, fields_text, space_before};
+ghost use Rattle.dns_fields_text.specs.FieldTexts.{always_has_text, field_text, fields_text, space_before};
 
-use crate::field::{begins_with_space, has_text, write_text};
+use crate::field::{always_has_text, begins_with_space, has_text, write_text};
 use crate::unknown::write_unknown;
-use dns_fields::{Field, FieldData, Kind};
+use dns_data::RecordData;
+use dns_fields::{Field, FieldData, Kind, fields_of};
 use dns_print::TextWriter;
 use std::fmt;
 
@@ -17,8 +19,20 @@ use std::fmt;
 #[derive(Clone, Copy, Debug)]
 pub struct DataText<'d, 'a>(pub &'d FieldData<'a>);
 
+/// Whether fields of these kinds have a presentation format, whatever their values are.
+fn always_have_texts(fields: &[(&str, Kind)]) -> bool
+    ensures { result ≡ list_all (λ field. always_has_text field.1) fields.now }
+{
+    for field in fields {
+        if !always_has_text(field.1) {
+            return false;
+        }
+    }
+    true
+}
+
 /// Whether each field has a presentation format.
-fn is_printable(data: &FieldData<'_>) -> bool
+fn each_has_text(data: &FieldData<'_>) -> bool
     ensures { result ≡ is_some (fields_text [] (data_fields data.now)) }
 {
     for field in data.fields() {
@@ -27,6 +41,17 @@ fn is_printable(data: &FieldData<'_>) -> bool
         }
     }
     true
+}
+
+/// Whether each field has a presentation format. Reads no fields of a type whose fields always have
+/// one.
+fn is_printable(data: &FieldData<'_>) -> bool
+    ensures { result ≡ is_some (fields_text [] (data_fields data.now)) }
+{
+    if always_have_texts(fields_of(data.rtype().to_int())) {
+        return true;
+    }
+    each_has_text(data)
 }
 
 /// Prints the separator, unless the text of the field begins with a space.

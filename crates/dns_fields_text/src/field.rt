@@ -3,7 +3,7 @@ ghost use Rattle.std.specs.Prelude.{OnErr, OnSome, ◌≡◌, ◌++◌, IfSome, 
 ghost use Rattle.dns_fields.specs.Values.{value_shown};
 ghost use Rattle.dns_fields.specs.declared.kind.Kind.TheVariants as Kind;
 ghost use Rattle.dns_print.specs.Printing.{PrintsOnOk};
-ghost use Rattle.dns_fields_text.specs.FieldTexts.{begins_with_space, ipv4_of, ipv6_of, number_text, octets_text, parameters_text, prefixes_text, salt_text, sized_text, string_text, strings_text, value_text};
+ghost use Rattle.dns_fields_text.specs.FieldTexts.{always_has_text, begins_with_space, ipv4_of, ipv6_of, number_text, octets_text, parameters_text, prefixes_text, salt_text, sized_text, string_text, strings_text, value_text};
 ghost use Rattle.dns_fields_text.specs.GatewayTexts.{gateway_text, relay_text};
 ghost use Rattle.dns_fields_text.specs.HostIdentities.{identity_text};
 ghost use Rattle.dns_fields_text.specs.ItemsLeft.{parameter_item};
@@ -91,6 +91,37 @@ pub(crate) fn has_text(kind: Kind, value: &Value<'_>) -> bool
         Value::Octets(octets) => octets_have_text(kind, octets),
         _ => true,
     }
+}
+
+/// Whether a field of this kind has a presentation format, whatever its value is.
+pub(crate) fn always_has_text(kind: Kind) -> bool
+    ensures { result ≡ always_has_text kind }
+{
+    matches!(
+        kind,
+        Kind::Number8
+            | Kind::Number16
+            | Kind::Number32
+            | Kind::Number48
+            | Kind::Seconds
+            | Kind::Ipv4
+            | Kind::Ipv6
+            | Kind::Eui48
+            | Kind::Eui64
+            | Kind::Locator64
+            | Kind::RecordType
+            | Kind::CompressibleName
+            | Kind::PointedName
+            | Kind::LowercasedName
+            | Kind::PlainName
+            | Kind::CharacterString
+            | Kind::Salt
+            | Kind::SizedOctets
+            | Kind::Strings
+            | Kind::Text
+            | Kind::TypeBitMap
+            | Kind::ServiceParameters
+    )
 }
 
 /// Whether the text of a field of this kind begins with a space. Such fields only follow others.

@@ -1,5 +1,5 @@
 //! Address prefixes in presentation format (RFC 3123 section 5).
-ghost use Rattle.std.specs.Prelude.{OnErr, OnSome, IfSome, ◌≡◌, ◌≤◌, ◌++◌, codes, decimal, length, true};
+ghost use Rattle.std.specs.Prelude.{OnErr, OnSome, IfNone, IfSome, IsErr, ◌≡◌, ◌≤◌, ◌++◌, codes, decimal, length, true};
 ghost use Rattle.dns_print.specs.Printing.{PrintsOnOk};
 ghost use Rattle.dns_fields_text.specs.Prefixes.{address_text, fits, has_word, is_trimmed, padded, prefix_text, prefix_word, sign};
 ghost use Rattle.dns_fields_text.specs.ItemsLeft.{prefix_item};
@@ -123,6 +123,8 @@ pub fn write_prefix<W: TextWriter>(f: &mut W, prefix: &AddressPrefix<'_>) -> fmt
     ensures text { IfSome (prefix_word (prefix_item prefix.now))
         (λ text. PrintsOnOk W.takes f.old result text f.new) }
     ensures err { OnSome (prefix_word (prefix_item prefix.now)) (OnErr result W.MayFail) }
+    ensures none { IfNone (prefix_word (prefix_item prefix.now)) (IsErr result) }
+    ensures same { IfNone (prefix_word (prefix_item prefix.now)) (f.new ≡ f.old) }
 {
     if has_word(prefix) {
         write_known(f, prefix)

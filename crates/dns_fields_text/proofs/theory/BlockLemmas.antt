@@ -21,5 +21,6 @@ block_size (window ∷ size ∷ octets) block after e =
       | false ↦ λ none. cc
     ] e
 
+-- the octets after a block are fewer than those that begin with it
 pub block_shrinks : IsShrinking block_at
 block_shrinks octets after block e = let fewer = block_size octets block after e in omega arith

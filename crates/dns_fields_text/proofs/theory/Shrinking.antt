@@ -13,12 +13,14 @@ some_same x y e = cc
 pub same_after : {A : Type 0} (x y : A × List ℕ) (o : Option (A × List ℕ)) → o ≡ Some x → o ≡ Some y → x.1 ≡ y.1
 same_after {A = A} x y o e f = ap (λ (p : A × List ℕ). p.1) (some_same x y (sym e ∙ f))
 
+-- the octets after a string are fewer than those that begin with it
 pub string_shrinks : IsShrinking string_at
 string_shrinks [] after item e = absurd (cc)
 string_shrinks (size ∷ octets) after item e =
     let is : drop size octets ≡ after = same_after (take size octets, drop size octets) (item, after) (string_at (size ∷ octets)) refl e in
     omega (arith, ap length is, length-drop size octets)
 
+-- the octets after a parameter are fewer than those that begin with it
 pub parameter_shrinks : IsShrinking parameter_at
 parameter_shrinks [] after item e = absurd (cc)
 parameter_shrinks (a ∷ []) after item e = absurd (cc)
@@ -29,6 +31,7 @@ parameter_shrinks (a ∷ b ∷ c ∷ d ∷ octets) after item e =
     let is : drop (c * 256 + d) octets ≡ after = same_after (first, drop (c * 256 + d) octets) (item, after) (parameter_at (a ∷ b ∷ c ∷ d ∷ octets)) refl e in
     omega (arith, ap length is, length-drop (c * 256 + d) octets)
 
+-- the octets after a prefix are fewer than those that begin with it
 pub prefix_shrinks : IsShrinking prefix_at
 prefix_shrinks [] after item e = absurd (cc)
 prefix_shrinks (a ∷ []) after item e = absurd (cc)

@@ -1,17 +1,19 @@
-use Rattle.std.proofs.Common.{◌≡◌, ◌∷◌, ◌∙◌, true, is_some, sym, ap, rules}
-use Rattle.dns_fields.specs.FieldParts.{fields_left, named_part}
-use Rattle.dns_fields.specs.Values.{FieldValue, part_value}
-use Rattle.dns_fields_text.proofs.FieldsLemmas.{first_has_text}
-use Rattle.dns_fields_text.specs.FieldTexts.{value_text}
+use Rattle.std.proofs.Common.{◌≡◌, ◌∙◌, [], List, true, is_some, sym, subst, rules}
+use Rattle.dns_data.specs.Layout.{IsLaidOut}
+use Rattle.dns_fields.specs.Data.{any_laid_out, parts_of, rtype_of}
+use Rattle.dns_fields.specs.FieldParts.{named_parts}
+use Rattle.dns_fields.specs.Layouts.{layout_of}
+use Rattle.dns_fields.specs.Table.{Definition, definitions, definitions_of, kinds, kinds_in}
+use Rattle.dns_fields_text.proofs.KindTexts.{all_have_texts}
+use Rattle.dns_fields_text.specs.FieldTexts.{fields_text}
 use Rattle.dns_fields_text.proofs.data_text.is_printable.Goals as goal
 
-pub loop-field-preserved : goal.loop-field-preserved
-loop-field-preserved c =
-    let item = named_part c.in-Some.field in
-    let old = fields_left c.loop-field.field-iterator in
-    let rest = fields_left c.next.new.self in
-    let left : old ≡ item ∷ rest = search rules in
-    let yes : c.has_text.result ≡ true = search rules in
-    let some : is_some (value_text item.kind (part_value item.kind item.part)) ≡ true =
-    sym (c.has_text.ensures ∙ ap (λ (v : FieldValue). is_some (value_text c.in-Some.field.kind v)) c.value.ensures) ∙ yes in
-    record { can = tt; finite = tt; same = c.loop-field.invariant.same ∙ first_has_text old item rest left some }
+pub returns-then-always_have_texts : goal.returns-then-always_have_texts
+returns-then-always_have_texts c =
+    let value = c.args.«data».now in
+    let fields = c.fields_of.result.now in
+    let same : definitions fields ≡ definitions_of (rtype_of value) = cc in
+    let laid : IsLaidOut (layout_of (kinds fields)) (parts_of value) = subst (λ (ds : List Definition). IsLaidOut (layout_of (kinds_in ds)) (parts_of value)) (sym same) (any_laid_out value).1 in
+    let yes : c.always_have_texts.result ≡ true = search rules in
+    sym (subst (λ (ds : List Definition). is_some (fields_text [] (named_parts ds (parts_of value))) ≡ true) same
+    (all_have_texts fields (parts_of value) laid (sym c.always_have_texts.ensures ∙ yes)))

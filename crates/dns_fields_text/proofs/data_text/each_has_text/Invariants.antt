@@ -2,7 +2,7 @@ use Rattle.std.proofs.Common.{◌≡◌, is_some, []}
 use Rattle.dns_fields.specs.FieldParts.{fields_left}
 use Rattle.dns_fields_text.specs.DataTexts.{data_fields}
 use Rattle.dns_fields_text.specs.FieldTexts.{fields_text}
-use Rattle.dns_fields_text.proofs.data_text.is_printable.Given as goal
+use Rattle.dns_fields_text.proofs.data_text.each_has_text.Given as goal
 
 abbrev pub invariant-loop-field : goal.invariant-loop-field
 invariant-loop-field l = record {
