@@ -18,6 +18,7 @@ use Rattle.dns_fields_read.specs.TypeBits.{AppendsBlock, AppendsBlocks, AppendsT
 use Rattle.dns_fields_read.specs.TypeMapWords.{AreTypes, HasType, IsTypeMap, has}
 use Rattle.dns_fields_read.specs.TypeWords.{IsTypeWord}
 use Rattle.dns_fields_read.proofs.BlockLemmas.{block_bytes, map_more, more_blocks, weaken}
+use Rattle.dns_fields_read.proofs.theory.AppendLemmas.{starts_after}
 use Rattle.dns_fields_read.proofs.theory.ByteLemmas.{bytes_front}
 
 -- one octet, or type, more
@@ -281,7 +282,7 @@ module _ (p : ℕ → Bool) where
     blocks_more window a.0 b.0 small a.1 b.1,
     b.2 ∙ ap (λ (xs : List ℕ). xs ++ b.0) a.2 ∙ append_assoc old (block_of window a.0) b.0,
   )
-  appends_blocks window old middle new u (Err e) small a b = b
+  appends_blocks window old middle new u (Err e) small a b = (b.0, starts_after old (block_of window a.0) middle new a.2 b.1)
 
 -- types of words
 pub or_true : (b : Bool) → b || true ≡ true

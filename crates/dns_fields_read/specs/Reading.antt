@@ -1,5 +1,5 @@
 -- What reading words returns.
-use Rattle.std.specs.Prelude.{◌≡◌, ◌⊎◌, ℕ, List, ◌++◌, Option, MatchOption, Result, MatchResult}
+use Rattle.std.specs.Prelude.{◌≡◌, ◌⊎◌, ℕ, List, ◌++◌, length, take, Option, MatchOption, Result, MatchResult}
 use Rattle.std.specs.Global.{Vec}
 use Rattle.dns_value_text.specs.declared.text_error.TextError.{TextError}
 use Rattle.dns_value_text.specs.declared.text_error.TextError.TheVariants.{BadWord, OutOfMemory}
@@ -27,6 +27,15 @@ ReadsWords Represents result = MatchResult result (λ octets. Represents octets.
 -- the same, where less is known of words at which an allocation fails
 abbrev pub ReadsWordsIf : Type 0 → (List ℕ → Type 0) → Result (Vec ℕ) TextError → Type 0
 ReadsWordsIf May Represents result = MatchResult result (λ octets. Represents octets.items) (FailsIf May Represents)
+
+-- Why two words aren't read, of which the first isn't: that the second represents no value, if so, else why the first isn't.
+abbrev pub FailsFirst : TextError → Result (Vec ℕ) TextError → TextError → Type 0
+FailsFirst first second error =
+    MatchResult second (λ _. error ≡ first) (λ other. ((other ≡ BadWord) × (error ≡ BadWord)) ⊎ ((other ≡ OutOfMemory) × (error ≡ first)))
+
+-- octets begin with these: what was there before a call still is
+abbrev pub IsStartOf : List ℕ → List ℕ → Type 0
+IsStartOf old new = take (length old) new ≡ old
 
 -- octets that the words represent are appended, or why there are none
 abbrev pub AppendsOctets : (List ℕ → Type 0) → List ℕ → List ℕ → Result Unit TextError → Type 0

@@ -8,6 +8,7 @@ use Rattle.dns_fields_text.specs.Prefixes.{is_trimmed}
 use Rattle.dns_fields_text.specs.TypeMaps.{is_small_map, map_types, octet_types}
 use Rattle.dns_value_text.specs.declared.text_error.TextError.{TextError}
 use Rattle.dns_value_text.specs.declared.text_error.TextError.TheVariants.{BadWord, OutOfMemory}
+use Rattle.dns_fields_read.specs.Reading.{IsStartOf}
 use Rattle.dns_fields_read.specs.TypeMapWords.{AreTypes, HasType, has}
 
 -- whether the mark at an index is set
@@ -46,15 +47,15 @@ pub record IsBlocks (p : ℕ → Bool) (window : ℕ) (blocks : List ℕ) : Type
   pub shape : blocks_after window 0 blocks ≡ true
   pub types : (n : ℕ) → has (map_types blocks) n ≡ is_within p (window * 256) 65536 n
 
--- the block of a window is appended, or an allocation fails
+-- the block of a window is appended; or an allocation fails, and a part of it may be
 abbrev pub AppendsBlock : (ℕ → Bool) → ℕ → List ℕ → List ℕ → Result Unit TextError → Type 0
 AppendsBlock p window old new result =
-    MatchResult result (λ _. (bits : List ℕ) × IsBits p (window * 256) 32 bits × (new ≡ old ++ block_of window bits)) (λ error. error ≡ OutOfMemory)
+    MatchResult result (λ _. (bits : List ℕ) × IsBits p (window * 256) 32 bits × (new ≡ old ++ block_of window bits)) (λ error. (error ≡ OutOfMemory) × IsStartOf old new)
 
 -- the same of the windows from this one on
 abbrev pub AppendsBlocks : (ℕ → Bool) → ℕ → List ℕ → List ℕ → Result Unit TextError → Type 0
 AppendsBlocks p window old new result =
-    MatchResult result (λ _. (blocks : List ℕ) × IsBlocks p window blocks × (new ≡ old ++ blocks)) (λ error. error ≡ OutOfMemory)
+    MatchResult result (λ _. (blocks : List ℕ) × IsBlocks p window blocks × (new ≡ old ++ blocks)) (λ error. (error ≡ OutOfMemory) × IsStartOf old new)
 
 -- why there are no types: `BadWord` if a word represents none. `OutOfMemory` if an allocation fails, where each word represents one.
 abbrev pub FailsAsTypes : List (Bor (List ℕ)) → TextError → Type 0

@@ -30,10 +30,10 @@ pub record IsTypeMapOf (types octets : List ℕ) : Type 0 where
   pub blocks : is_type_map octets ≡ true
   pub bits : (n : ℕ) → n < 2 ^ 16 → has (map_types octets) n ≡ has types n
 
--- the bit map of the types is appended, or an allocation fails
+-- the bit map of the types is appended; or an allocation fails, and nothing is
 abbrev pub AppendsTypeMap : List ℕ → List ℕ → List ℕ → Result Unit TextError → Type 0
 AppendsTypeMap types old new result =
-    MatchResult result (λ _. (map : List ℕ) × IsTypeMapOf types map × (new ≡ old ++ map)) (λ error. error ≡ OutOfMemory)
+    MatchResult result (λ _. (map : List ℕ) × IsTypeMapOf types map × (new ≡ old ++ map)) (λ error. (error ≡ OutOfMemory) × (new ≡ old))
 
 -- each of the words represents a type, and the octets are the bit map of these types: a bit is set exactly if a word represents its type
 pub record IsTypeMap (words : List (Bor (List ℕ))) (octets : List ℕ) : Type 0 where

@@ -9,13 +9,14 @@ use dns_wire::Name;
 fn is_unquoted(escaped: bool, word: &[u8]) -> bool
     ensures { result ≡ is_unquoted escaped word.now }
 {
-    let [octet, after @ ..] = word else {
-        return true;
-    };
-    if *octet == b'"' && !escaped {
-        return false;
+    let mut escaped = escaped;
+    for octet in word {
+        if *octet == b'"' && !escaped {
+            return false;
+        }
+        escaped = *octet == b'\\' && !escaped;
     }
-    is_unquoted(*octet == b'\\' && !escaped, after)
+    true
 }
 
 /// A name: labels separated by dots, with an optional final dot. A single dot is the root.

@@ -135,11 +135,16 @@ pub(crate) fn push_types(types: &mut Vec<u16>, words: &[&str]) -> Result<(), Tex
 }
 
 /// Appends the type bit map of these types, which are in any order. Fails only if an allocation
-/// fails.
+/// fails, and then appends nothing.
 pub fn push_type_map(map: &mut Vec<u8>, types: &[u16]) -> Result<(), TextError>
     ensures { AppendsTypeMap types.now map.old.items map.new.items result }
 {
-    push_blocks(map, types, 0)
+    let length = map.len();
+    if let Err(error) = push_blocks(map, types, 0) {
+        map.truncate(length);
+        return Err(error);
+    }
+    Ok(())
 }
 
 /// The type bit map of the types of words.

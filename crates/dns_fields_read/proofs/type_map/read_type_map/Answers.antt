@@ -11,4 +11,4 @@ returns-in-Ok c =
     c.new-types.ensures.items c.new-map.ensures.items c.deref.ensures.value c.in_default.ensures c.in-Ok.ensures
 
 pub returns : goal.returns
-returns c = inl (c.in-Err-push_blocks.ensures, c.in_default.ensures.2)
+returns c = inl (c.in-Err-push_blocks.ensures.0, c.in_default.ensures.2)

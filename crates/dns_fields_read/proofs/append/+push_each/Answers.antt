@@ -2,7 +2,7 @@ use Rattle.std.proofs.Common.{◌≡◌, ◌∙◌, ◌-◌, ◌/◌, ◌%◌, �
 use Rattle.std.proofs.lemmas.Grind.{common_steps}
 use Rattle.dns_fields_read.specs.Base32Words.{last_octets}
 use Rattle.dns_fields_read.proofs.Base32Lemmas.{last_more, last_none}
-use Rattle.dns_fields_read.proofs.append.+push_last.Goals as goal
+use Rattle.dns_fields_read.proofs.append.+push_each.Goals as goal
 
 pub returns-then-size-eq0-clause-ok : goal.returns-then-size-eq0-clause-ok
 returns-then-size-eq0-clause-ok t c =
@@ -13,8 +13,8 @@ pub returns-clause-ok : goal.returns-clause-ok
 returns-clause-ok t c =
     let some : 0 < c.args.size = omega arith in
     let last = last_more c.args.size c.args.number some in
-    let pushed : c.push.new.self.items ≡ c.push_last.new.octets.items ++ (c.args.number % 256) ∷ [] = grind (arith, common_steps) in
-    let before : c.push_last.new.octets.items ≡ c.args.octets.now.items ++ last_octets (c.args.size - 1) (c.args.number / 256) = grind (arith, common_steps) in
+    let pushed : c.push.new.self.items ≡ c.push_each.new.octets.items ++ (c.args.number % 256) ∷ [] = grind (arith, common_steps) in
+    let before : c.push_each.new.octets.items ≡ c.args.octets.now.items ++ last_octets (c.args.size - 1) (c.args.number / 256) = grind (arith, common_steps) in
     pushed
     ∙ ap (λ (xs : List ℕ). xs ++ (c.args.number % 256) ∷ []) before
     ∙ append_assoc c.args.octets.now.items (last_octets (c.args.size - 1) (c.args.number / 256)) ((c.args.number % 256) ∷ [])
