@@ -1,21 +1,20 @@
 -- Which fault a row reports.
-use Rattle.std.proofs.Common.{◌≡◌, ℕ, zero, suc, ◌+◌, ◌-◌, ◌*◌, ◌/◌, ◌%◌, ◌<◌, ◌≤◌, List, [], ◌∷◌, length, slice_get, Option, Some, None, Ok, Err, inl, inr, refl, arith, ap, ◌∙◌}
-use Rattle.std.proofs.lemmas.Bool.Decides.{nat_tests}
-use Rattle.std.proofs.lemmas.Grind.{common_steps}
-use Rattle.std.proofs.lemmas.Option.{slice_get_cases, slice_get_past}
+use Rattle.std.proofs.Common.{◌≡◌, ℕ, ◌+◌, ◌-◌, ◌<◌, ◌≤◌, ◌⊎◌, Bool, true, false, if◌then◌else◌, nat_lt, List, length, slice_get, Option, Some, None, Ok, Err, inl, inr, refl, arith, ap}
+use Rattle.std.proofs.lemmas.Option.{slice_get_past}
+use Rattle.dns_octets.specs.declared.error.FormError.{FormError}
 use Rattle.dns_octets.specs.declared.error.TheConstants.FormError.{BAD_LABEL, BAD_POINTER, LONG_NAME}
-use Rattle.dns_name.specs.Names.{head_at, head_of, max_size, Fault, Faulty, Labels, NameAt}
+use Rattle.dns_name.specs.Names.{head_at, head_of, max_size, pointer_of, Fault, Faulty, Labels, NameAt}
 use Rattle.dns_name.specs.Names.Fault.{ShortInput, Form}
 use Rattle.dns_name.specs.Names.Faulty.{head, long, cut, ahead, label, pointer}
+use Rattle.dns_name.specs.declared.head.Head.{Head}
 use Rattle.dns_name.specs.declared.head.Head.TheVariants.{Root, Label, Pointer}
-use Rattle.dns_name.proofs.theory.HeadLemmas.{at_label, at_pointer, label_begins, pointer_begins, root_begins}
+use Rattle.dns_name.proofs.theory.HeadLemmas.{at_label, at_pointer}
 use Rattle.dns_rows.specs.Faults.{StopsName, ReportsFault}
 use Rattle.dns_rows.specs.Faults.StopsName.{none as no_octet, half as half_pointer, cut as cut_label, label as no_label, long as long_name, ahead as ahead_pointer, after as after_pointer, pointed}
 use Rattle.dns_rows.specs.declared.row.Fault.{Fault as RowFault}
 use Rattle.dns_rows.specs.declared.row.Fault.TheVariants as faults
 use Rattle.dns_rows.specs.declared.row.Field.TheVariants as fields
 use Rattle.dns_rows.specs.declared.row.NameOf.{NameOf}
-use Rattle.dns_rows.specs.Rows.{target_in}
 use Rattle.dns_rows.specs.Walks.{IsLabelAt}
 
 -- where a name can be read, a label, pointer or root begins
@@ -32,15 +31,6 @@ form_of_encoded b p s f name x (cut k w short) = let l = at_label b x k in absur
 form_of_encoded b p s f name x (ahead k w) = let l = at_pointer b x k in absurd (omega (arith, l.0, w))
 form_of_encoded b p s f name x (label {n = n} k short fits w) = let l = at_label b x k in form_of_encoded b (p + 1 + n) (s + n + 1) f l.others l.is_encoded w
 form_of_encoded b p s f name x (pointer {t = t} k back w) = form_of_encoded b t s f name (at_pointer b x k).1 w
-
--- no root label begins where a name can't be read
-pub no_root : (b : List ℕ) (p s : ℕ) (f : Fault) → Faulty b p s f → head_at b p ≡ Ok Root → ⊥
-no_root b p s f (head k) h = cc (h, k)
-no_root b p s f (long k w) h = cc (h, k)
-no_root b p s f (cut k w short) h = cc (h, k)
-no_root b p s f (ahead k w) h = cc (h, k)
-no_root b p s f (label k short fits w) h = cc (h, k)
-no_root b p s f (pointer k back w) h = cc (h, k)
 
 -- the faults where nothing begins, and at a label that is too long or incomplete
 fault_of_none : (b : List ℕ) (p s : ℕ) (f g : Fault) → head_at b p ≡ Err g → Faulty b p s f → f ≡ g
@@ -85,46 +75,63 @@ none_head b p h = ap (λ (x : Option ℕ). head_of x (slice_get b (p + 1))) h
 pub past_head : (b : List ℕ) (p : ℕ) → length b ≤ p → head_at b p ≡ Err ShortInput
 past_head b p past = none_head b p (slice_get_past b p past)
 
-pub no_octet_there : (b : List ℕ) (p : ℕ) → slice_get b p ≡ None → length b ≤ p
-no_octet_there b p none = elim (slice_get_cases b p).1 [ inl x ↦ absurd (cc (none, x.2)) | inr x ↦ x.0 ]
+-- what begins no label, pointer or root though its octets are there
+cause_of_pointer : (first : ℕ) (second : Option ℕ) (cause : FormError) → pointer_of first second ≡ Err (Form cause) → ⊥
+cause_of_pointer first None cause h = cc h
+cause_of_pointer first (Some second) cause h = cc h
 
-head_of_bad : (n : ℕ) (second : Option ℕ) → 64 ≤ n → n < 192 → head_of (Some n) second ≡ Err (Form BAD_LABEL)
-head_of_bad n second from to = grind (arith, nat_tests, common_steps)
+cause_of_octet : (first : ℕ) (second : Option ℕ) (cause : FormError) (x y z : Bool)
+    → (if x then Ok Root else if y then Ok (Label first) else if z then Err (Form BAD_LABEL) else pointer_of first second) ≡ Err (Form cause) → cause ≡ BAD_LABEL
+cause_of_octet first second cause true y z h = cc h
+cause_of_octet first second cause false true z h = cc h
+cause_of_octet first second cause false false true h = cc h
+cause_of_octet first second cause false false false h = absurd (cause_of_pointer first second cause h)
 
-pub bad_head : (b : List ℕ) (p n : ℕ) → slice_get b p ≡ Some n → 64 ≤ n → n < 192 → head_at b p ≡ Err (Form BAD_LABEL)
+cause_of_head : (first second : Option ℕ) (cause : FormError) → head_of first second ≡ Err (Form cause) → cause ≡ BAD_LABEL
+cause_of_head None second cause h = cc h
+cause_of_head (Some first) second cause h = cause_of_octet first second cause (nat_lt first 1) (nat_lt first 64) (nat_lt first 192) h
+
+pub bad_cause : (b : List ℕ) (p : ℕ) (cause : FormError) → head_at b p ≡ Err (Form cause) → cause ≡ BAD_LABEL
 unfolding head_at
-bad_head b p n h from to = ap (λ (x : Option ℕ). head_of x (slice_get b (p + 1))) h ∙ head_of_bad n (slice_get b (p + 1)) from to
+bad_cause b p cause h = cause_of_head (slice_get b p) (slice_get b (p + 1)) cause h
 
-head_of_half : (n : ℕ) → 192 ≤ n → head_of (Some n) None ≡ Err ShortInput
-head_of_half n from = grind (arith, nat_tests, common_steps)
+-- a label that can't be one of a name: it is incomplete, or the name is too long with it
+record CutLabel (b : List ℕ) (p s : ℕ) (f : Fault) : Type 0 where
+  n : ℕ
+  begins : head_at b p ≡ Ok (Label n)
+  short : s + n + 1 ≤ max_size
+  past : length b < p + 1 + n
+  is_cut : f ≡ ShortInput
 
-pub half_head : (b : List ℕ) (p n : ℕ) → slice_get b p ≡ Some n → 192 ≤ n → slice_get b (p + 1) ≡ None → head_at b p ≡ Err ShortInput
-unfolding head_at
-half_head b p n first from second = (λ i. head_of (first i) (second i)) ∙ head_of_half n from
+record LongLabel (b : List ℕ) (p s : ℕ) (f : Fault) : Type 0 where
+  n : ℕ
+  begins : head_at b p ≡ Ok (Label n)
+  far : max_size < s + n + 1
+  is_long : f ≡ Form LONG_NAME
 
--- a pointer whose two octets are there
-pub pointer_there : (b : List ℕ) (p x y : ℕ) → slice_get b p ≡ Some x → slice_get b (p + 1) ≡ Some y → 192 ≤ x → x < 256 → y < 256 → head_at b p ≡ Ok (Pointer (target_in (x ∷ y ∷ [])))
-pointer_there b p x y first second from to small =
-    let t = (x * 256 + y) % 16384 in
-    let high : x ≡ 192 + t / 256 = omega arith in
-    let low : y ≡ t % 256 = omega arith in
-    pointer_begins b p t (omega arith) (first ∙ ap (λ n. Some n) high) (second ∙ ap (λ n. Some n) low)
+cut_or_long : (b : List ℕ) (p s : ℕ) (it : Head) (f : Fault) → head_at b p ≡ Ok it → ((t : ℕ) → it ≡ Pointer t → ⊥) → ((n : ℕ) → IsLabelAt b p s n → ⊥) → Faulty b p s f → CutLabel b p s f ⊎ LongLabel b p s f
+cut_or_long b p s it f there unlike none (head k) = cc (there, k)
+cut_or_long b p s it f there unlike none (long {n = n} k far) = inr (record { n = n; begins = k; far = far; is_long = refl })
+cut_or_long b p s it f there unlike none (cut {n = n} k short past) = inl (record { n = n; begins = k; short = short; past = past; is_cut = refl })
+cut_or_long b p s it f there unlike none (ahead {t = t} k far) = absurd (unlike t cc)
+cut_or_long b p s it f there unlike none (label {n = n} k short fits w) = absurd (none n (record { begins = k; short = short; fits = fits }))
+cut_or_long b p s it f there unlike none (pointer {t = t} k back w) = absurd (unlike t cc)
 
--- labels that are too long, or that are incomplete
-pub stops_long : (b : List ℕ) (of : NameOf) (start p n : ℕ) → slice_get b p ≡ Some n → n < 64 → (head_at b p ≡ Ok Root → ⊥) → 254 ≤ (p - start) + n → StopsName b of start p faults.LongName
-stops_long b of start p zero there small unlike far = absurd (unlike (root_begins b p there))
-stops_long b of start p (suc n) there small unlike far = long_name (label_begins b p (suc n) (omega arith) (omega (arith, small)) there) (omega (arith, far))
+pub stops_cut : (b : List ℕ) (of : NameOf) (start p : ℕ) (it : Head) → head_at b p ≡ Ok it → ((t : ℕ) → it ≡ Pointer t → ⊥) → ((n : ℕ) → IsLabelAt b p (p - start) n → ⊥)
+    → Faulty b p (p - start) ShortInput → StopsName b of start p (faults.Short (fields.Label of))
+stops_cut b of start p it there unlike none w =
+    elim (cut_or_long b p (p - start) it ShortInput there unlike none w) [
+      | inl h ↦ cut_label h.begins h.short h.past
+      | inr h ↦ let clash = h.is_long in cc clash
+    ]
 
-past_end : (m n : ℕ) → (n ≤ m → ⊥) → m < n
-past_end m n h = omega (arith, h)
-
-pub stops_cut : (b : List ℕ) (of : NameOf) (start p n : ℕ) → slice_get b p ≡ Some n → n < 64 → (head_at b p ≡ Ok Root → ⊥) → ((n : ℕ) → IsLabelAt b p (p - start) n → ⊥)
-    → (p - start) + n < 254 → StopsName b of start p (faults.Short (fields.Label of))
-stops_cut b of start p zero there small unlike none in_range = absurd (unlike (root_begins b p there))
-stops_cut b of start p (suc n) there small unlike none in_range =
-    let begins = label_begins b p (suc n) (omega arith) (omega (arith, small)) there in
-    let short : (p - start) + suc n + 1 ≤ max_size = omega (arith, in_range) in
-    cut_label begins short (past_end (length b) (p + 1 + suc n) (λ fits. none (suc n) (record { begins = begins; short = short; fits = fits })))
+pub stops_long : (b : List ℕ) (of : NameOf) (start p : ℕ) (it : Head) (cause : FormError) → head_at b p ≡ Ok it → ((t : ℕ) → it ≡ Pointer t → ⊥) → ((n : ℕ) → IsLabelAt b p (p - start) n → ⊥)
+    → Faulty b p (p - start) (Form cause) → StopsName b of start p faults.LongName
+stops_long b of start p it cause there unlike none w =
+    elim (cut_or_long b p (p - start) it (Form cause) there unlike none w) [
+      | inl h ↦ let clash = h.is_cut in cc clash
+      | inr h ↦ long_name h.begins h.far
+    ]
 
 -- the fault that a row reports belongs to the fault that reading the name meets
 pub reports_name : (b : List ℕ) (of : NameOf) (start p : ℕ) (fault : RowFault) (f : Fault) → StopsName b of start p fault → Faulty b p (p - start) f → ReportsFault fault f

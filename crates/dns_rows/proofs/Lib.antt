@@ -3,5 +3,6 @@ mod DataRows
 mod Faults
 mod Items
 mod Names
+mod RowsDecided
 mod Stops
 mod Tilings

@@ -1,13 +1,14 @@
 -- The rows of names.
 use Rattle.dns_rows.specs.Named.{LabelRows, NameRows}
 use Rattle.dns_rows.specs.Named.LabelRows.{none as no_labels, label as row_label}
-use Rattle.std.proofs.Common.{◌≡◌, ℕ, ◌+◌, ◌-◌, ◌<◌, ◌≤◌, OnOk, Result, Err, ◌⊎◌, inl, inr, List, [], ◌∷◌, ◌++◌, length, slice_get, Option, Some, None, Ok, ◌∙◌, ap, subst, sym, refl, arith, append_assoc, append-nil}
+use Rattle.std.proofs.Common.{◌≡◌, ℕ, ◌+◌, ◌-◌, ◌≤◌, OnOk, Result, Err, List, [], ◌∷◌, ◌++◌, length, slice_get, slice_range, Option, Some, None, Ok, ◌∙◌, ap, subst, sym, refl, arith, append_assoc, append-nil}
+use Rattle.std.proofs.lemmas.List.{take_all}
+use Rattle.std.proofs.lemmas.Grind.{common_steps}
 use Rattle.dns_name.specs.Names.{head_at, max_size, Fault, Faulty, NameContinues}
 use Rattle.dns_name.specs.Names.Faulty.{head as head_fault, long as long_fault, cut as cut_fault, ahead as ahead_fault, label as label_fault, pointer as pointer_fault}
 use Rattle.dns_name.specs.Names.NameContinues.{root as root_ends, pointer as pointer_ends, label as label_ends}
 use Rattle.dns_name.specs.declared.head.Head.TheVariants.{Label}
-use Rattle.dns_name.specs.Unique.{label_of}
-use Rattle.dns_name.proofs.theory.HeadLemmas.{label_there, root_there, root_begins}
+use Rattle.dns_name.proofs.theory.HeadLemmas.{root_there, root_begins}
 use Rattle.dns_rows.specs.Named.NameRows.{root as root_rows, pointer as pointer_rows, label as label_rows}
 use Rattle.dns_rows.specs.Faults.{LacksName}
 use Rattle.dns_rows.specs.Fields.{field_row}
@@ -23,6 +24,10 @@ use Rattle.dns_rows.specs.declared.walk.Walk.{Walk}
 use Rattle.dns_name.specs.Parsers.{offset, seen}
 use Rattle.dns_name.specs.declared.parser.Parser.{Parser}
 
+-- the octets from the first to the last are all
+pub whole_range : (b : List ℕ) (n p : ℕ) → p ≡ 0 → p + n ≡ length b → slice_range b p (p + n) ≡ b
+whole_range b n p z e = grind (arith, common_steps, take_all {A = ℕ})
+
 -- rows that a walk adds, and then more rows
 pub adds_then : (x y : List Row) (m n : ℕ) (a b c : Walk) → Adds x m a b → Adds y n b c → Adds (x ++ y) n a c
 adds_then x y m n a b c h k = record {
@@ -30,22 +35,6 @@ adds_then x y m n a b c h k = record {
   seen = k.seen ∙ h.seen;
   offset = k.offset;
 }
-
--- a label has 1 to 63 octets
-label_long : (b : List ℕ) (p n : ℕ) → head_at b p ≡ Ok (Label n) → (0 < n) × (n < 64)
-unfolding head_at
-label_long b p n h = let l = label_of (slice_get b p) (slice_get b (p + 1)) n h in (l.1, l.2)
-
--- no label is at an octet that begins none, or whose label is too long or incomplete
-pub no_label : (b : List ℕ) (p size m : ℕ) → slice_get b p ≡ Some m → ((m ≡ 0) ⊎ (63 < m)) ⊎ ((length b ≤ p + m) ⊎ (max_size ≤ size + m))
-    → (n : ℕ) → IsLabelAt b p size n → ⊥
-no_label b p size m h wrong n label =
-    let same : m ≡ n = cc (h, label_there b p n label.begins) in
-    let long = label_long b p n label.begins in
-    elim wrong [
-      | inl w ↦ elim w [ inl e ↦ absurd (omega (arith, long.0)) | inr e ↦ absurd (omega (arith, long.1)) ]
-      | inr w ↦ elim w [ inl e ↦ absurd (omega (arith, label.fits)) | inr e ↦ absurd (omega (arith, label.short)) ]
-    ]
 
 -- the encoded length of a name, past the label at p
 label_after : (b : List ℕ) (p s n q : ℕ) → head_at b p ≡ Ok (Label n) → NameContinues b p s q → NameContinues b (p + 1 + n) (s + n + 1) q

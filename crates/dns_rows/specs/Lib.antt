@@ -4,6 +4,7 @@ pub mod Faults
 pub mod Fields
 pub mod Forms
 pub mod Named
+pub mod RowEquality
 pub mod Rows
 pub mod Shown
 pub mod Tiles

@@ -1,12 +1,19 @@
 //! Theorems on how rows compare and clone. The functions do nothing: each contract is a theorem over
 //! all rows and their parts.
 ghost use Rattle.std.specs.Prelude.{◌≡◌, ◌↔◌, IsTrue};
+ghost use Rattle.dns_rows.specs.RowEquality.{SameField, SameName, SameFault, SameKind, SameRow};
 
 use crate::row::{Fault, Field, Kind, NameOf, Part, Row};
 
-/// Two sections are equal if and only if they are the same.
-pub fn part_equality()
-    ensures { (a b : _) → IsTrue (⟦<Part as PartialEq>⟧.eq a b) ↔ (a ≡ b) }
+/// Two rows, or two parts of rows, are equal if and only if they are the same. The name of a field
+/// of RDATA counts by its text, wherever that text is.
+pub fn row_equality()
+    ensures part { (a b : _) → IsTrue (⟦<Part as PartialEq>⟧.eq a b) ↔ (a ≡ b) }
+    ensures name { (a b : _) → IsTrue (⟦<NameOf as PartialEq>⟧.eq a b) ↔ SameName a b }
+    ensures field { (a b : _) → IsTrue (⟦<Field as PartialEq>⟧.eq a b) ↔ SameField a b }
+    ensures fault { (a b : _) → IsTrue (⟦<Fault as PartialEq>⟧.eq a b) ↔ SameFault a b }
+    ensures kind { (a b : _) → IsTrue (⟦<Kind as PartialEq>⟧.eq a b) ↔ SameKind a b }
+    ensures row { (a b : _) → IsTrue (⟦<Row as PartialEq>⟧.eq a b) ↔ SameRow a b }
 {}
 
 /// A clone is the same value.

@@ -2,7 +2,7 @@
 //! section 6.1.2).
 ghost use Rattle.std.specs.Prelude.{◌≡◌, ◌+◌, ◌<◌, ◌≤◌, ◌∷◌, ◌++◌, ℕ, [], IsNone, OnOk, IfOk, IfSome, IsTrue, Ok, ◌-◌, length, slice_get, slice_index, Some, None};
 ghost use Rattle.std.specs.Int.{w16};
-ghost use Rattle.dns_name.specs.Names.{head_at};
+ghost use Rattle.dns_name.specs.Names.{fault_of, head_at, Faulty, Reads};
 ghost use Rattle.dns_name.specs.declared.head.Head.TheVariants as Head;
 ghost use Rattle.dns_name.specs.Parsers.{input, offset, seen, number_at};
 ghost use Rattle.dns_code.specs.HeaderCounts.{counts};
@@ -15,12 +15,12 @@ ghost use Rattle.dns_rows.specs.Data.{layout_type};
 ghost use Rattle.dns_rows.specs.Walks.{at, octets, items, sum_of, AreCountsOf, IsMarked, Comes, CutsFields, Adds, OnFault, OnFaultOf, LacksField, LacksFields, IsEnd, IsLabelAt, HasName, CoversAllLabels, CoversEnd, CoversName, CoversItemName, MissesName, MissesItemName, MissesOption, CoversNumbers, MarksItem, MarksStop, MarksFirst, MarksAmong, MarksParts, MarksData, MarksFields, MarksOptions, MarksWithin, StopsData, StopsFields, StopsOptions, StopsWithin, CoversAllTexts, CoversField, CoversOctets, CoversOption, MissesField, MissesOctets, MissesText};
 
 use crate::form::Form;
-use crate::octets::target_of;
 use crate::row::{Fault, Field, NameOf, Part, Row};
 use crate::tile;
 use dns_code::{HeaderCounts, Rtype};
 use dns_fields::{Kind as FieldKind, Shape, fields_of};
-use dns_name::{ParsedName, Parser};
+use dns_name::{Head, ParsedName, Parser};
+use dns_octets::ParseError;
 use std::alloc::Global;
 
 /// The maximum size of a name's labels in octets: 255 without the root's zero octet (RFC 1035
@@ -165,6 +165,23 @@ impl<'a> Walk<'a> {
         Some(octets[1])
     }
 
+    /// The octets that the walk sees: those up to the end of the parser.
+    #[tactic(auto, using(crate::proofs::Names::whole_range))]
+    fn seen_octets(&self) -> &'a [u8]
+        ensures { result.now ≡ octets self.now }
+    {
+        let mut start = self.parser;
+        start.seek(0).unwrap();
+        start.peek(start.remaining()).unwrap()
+    }
+
+    /// What begins here in a name (RFC 1035 section 4.1.4).
+    fn head(&self) -> Result<Head, ParseError>
+        ensures { Reads result (head_at (octets self.now) (at self.now)) }
+    {
+        Head::at(self.seen_octets(), self.parser.pos())
+    }
+
     /// The length of the label that begins here, after labels of `size` octets, without its length
     /// octet. Returns `None` if no label begins here, if it runs past the end, or if the name is
     /// too long with it.
@@ -174,8 +191,11 @@ impl<'a> Walk<'a> {
         ensures none { IsNone result → (len : ℕ)
             → IsLabelAt (octets self.now) (at self.now) size len → ⊥ }
     {
-        let len = usize::from(self.first()?);
-        if len == 0 || len > 63 || len >= self.parser.remaining() || size + len >= MAX_SIZE {
+        let Ok(Head::Label(octet)) = self.head() else {
+            return None;
+        };
+        let len = usize::from(octet);
+        if len >= self.parser.remaining() || size + len >= MAX_SIZE {
             return None;
         }
         Some(len)
@@ -207,10 +227,10 @@ impl<'a> Walk<'a> {
         let mut after = self.parser;
         let parsed = ParsedName::parse(&mut after);
         self.labels(name)?;
-        if parsed.is_err() {
-            return Err(Stop::Fault(self.name_fault(name, start)));
+        match parsed {
+            Ok(_) => self.end_name(after, name, start),
+            Err(error) => Err(Stop::Fault(self.name_fault(name, start, error))),
         }
-        self.end_name(after, name, start)
     }
 
     /// Walks over the root label or pointer that ends a name here. The name begins at `start`, and
@@ -230,40 +250,39 @@ impl<'a> Walk<'a> {
         }
     }
 
-    /// Why a name that begins at `start` can't be read further than here, after its labels.
-    fn name_fault(&self, name: NameOf, start: usize) -> Fault
-        requires order { start ≤ at self.now }
+    /// Why a name that begins at `start` can't be read further than here, after its labels, if
+    /// reading it fails with this error.
+    fn name_fault(&self, name: NameOf, start: usize, error: ParseError) -> Fault
+        requires fails { Faulty (octets self.now) (at self.now) (at self.now - start)
+            (fault_of error) }
         requires none { (n : ℕ)
             → IsLabelAt (octets self.now) (at self.now) (at self.now - start) n → ⊥ }
-        requires no_root { head_at (octets self.now) (at self.now) ≡ Ok Head.Root → ⊥ }
         ensures { StopsName (octets self.now) name start (at self.now) result }
     {
-        let offset = self.parser.pos();
-        match self.first() {
-            Some(0x40..=0xbf) => Fault::Label,
-            Some(high @ 0xc0..) => self.pointer_fault(name, start, high),
-            Some(len)
-                if offset
-                    .saturating_sub(start)
-                    .saturating_add(usize::from(len))
-                    >= MAX_SIZE => Fault::LongName,
-            _ => Fault::Short(Field::Label(name)),
+        match self.head() {
+            Ok(head) => match head {
+                Head::Pointer(target) => self.pointer_fault(usize::from(target)),
+                _ => match error {
+                    ParseError::ShortInput => Fault::Short(Field::Label(name)),
+                    ParseError::Form(_) => Fault::LongName,
+                },
+            },
+            Err(ParseError::Form(_)) => Fault::Label,
+            Err(ParseError::ShortInput) if self.parser.remaining() == 0 => {
+                Fault::Short(Field::Label(name))
+            }
+            Err(ParseError::ShortInput) => Fault::Short(Field::Pointer(name, start)),
         }
     }
 
-    /// Why a name that begins at `start` can't be read, when a pointer begins here with the octet
-    /// `high`.
+    /// Why a name can't be read at the pointer that begins here and leads to `target`.
     ///
     /// If a name can be read at the target, this name is too long with it.
-    fn pointer_fault(&self, name: NameOf, start: usize, high: u8) -> Fault
-        requires first { slice_get (octets self.now) (at self.now) ≡ Some high }
-        requires pointer { 192 ≤ high }
-        ensures { StopsName (octets self.now) name start (at self.now) result }
+    fn pointer_fault(&self, target: usize) -> Fault
+        requires { head_at (octets self.now) (at self.now) ≡ Ok (Head.Pointer target) }
+        ensures { (of : NameOf) (start : ℕ)
+            → StopsName (octets self.now) of start (at self.now) result }
     {
-        let Some(low) = self.second() else {
-            return Fault::Short(Field::Pointer(name, start));
-        };
-        let target = target_of(&[high, low]);
         if target >= self.parser.pos() {
             Fault::Pointer
         } else if self.has_name(target) {

@@ -1,33 +1,33 @@
-use Rattle.std.proofs.Common.{◌≡◌, ◌-◌, ◌+◌, ◌<◌, ◌≤◌, ◌∙◌, arith, slice_get, Some}
-use Rattle.dns_rows.specs.Faults.StopsName.{none, label}
+use Rattle.std.proofs.Common.{◌≡◌, ◌∙◌, ap, arith, Err, rules}
+use Rattle.dns_octets.specs.declared.error.ParseError.{ParseError}
+use Rattle.dns_octets.specs.declared.error.FormError.{FormError}
+use Rattle.dns_name.specs.Names.{fault_of, head_at}
+use Rattle.dns_name.specs.Names.Fault.{ShortInput, Form}
+use Rattle.dns_rows.specs.Faults.StopsName.{none, half, label}
 use Rattle.dns_rows.specs.Walks.{at, octets}
-use Rattle.dns_rows.proofs.Faults.{bad_head, no_octet_there, stops_cut, stops_long}
-use Rattle.dns_rows.proofs.walk.Walk.name_fault.Goals.{in_default-via-in-Some+else-saturating_add-ge-MAX_SIZE, in_default-via-in_default}
+use Rattle.dns_rows.proofs.Faults.{bad_cause, stops_cut, stops_long}
 use Rattle.dns_rows.proofs.walk.Walk.name_fault.Goals as goal
 
-pub returns-in-Some : goal.returns-in-Some
-returns-in-Some c =
+pub returns-in-ShortInput : goal.returns-in-ShortInput
+returns-in-ShortInput c =
+    stops_cut (octets c.args.self.now) c.args.name c.args.start (at c.args.self.now) c.in-Ok.head c.in-Ok.ensures (search rules) c.requires.none (rw c.in-ShortInput.is at c.requires.fails)
+
+pub returns-in-Form : goal.returns-in-Form
+returns-in-Form c =
+    stops_long (octets c.args.self.now) c.args.name c.args.start (at c.args.self.now) c.in-Ok.head c.in-Form.field-0 c.in-Ok.ensures (search rules) c.requires.none (rw c.in-Form.is at c.requires.fails)
+
+pub returns-in-Err-Form : goal.returns-in-Err-Form
+returns-in-Err-Form c =
     let b = octets c.args.self.now in
     let p = at c.args.self.now in
-    let there : slice_get b p ≡ Some c.in-Some.len = c.first.ensures ∙ c.in-Some.is in
-    let small : c.in-Some.len < 64 = omega arith in
-    let far : 254 ≤ (p - c.args.start) + c.in-Some.len = omega arith in
-    stops_long b c.args.name c.args.start p c.in-Some.len there small c.requires.no_root far
+    let cause = c.in-Err-Form.field-0-0 in
+    let there : head_at b p ≡ Err (Form cause) = c.in-Err-Form.ensures ∙ ap (λ (e : ParseError). Err (fault_of e)) c.in-Err-Form.field-0-is in
+    label (there ∙ ap (λ (x : FormError). Err (Form x)) (bad_cause b p cause there))
 
-pub returns-in-Some-64-to-191 : goal.returns-in-Some-64-to-191
-returns-in-Some-64-to-191 c =
-    let n = c.in-Some-64-to-191.field-0 in
-    label (bad_head (octets c.args.self.now) (at c.args.self.now) n (c.first.ensures ∙ c.in-Some-64-to-191.is) (omega arith) (omega arith))
+pub returns-in-Err-ShortInput : goal.returns-in-Err-ShortInput
+returns-in-Err-ShortInput c = none (omega arith)
 
-pub returns-in_default : goal.returns-in_default
-returns-in_default c =
-    let b = octets c.args.self.now in
-    let p = at c.args.self.now in
-    elim c.in_default.branch [
-      | in_default-via-in-Some+else-saturating_add-ge-MAX_SIZE w ↦
-          let there : slice_get b p ≡ Some w.in-Some.len = c.first.ensures ∙ w.in-Some.is in
-          let small : w.in-Some.len < 64 = omega arith in
-          let in_range : (p - c.args.start) + w.in-Some.len < 254 = omega arith in
-          stops_cut b c.args.name c.args.start p w.in-Some.len there small c.requires.no_root c.requires.none in_range
-      | in_default-via-in_default w ↦ none (no_octet_there b p (c.first.ensures ∙ w.in_default.is))
-    ]
+pub returns-in-Err-ShortInput-2 : goal.returns-in-Err-ShortInput-2
+returns-in-Err-ShortInput-2 c =
+    let there : head_at (octets c.args.self.now) (at c.args.self.now) ≡ Err ShortInput = c.in-Err-ShortInput.ensures ∙ ap (λ (e : ParseError). Err (fault_of e)) c.in-Err-ShortInput.field-0-is in
+    half (omega arith) there
