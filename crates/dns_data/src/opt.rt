@@ -9,7 +9,7 @@ use dns_opt::{
     BadOptData, ClientSubnet, Cookie, Expire, ExtendedError, OptionIter, TcpKeepalive, are_options,
     known_options,
 };
-use dns_wire::{AppendError, Composer, Octets, ParseError, Parser};
+use dns_wire::{AppendError, Composer, MAX_OCTETS, Octets, ParseError, Parser};
 use std::alloc::AllocError;
 
 /// The options of an OPT record in wire format, at most 65,535 octets (RFC 6891 section 6.1.2).
@@ -38,7 +38,7 @@ impl<Octs: Octets> Opt<Octs> {
         ensures fault { IfErr result (λ e. fault_of e ≡ ShortInput) }
     {
         let slice = octets.octets();
-        if slice.len() > 65535 || !are_options(slice) {
+        if slice.len() > MAX_OCTETS || !are_options(slice) {
             return Err(ParseError::ShortInput);
         }
         Ok(Opt { octets })

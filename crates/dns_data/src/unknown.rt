@@ -5,7 +5,7 @@ ghost use Rattle.std.specs.Prelude.{◌≤◌, length, refl};
 use crate::error::LongRecordData;
 use crate::record_data::{ComposeRecordData, ParseAnyRecordData, ParseRecordData, RecordData};
 use dns_code::Rtype;
-use dns_wire::{AppendError, Composer, Octets, ParseError, Parser};
+use dns_wire::{AppendError, Composer, MAX_OCTETS, Octets, ParseError, Parser};
 use std::alloc::AllocError;
 
 /// The RDATA of a record of any type as octets without structure, at most 65,535 (RFC 3597 section
@@ -27,7 +27,7 @@ impl<Octs: Octets> UnknownRecordData<Octs> {
         ensures octets { IfOk result (λ unknown. unknown_buffer unknown ≡ octets) }
         ensures long { IsErr result ↔ (65535 < length (Octs.octets octets)) }
     {
-        if octets.octets().len() > 65535 {
+        if octets.octets().len() > MAX_OCTETS {
             return Err(LongRecordData);
         }
         Ok(UnknownRecordData::of_short(rtype, octets))

@@ -33,10 +33,10 @@ pub copied : (fields zeros octets f o : List ℕ) (k : ℕ) → length fields �
     → take (10 + length octets) (put_mid 10 k (set (f ++ 0 ∷ 0 ∷ zeros) 9 (length octets)) o) ≡ fields ++ (to_be_bytes w16 (length octets) ++ octets)
 copied fields zeros octets f o k size few ef eo =
     let n = length octets in
-    let text : List ℕ = fields ++ 0 ∷ n ∷ zeros in
-    let whole : set (f ++ 0 ∷ 0 ∷ zeros) 9 n ≡ text = rw ef (set-append_right fields (0 ∷ 0 ∷ zeros) 8 9 n size (omega arith)) in
-    let long : 10 ≤ length text = rw length-append (omega arith) in
-    let first : take 10 text ≡ fields ++ 0 ∷ n ∷ [] = subst (λ i. take (i + 2) text ≡ fields ++ 0 ∷ n ∷ []) size (take-append-add fields (0 ∷ n ∷ zeros) 2) in
+    let encoding : List ℕ = fields ++ 0 ∷ n ∷ zeros in
+    let whole : set (f ++ 0 ∷ 0 ∷ zeros) 9 n ≡ encoding = rw ef (set-append_right fields (0 ∷ 0 ∷ zeros) 8 9 n size (omega arith)) in
+    let long : 10 ≤ length encoding = rw length-append (omega arith) in
+    let first : take 10 encoding ≡ fields ++ 0 ∷ n ∷ [] = subst (λ i. take (i + 2) encoding ≡ fields ++ 0 ∷ n ∷ []) size (take-append-add fields (0 ∷ n ∷ zeros) 2) in
     let high : n / 256 % 256 ≡ 0 = omega arith in
     let low : n % 256 ≡ n = omega arith in
-    rw (whole, eo) (take-put_mid 10 k text octets (10 + n) refl long ∙ ap (λ (xs : List ℕ). xs ++ octets) first ∙ append_assoc fields (0 ∷ n ∷ []) octets ∙ rw (high, low) refl)
+    rw (whole, eo) (take-put_mid 10 k encoding octets (10 + n) refl long ∙ ap (λ (xs : List ℕ). xs ++ octets) first ∙ append_assoc fields (0 ∷ n ∷ []) octets ∙ rw (high, low) refl)

@@ -221,11 +221,11 @@ fn append_at_once<T: Composer>(
         (T.written target.old) (T.written target.new) result }
 {
     let len = octets.len();
-    let mut text = [0; 26];
-    text[..8].copy_from_slice(fields);
-    text[9] = len as u8;
-    text[10..10 + len].copy_from_slice(octets);
-    target.append_slice(&text[..10 + len])
+    let mut encoding = [0; 26];
+    encoding[..8].copy_from_slice(fields);
+    encoding[9] = len as u8;
+    encoding[10..10 + len].copy_from_slice(octets);
+    target.append_slice(&encoding[..10 + len])
 }
 
 /// The octets of a type, a class and a TTL, big-endian.
