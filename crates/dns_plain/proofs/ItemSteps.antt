@@ -2,6 +2,7 @@
 use Rattle.std.proofs.Common.{◌≡◌, ℕ, ◌+◌, List, [], ◌∷◌, ◌++◌, length, take, drop, ap, sym, ◌∙◌, subst, refl, arith, length-append, append_assoc, append-nil}
 use Rattle.std.specs.Borrow.{Bor}
 use Rattle.std.specs.Int.{to_be_bytes, w16, w32}
+use Rattle.std.specs.FinMap.{len}
 use Rattle.std.proofs.Math.Seq.{take-append_seam, drop-append_seam}
 use Rattle.dns_name.specs.Names.{Labels}
 use Rattle.dns_wire.specs.Encoders.{Rule, Encoder, encode_octets, both, with_length, encode_name}
@@ -14,22 +15,23 @@ use Rattle.dns_item.specs.Items as items
 use Rattle.dns_item.specs.Items.{encode_record, record_fields}
 use Rattle.dns_plain.specs.PlainNames.{IsNamed, AreEach, ListsTable, IsInRange, Represents}
 use Rattle.dns_plain.specs.PlainItems.{IsPart, IsQuestionItem, IsRecordItem}
-use Rattle.dns_plain.specs.declared.compression.PlainTarget.{PlainTarget}
-use Rattle.dns_plain.specs.declared.items.Part.TheVariants as parts
-use Rattle.dns_plain.specs.declared.items.QuestionItem.{QuestionItem}
-use Rattle.dns_plain.specs.declared.items.RecordItem.{RecordItem}
+use Rattle.dns_plain.specs.declared.writing.PlainTarget.{PlainTarget}
+use Rattle.dns_plain.specs.declared.writing.Part.TheVariants as parts
+use Rattle.dns_plain.specs.declared.writing.QuestionItem.{QuestionItem}
+use Rattle.dns_plain.specs.declared.writing.RecordItem.{RecordItem}
 
 -- Octets are appended.
 pub appends_octets : (old new : PlainTarget) (w : Written) (xs : List ℕ) → Represents old w → new.octets.items ≡ old.octets.items ++ xs → new.table ≡ old.table → Represents new (append (encode_octets xs) w)
 appends_octets old new w xs r octets table = record {
   octets = octets ∙ ap (λ ys. ys ++ xs) r.octets;
   table = subst (λ t. ListsTable t.items w.table) (sym table) r.table;
+  count = ap (λ t. length t.items) table ∙ r.count;
   in_range = r.in_range;
 }
 
 -- No octets are appended.
 pub appends_nothing : (t : PlainTarget) (w : Written) → Represents t w → Represents t (append (encode_octets []) w)
-appends_nothing t w r = record { octets = r.octets ∙ sym (append-nil w.octets); table = r.table; in_range = r.in_range }
+appends_nothing t w r = record { octets = r.octets ∙ sym (append-nil w.octets); table = r.table; count = r.count; in_range = r.in_range }
 
 -- Two encodings are appended in turn.
 pub appends_both : (a b : Encoder) (new : PlainTarget) (w : Written) → Represents new (append b (append a w)) → Represents new (append (both a b) w)
@@ -89,6 +91,7 @@ appends_length encoder old zeros mid new w start rdata r at zero same f is octet
     record {
       octets = octets ∙ (λ i. front i ++ to_be_bytes w16 (length (back i)) ++ back i) ∙ append_assoc w.octets (to_be_bytes w16 (length encoded.octets)) encoded.octets;
       table = subst (λ t. ListsTable t.items encoded.table) (sym table) (subst (λ k. ListsTable mid.table.items (encoder w.table k).table) size middle.table);
+      count = ap (λ t. length t.items) table ∙ middle.count ∙ ap (λ k. len (encoder w.table k).table) size;
       in_range = subst (λ k. IsInRange (encoder w.table k).table) size middle.in_range;
     }
 

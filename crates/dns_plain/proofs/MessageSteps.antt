@@ -1,5 +1,5 @@
 -- Plain messages that are encoded. RFC 1035 section 4.1.
-use Rattle.std.proofs.Common.{◌≡◌, ℕ, List, [], ◌∷◌, ◌++◌, map, length, ap, ◌∙◌, refl, arith, append_assoc}
+use Rattle.std.proofs.Common.{◌≡◌, ℕ, List, ◌++◌, map, ap, ◌∙◌, append_assoc}
 use Rattle.dns_wire.specs.Encoders.{Rule, Encoder}
 use Rattle.dns_wire.specs.Targets.{Written, append}
 use Rattle.dns_wire.proofs.theory.EncoderLaws.{append-both}
@@ -7,7 +7,6 @@ use Rattle.dns_question.specs.Questions.{encode_question}
 use Rattle.dns_item.specs.Items.{encode_record}
 use Rattle.dns_build.specs.State.{State, all_of, head_of, encode}
 use Rattle.dns_build.proofs.theory.Encodings.{both-all_of}
-use Rattle.dns_plain.specs.PlainNames.{AreEach}
 
 -- Two lists of encodings are appended in turn.
 append_all : (ps qs : List Encoder) (t : Written) → append (all_of qs) (append (all_of ps) t) ≡ append (all_of (ps ++ qs)) t
@@ -25,13 +24,6 @@ encodes_sections rule s =
     let additionals = map (encode_record rule) s.additionals in
     let t = append (all_of questions) (head_of s) in
     append_all authorities additionals (append (all_of answers) t) ∙ append_all answers (authorities ++ additionals) t ∙ append_all questions (answers ++ (authorities ++ additionals)) (head_of s)
-
--- Related lists have the same length.
-pub same_count : {X Y : Type 0} (R : X → Y → Type 0) (xs : List X) (ys : List Y) → AreEach R xs ys → length xs ≡ length ys
-same_count R [] [] is = refl
-same_count R [] (y ∷ ys) is = absurd is
-same_count R (x ∷ xs) [] is = absurd is
-same_count R (x ∷ xs) (y ∷ ys) is = omega (arith, same_count R xs ys is.1)
 
 -- Octets, and four numbers after them.
 pub regrouped : (header questions answers authorities additionals : List ℕ)

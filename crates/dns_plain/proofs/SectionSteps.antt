@@ -4,7 +4,7 @@ use Rattle.std.specs.Prelude.{Result, Ok, Err, MatchResult}
 use Rattle.dns_octets.specs.declared.error.ParseError.{ParseError}
 use Rattle.dns_name.specs.Names.{Fault, fault_of}
 use Rattle.dns_section.specs.Reading.{Skipped, StopsSkipping, Reading}
-use Rattle.dns_plain.specs.PlainSections.{faulted}
+use Rattle.dns_plain.specs.Plain.{faulted}
 
 module _ (Skips : ℕ → ℕ → Type 0) (FaultOf : ℕ → Fault → Type 0) where
   pub skips_none : (n p : ℕ) → n ≡ 0 → Skipped Skips n p p

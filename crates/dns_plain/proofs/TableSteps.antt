@@ -1,9 +1,9 @@
 -- Plain tables, and names that are compressed by them. RFC 1035 section 4.1.4.
-use Rattle.std.proofs.Common.{◌≡◌, ◌≢◌, ℕ, ◌+◌, ◌<◌, Bool, true, false, cond, List, [], ◌∷◌, ◌++◌, length, ap, sym, ◌∙◌, subst, refl, arith, inl, inr, ◌⊎◌}
+use Rattle.std.proofs.Common.{◌≡◌, ◌≢◌, ℕ, ◌+◌, ◌<◌, Bool, true, false, cond, List, [], ◌∷◌, ◌++◌, length, ap, sym, ◌∙◌, subst, refl, arith, inl, inr, ◌⊎◌, append_assoc, length-append}
 use Rattle.std.specs.Prelude.{Option, Some, None, is_some, option_map, nat_lt, ◌&&◌}
 use Rattle.std.specs.Borrow.{Bor}
 use Rattle.std.specs.List.{list_all}
-use Rattle.std.specs.FinMap.{get, insert, len, from_entries, get-empty, len-empty, len-insert}
+use Rattle.std.specs.FinMap.{get, insert, len, from_entries, get-empty, len-insert}
 use Rattle.std.proofs.lemmas.Bool.{and_parts}
 use Rattle.std.proofs.lemmas.Grind.{common_steps}
 use Rattle.dns_name.specs.Names.{Labels, framed, uncompressed, pointer_end}
@@ -11,15 +11,21 @@ use Rattle.dns_name.specs.Unique.{same_name}
 use Rattle.dns_name.proofs.theory.UncompressedNames.{name_at_uncompressed, name_tail}
 use Rattle.dns_wire.specs.Encoders.{CompressionTable, TableEntry, Rule, Plain, Static, Tree, Hash, CompressedName, Suffix as WrittenSuffix, nothing, suffix_cmp, suffix_total, may_enter, compress, compress_label, add_suffixes, encode_name}
 use Rattle.dns_wire.specs.Targets.{Written, append}
-use Rattle.dns_wire.proofs.theory.CompressionTables.{get-insert_same, get-insert_other, insert_cases}
+use Rattle.dns_wire.proofs.theory.CompressionTables.{get-insert_same, get-insert_other, insert_cases, AreShorter, get-add_suffixes_longer}
 use Rattle.dns_wire.proofs.theory.EncodedNames.{CompressesAs, compresses_as}
 use Rattle.dns_wire.proofs.theory.EncodedNames.CompressesAs.{at_root, at_entry, at_kept, at_far}
-use Rattle.dns_plain.specs.PlainNames.{IsNamed, AreEach, IsEntry, IsSuffix, IsCompressed, ListsTable, IsInRange, SplitsFirst, Represents, rule_of}
-use Rattle.dns_plain.specs.declared.compression.Suffix.{Suffix}
-use Rattle.dns_plain.specs.declared.compression.Compressed.{Compressed}
-use Rattle.dns_plain.specs.declared.compression.PlainTarget.{PlainTarget}
-use Rattle.dns_plain.specs.declared.compression.Rule as plain
-use Rattle.dns_plain.specs.declared.compression.Rule.TheVariants as rules
+use Rattle.dns_plain.specs.PlainNames.{IsNamed, AreEach, IsEntry, IsSuffix, AppendsCompressed, ListsTable, IsInRange, SplitsFirst, Compresses, Represents, rule_of}
+use Rattle.dns_plain.specs.declared.writing.Suffix.{Suffix}
+use Rattle.dns_plain.specs.declared.writing.PlainTarget.{PlainTarget}
+use Rattle.dns_plain.specs.declared.writing.Rule as plain
+use Rattle.dns_plain.specs.declared.writing.Rule.TheVariants as rules
+
+-- Related lists have the same length.
+pub same_count : {X Y : Type 0} (R : X → Y → Type 0) (xs : List X) (ys : List Y) → AreEach R xs ys → length xs ≡ length ys
+same_count R [] [] is = refl
+same_count R [] (y ∷ ys) is = absurd is
+same_count R (x ∷ xs) [] is = absurd is
+same_count R (x ∷ xs) (y ∷ ys) is = omega (arith, same_count R xs ys is.1)
 
 -- Names with the same octets are the same.
 same_labels : (octets : List ℕ) (m n : Labels) → IsNamed octets m → IsNamed octets n → m ≡ n
@@ -36,15 +42,6 @@ finds_none [] m labels none t = go t.entries t.listed t.whole
   where
     go : (entries : List (Labels × TableEntry)) → AreEach IsEntry [] entries → m ≡ from_entries entries → None ≡ offset_in (get m labels)
     go [] l w = sym (ap (λ (m : CompressionTable). offset_in (get m labels)) w ∙ ap offset_in (get-empty suffix_cmp labels))
-    go (e ∷ es) l w = absurd l
-
--- It has no entries.
-pub counts_none : (table : List Suffix) (m : CompressionTable) → length table ≡ 0 → ListsTable table m → 0 ≡ len m
-counts_none (s ∷ ss) m none t = absurd (omega arith)
-counts_none [] m none t = go t.entries t.listed t.whole
-  where
-    go : (entries : List (Labels × TableEntry)) → AreEach IsEntry [] entries → m ≡ from_entries entries → 0 ≡ len m
-    go [] l w = sym (ap len w ∙ len-empty suffix_cmp TableEntry)
     go (e ∷ es) l w = absurd l
 
 -- An empty list is the empty table.
@@ -95,31 +92,21 @@ module _ (first : Suffix) (older : List Suffix) (m : CompressionTable) (n : Newe
       let other : labels ≢ n.key = λ same. differs (n.named.whole ∙ ap uncompressed (sym same) ∙ sym is.whole) in
       e ∙ sym (ap offset_in (ap (λ (m : CompressionTable). get m labels) n.whole ∙ get-insert_other n.before n.key n.entry labels other))
 
-  counted : (o : Option TableEntry) (found : Option ℕ) → found ≡ offset_in o → len (insert n.before n.key n.entry) ≡ cond (is_some o) (len n.before) (len n.before + 1)
-      → len m ≡ cond (is_some found) (len n.before) (len n.before + 1)
-  counted None found e l = ap len n.whole ∙ l ∙ ap (λ (f : Option ℕ). cond (is_some f) (len n.before) (len n.before + 1)) (sym e)
-  counted (Some x) found e l = ap len n.whole ∙ l ∙ ap (λ (f : Option ℕ). cond (is_some f) (len n.before) (len n.before + 1)) (sym e)
-
-  -- The name of the newest entry is counted unless an older entry has it.
-  pub counts : (found : Option ℕ) → found ≡ offset_in (get n.before n.key) → len m ≡ cond (is_some found) (len n.before) (len n.before + 1)
-  counts found e = counted (get n.before n.key) found e (len-insert suffix_total n.before n.key n.entry)
-
 -- Compressing a name that begins with a label, if it isn't in the table and may enter it.
 module _ (rule : Rule) (m : CompressionTable) (offset entry_count : ℕ) (label : List ℕ) (parent : Labels) where
   abbrev after : CompressedName
   after = compress rule m (offset + 1 + length label) (entry_count + 1) parent
 
-  pub with_label : (plain after_plain : Compressed) (first : Suffix) → get m (label ∷ parent) ≡ None → may_enter rule offset entry_count ≡ true
-      → IsCompressed after_plain after → IsNamed first.name.items (label ∷ parent) → first.offset ≡ offset
-      → plain.octets.items ≡ framed label ++ after_plain.octets.items → plain.suffixes.items ≡ first ∷ after_plain.suffixes.items
-      → IsCompressed plain (compress rule m offset entry_count (label ∷ parent))
-  with_label plain after_plain first none enters is named at octets suffixes =
+  pub with_label : (old mid new : List ℕ) (first : Suffix) (others suffixes : List Suffix) → get m (label ∷ parent) ≡ None → may_enter rule offset entry_count ≡ true
+      → mid ≡ old ++ framed label → AppendsCompressed mid new others after → IsNamed first.name.items (label ∷ parent) → first.offset ≡ offset → suffixes ≡ first ∷ others
+      → AppendsCompressed old new suffixes (compress rule m offset entry_count (label ∷ parent))
+  with_label old mid new first others suffixes none enters octets is named at all =
       let suffix : WrittenSuffix = record { labels = label ∷ parent; offset = offset } in
-      let P : Option TableEntry → Bool → Type 0 = λ o b. IsCompressed plain (compress_label o b label suffix after) in
-      let each : AreEach IsSuffix (first ∷ after_plain.suffixes.items) (suffix ∷ after.suffixes) = (record { named = named; offset = at }, is.suffixes) in
+      let P : Option TableEntry → Bool → Type 0 = λ o b. AppendsCompressed old new suffixes (compress_label o b label suffix after) in
+      let each : AreEach IsSuffix (first ∷ others) (suffix ∷ after.suffixes) = (record { named = named; offset = at }, is.suffixes) in
       let made : P None true = record {
-        octets = octets ∙ ap (λ xs. framed label ++ xs) is.octets;
-        suffixes = subst (λ xs. AreEach IsSuffix xs (suffix ∷ after.suffixes)) (sym suffixes) each;
+        octets = is.octets ∙ ap (λ xs. xs ++ after.octets) octets ∙ append_assoc old (framed label) after.octets;
+        suffixes = subst (λ xs. AreEach IsSuffix xs (suffix ∷ after.suffixes)) (sym all) each;
       } in
       subst (λ o. P o (may_enter rule offset entry_count)) (sym none) (subst (λ b. P None b) (sym enters) made)
 
@@ -129,19 +116,20 @@ no_entry None e = refl
 no_entry (Some x) e = absurd (cc)
 
 -- Compressing a name that is split after its first label.
-pub compresses_first : (rule : Rule) (m : CompressionTable) (offset entry_count : ℕ) (labels : Labels) (name : List ℕ) (parts : Bor (List ℕ) × Bor (List ℕ)) (plain after_plain : Compressed) (first : Suffix)
-    → IsNamed name labels → SplitsFirst labels (Some parts) → offset_in (get m labels) ≡ None → may_enter rule offset entry_count ≡ true
-    → ((parent : Labels) → IsNamed parts.1.now parent → IsCompressed after_plain (compress rule m (offset + length parts.0.now) (entry_count + 1) parent))
-    → first.name.items ≡ name → first.offset ≡ offset → plain.octets.items ≡ parts.0.now ++ after_plain.octets.items → plain.suffixes.items ≡ first ∷ after_plain.suffixes.items
-    → IsCompressed plain (compress rule m offset entry_count labels)
-compresses_first rule m offset entry_count [] name parts plain after_plain first is split none enters more same at octets suffixes = absurd (cc)
-compresses_first rule m offset entry_count (label ∷ parent) name parts plain after_plain first is split none enters more same at octets suffixes =
-    let here : IsNamed parts.1.now parent = record { is_name = (name_tail label parent is.is_name).1; whole = split.1 } in
-    let size = ap (λ (xs : List ℕ). length xs) split.0 in
-    let next : offset + length parts.0.now ≡ offset + 1 + length label = omega arith in
-    let after_is = subst (λ k. IsCompressed after_plain (compress rule m k (entry_count + 1) parent)) next (more parent here) in
-    with_label rule m offset entry_count label parent plain after_plain first (no_entry _ none) enters after_is (subst (λ xs. IsNamed xs (label ∷ parent)) (sym same) is) at
-    (octets ∙ ap (λ xs. xs ++ after_plain.octets.items) split.0) suffixes
+pub compresses_first : (rule : Rule) (m : CompressionTable) (offset entry_count : ℕ) (labels : Labels) (name : List ℕ) (parts : Bor (List ℕ) × Bor (List ℕ)) (old mid new : List ℕ) (first : Suffix) (others suffixes : List Suffix)
+    → IsNamed name labels → SplitsFirst labels (Some parts) → offset_in (get m labels) ≡ None → may_enter rule offset entry_count ≡ true → offset ≡ length old → mid ≡ old ++ parts.0.now
+    → ((parent : Labels) → IsNamed parts.1.now parent → AppendsCompressed mid new others (compress rule m (length mid) (entry_count + 1) parent))
+    → first.name.items ≡ name → first.offset ≡ offset → suffixes ≡ first ∷ others
+    → AppendsCompressed old new suffixes (compress rule m (length old) entry_count labels)
+compresses_first rule m offset entry_count [] name parts old mid new first others suffixes is split none enters here octets more same at all = absurd (cc)
+compresses_first rule m offset entry_count (label ∷ parent) name parts old mid new first others suffixes is split none enters here octets more same at all =
+    let whole : mid ≡ old ++ framed label = octets ∙ ap (λ xs. old ++ xs) split.0 in
+    let named : IsNamed parts.1.now parent = record { is_name = (name_tail label parent is.is_name).1; whole = split.1 } in
+    let size = ap (λ (xs : List ℕ). length xs) whole ∙ length-append old (framed label) in
+    let next : length mid ≡ offset + 1 + length label = omega (arith, size, here) in
+    let after_is = subst (λ k. AppendsCompressed mid new others (compress rule m k (entry_count + 1) parent)) next (more parent named) in
+    subst (λ k. AppendsCompressed old new suffixes (compress rule m k entry_count (label ∷ parent))) here
+    (with_label rule m offset entry_count label parent old mid new first others suffixes (no_entry _ none) enters whole after_is (subst (λ xs. IsNamed xs (label ∷ parent)) (sym same) is) at all)
 
 -- The suffixes of a name are added to a table.
 pub adds : (suffixes : List Suffix) (written : List WrittenSuffix) (table : List Suffix) (m : CompressionTable) (end : ℕ) → AreEach IsSuffix suffixes written → ListsTable table m
@@ -157,6 +145,35 @@ adds (s ∷ ss) (w ∷ ws) table m end each t =
       listed = (record { named = each.0.named; offset = each.0.offset }, others.listed);
       whole = ap (λ (m : CompressionTable). insert m w.labels entry) others.whole;
     }
+
+-- The suffixes of a name are shorter than it, or it.
+shorter_than : {rule : Rule} {m : CompressionTable} {p entry_count : ℕ} {name : Labels} {text : List ℕ} {ss : List WrittenSuffix} (n : ℕ) → CompressesAs rule m p entry_count name text ss → length name < n → AreShorter n ss
+shorter_than n at_root l = tt
+shorter_than n (at_entry e) l = tt
+shorter_than n (at_kept e k s) l = (l, shorter_than n s (omega arith))
+shorter_than n (at_far e k) l = tt
+
+added_one : (m : CompressionTable) (s : Labels) (x : TableEntry) → get m s ≡ None → len (insert m s x) ≡ len m + 1
+added_one m s x none = len-insert suffix_total m s x ∙ ap (λ (o : Option TableEntry). cond (is_some o) (len m) (len m + 1)) none
+
+-- Each suffix that is added is a new entry.
+count_as : {rule : Rule} {m : CompressionTable} {p entry_count : ℕ} {name : Labels} {text : List ℕ} {ss : List WrittenSuffix} (end : ℕ) → CompressesAs rule m p entry_count name text ss → len (add_suffixes m ss end) ≡ length ss + len m
+count_as {m = m} end at_root = omega arith
+count_as {m = m} end (at_entry e) = omega arith
+count_as {m = m} end (at_kept {p = p} {first = first} {rest = rest} {ss = ss} e k s) =
+    let others = count_as end s in
+    let new = get-add_suffixes_longer m ss end (first ∷ rest) e (shorter_than (length (first ∷ rest)) s (omega arith)) in
+    let one = added_one (add_suffixes m ss end) (first ∷ rest) (record { offset = p; end = end }) new in
+    one ∙ omega (arith, others)
+count_as {m = m} end (at_far e k) = omega arith
+
+-- The table and the suffixes are as long as the table after them.
+adds_count : (suffixes : List Suffix) (written : List WrittenSuffix) (table : List Suffix) (m : CompressionTable) (end : ℕ) → AreEach IsSuffix suffixes written → length table ≡ len m → len (add_suffixes m written end) ≡ length written + len m
+    → length (suffixes ++ table) ≡ len (add_suffixes m written end)
+adds_count suffixes written table m end each t added =
+    let joined = length-append suffixes table in
+    let same = same_count IsSuffix suffixes written each in
+    omega (arith, joined, same, t, added)
 
 -- A pointer can hold the offset.
 abbrev pub is_in_range : WrittenSuffix → Bool
@@ -205,6 +222,16 @@ in_range_as f (at_far e k) = refl
 pub written_in_range : (rule : Rule) (m : CompressionTable) (p entry_count : ℕ) (name : Labels) → EntersInRange rule → list_all is_in_range (compress rule m p entry_count name).suffixes ≡ true
 written_in_range rule m p entry_count name f = in_range_as f (compresses_as rule m p entry_count name)
 
+-- A pointer can hold the offset of each plain suffix.
+abbrev pub each_in_range : List Suffix → Bool
+each_in_range suffixes = list_all (λ suffix. nat_lt suffix.offset pointer_end) suffixes
+
+same_range : (suffixes : List Suffix) (written : List WrittenSuffix) → AreEach IsSuffix suffixes written → each_in_range suffixes ≡ list_all is_in_range written
+same_range [] [] each = refl
+same_range [] (w ∷ ws) each = absurd each
+same_range (s ∷ ss) [] each = absurd each
+same_range (s ∷ ss) (w ∷ ws) each = (λ i. nat_lt (each.0.offset i) pointer_end && same_range ss ws each.1 i)
+
 module _ (old new : PlainTarget) (labels : Labels) (w : Written) (r : Represents old w) where
   -- An uncompressed name is appended.
   pub appends_plain : (name : List ℕ) → IsNamed name labels → new.octets.items ≡ old.octets.items ++ name → new.table ≡ old.table → Represents new (append (encode_name Plain labels) w)
@@ -212,51 +239,54 @@ module _ (old new : PlainTarget) (labels : Labels) (w : Written) (r : Represents
   appends_plain name is octets table = record {
     octets = octets ∙ ap (λ xs. xs ++ name) r.octets ∙ ap (λ xs. w.octets ++ xs) is.whole;
     table = subst (λ t. ListsTable t.items w.table) (sym table) r.table;
-    in_range = r.in_range;
-  }
-
-  -- A compressed name is appended, and its suffixes enter the table, or none does.
-  with_entering : (compressed : CompressedName) (after : Compressed) (end : ℕ) (b : Bool) → list_all is_in_range compressed.suffixes ≡ b → IsCompressed after compressed
-      → new.octets.items ≡ old.octets.items ++ after.octets.items → new.table.items ≡ cond b (after.suffixes.items ++ old.table.items) old.table.items
-      → Represents new (record { octets = w.octets ++ compressed.octets; table = add_suffixes w.table (cond b compressed.suffixes []) end })
-  with_entering compressed after end true all is octets table = record {
-    octets = octets ∙ ap (λ xs. xs ++ after.octets.items) r.octets ∙ ap (λ xs. w.octets ++ xs) is.octets;
-    table = subst (λ t. ListsTable t (add_suffixes w.table compressed.suffixes end)) (sym table) (adds after.suffixes.items compressed.suffixes old.table.items w.table end is.suffixes r.table);
-    in_range = adds_in_range w.table compressed.suffixes end r.in_range all;
-  }
-  with_entering compressed after end false all is octets table = record {
-    octets = octets ∙ ap (λ xs. xs ++ after.octets.items) r.octets ∙ ap (λ xs. w.octets ++ xs) is.octets;
-    table = subst (λ t. ListsTable t w.table) (sym table) r.table;
+    count = ap (λ t. length t.items) table ∙ r.count;
     in_range = r.in_range;
   }
 
   abbrev compressed_by : Rule → CompressedName
   compressed_by rule = compress rule w.table (length w.octets) (len w.table) labels
 
-  pub appends_compressed : (rule : plain.Rule) (after : Compressed) (b : Bool) → rule ≢ rules.Plain → IsCompressed after (compressed_by (rule_of rule))
+  -- A compressed name is appended, and its suffixes enter the table, or none does.
+  with_entering : (rule : Rule) (suffixes : List Suffix) (end : ℕ) (b : Bool) → list_all is_in_range (compressed_by rule).suffixes ≡ b → AppendsCompressed old.octets.items new.octets.items suffixes (compressed_by rule)
+      → new.table.items ≡ cond b (suffixes ++ old.table.items) old.table.items
+      → Represents new (record { octets = w.octets ++ (compressed_by rule).octets; table = add_suffixes w.table (cond b (compressed_by rule).suffixes []) end })
+  with_entering rule suffixes end true all is table =
+      let written = (compressed_by rule).suffixes in
+      let added = count_as end (compresses_as rule w.table (length w.octets) (len w.table) labels) in
+      record {
+        octets = is.octets ∙ ap (λ xs. xs ++ (compressed_by rule).octets) r.octets;
+        table = subst (λ t. ListsTable t (add_suffixes w.table written end)) (sym table) (adds suffixes written old.table.items w.table end is.suffixes r.table);
+        count = ap (λ (t : List Suffix). length t) table ∙ adds_count suffixes written old.table.items w.table end is.suffixes r.count added;
+        in_range = adds_in_range w.table written end r.in_range all;
+      }
+  with_entering rule suffixes end false all is table = record {
+    octets = is.octets ∙ ap (λ xs. xs ++ (compressed_by rule).octets) r.octets;
+    table = subst (λ t. ListsTable t w.table) (sym table) r.table;
+    count = ap (λ (t : List Suffix). length t) table ∙ r.count;
+    in_range = r.in_range;
+  }
+
+  pub appends_compressed : (rule : plain.Rule) (suffixes : List Suffix) (b : Bool) → rule ≢ rules.Plain → AppendsCompressed old.octets.items new.octets.items suffixes (compressed_by (rule_of rule))
       → b ≡ list_all is_in_range (compressed_by (rule_of rule)).suffixes
-      → new.octets.items ≡ old.octets.items ++ after.octets.items → new.table.items ≡ cond b (after.suffixes.items ++ old.table.items) old.table.items
+      → new.table.items ≡ cond b (suffixes ++ old.table.items) old.table.items
       → Represents new (append (encode_name (rule_of rule) labels) w)
   unfolding encode_name
-  appends_compressed rules.Plain compressed b other is all octets table = absurd (other refl)
-  appends_compressed rules.Static compressed b other is all octets table =
+  appends_compressed rules.Plain suffixes b other is all table = absurd (other refl)
+  appends_compressed rules.Static suffixes b other is all table =
       let fits = written_in_range Static w.table (length w.octets) (len w.table) labels static_in_range in
-      with_entering (compressed_by Static) compressed _ true fits is octets (table ∙ ap (λ c. cond c (compressed.suffixes.items ++ old.table.items) old.table.items) (all ∙ fits))
-  appends_compressed rules.Tree compressed b other is all octets table =
+      with_entering Static suffixes _ true fits is (table ∙ ap (λ c. cond c (suffixes ++ old.table.items) old.table.items) (all ∙ fits))
+  appends_compressed rules.Tree suffixes b other is all table =
       let fits = written_in_range Tree w.table (length w.octets) (len w.table) labels tree_in_range in
-      with_entering (compressed_by Tree) compressed _ true fits is octets (table ∙ ap (λ c. cond c (compressed.suffixes.items ++ old.table.items) old.table.items) (all ∙ fits))
-  appends_compressed rules.Hash compressed b other is all octets table =
-      with_entering (compressed_by Hash) compressed _ _ refl is octets (table ∙ ap (λ c. cond c (compressed.suffixes.items ++ old.table.items) old.table.items) all)
+      with_entering Tree suffixes _ true fits is (table ∙ ap (λ c. cond c (suffixes ++ old.table.items) old.table.items) (all ∙ fits))
+  appends_compressed rules.Hash suffixes b other is all table =
+      with_entering Hash suffixes _ _ refl is (table ∙ ap (λ c. cond c (suffixes ++ old.table.items) old.table.items) all)
 
   -- The same, of what compressing the name at the end of the octets returned.
-  pub appends_name : (rule : plain.Rule) (name : List ℕ) (compressed : Compressed) (offset entry_count : ℕ) (b : Bool) → rule ≢ rules.Plain → IsNamed name labels
-      → offset ≡ length old.octets.items → ((m : CompressionTable) → ListsTable old.table.items m → entry_count ≡ len m)
-      → ((labels : Labels) (m : CompressionTable) → IsNamed name labels → ListsTable old.table.items m → IsInRange m → IsCompressed compressed (compress (rule_of rule) m offset entry_count labels))
-      → ((written : List WrittenSuffix) → AreEach IsSuffix compressed.suffixes.items written → b ≡ list_all is_in_range written)
-      → new.octets.items ≡ old.octets.items ++ compressed.octets.items → new.table.items ≡ cond b (compressed.suffixes.items ++ old.table.items) old.table.items
+  pub appends_name : (rule : plain.Rule) (name : List ℕ) (suffixes : List Suffix) (entry_count : ℕ) (b : Bool) → rule ≢ rules.Plain → IsNamed name labels
+      → entry_count ≡ length old.table.items → Compresses (rule_of rule) name entry_count old new.octets.items suffixes
+      → b ≡ each_in_range suffixes → new.table.items ≡ cond b (suffixes ++ old.table.items) old.table.items
       → Represents new (append (encode_name (rule_of rule) labels) w)
-  appends_name rule name compressed offset entry_count b other named at count is all octets table =
-      let end : offset ≡ length w.octets = at ∙ ap (λ (xs : List ℕ). length xs) r.octets in
-      let here = subst (λ k. IsCompressed compressed (compress (rule_of rule) w.table k entry_count labels)) end (is labels w.table named r.table r.in_range) in
-      let same = subst (λ k. IsCompressed compressed (compress (rule_of rule) w.table (length w.octets) k labels)) (count w.table r.table) here in
-      appends_compressed rule compressed b other same (all _ same.suffixes) octets table
+  appends_name rule name suffixes entry_count b other named count is all table =
+      let here = subst (λ (xs : List ℕ). AppendsCompressed old.octets.items new.octets.items suffixes (compress (rule_of rule) w.table (length xs) entry_count labels)) r.octets (is labels w.table named r.table r.in_range) in
+      let same = subst (λ k. AppendsCompressed old.octets.items new.octets.items suffixes (compress (rule_of rule) w.table (length w.octets) k labels)) (count ∙ r.count) here in
+      appends_compressed rule suffixes b other same (all ∙ same_range suffixes _ same.suffixes) table

@@ -1,5 +1,5 @@
 -- What plain values say of octets. RFC 1035 section 4.1.
-use Rattle.std.specs.Prelude.{◌≡◌, ℕ, ◌+◌, ◌≤◌, List, ◌++◌, length, Result, MatchResult}
+use Rattle.std.specs.Prelude.{◌≡◌, ℕ, ◌+◌, ◌≤◌, List, ◌++◌, length, Result, Ok, Err, MatchResult}
 use Rattle.dns_octets.specs.declared.error.ParseError.{ParseError}
 use Rattle.dns_name.specs.Names.{Labels, name_size, max_size, uncompressed, Fault, fault_of, NameAt, NameContinues}
 
@@ -23,3 +23,8 @@ pub record NameAfter (b : List ℕ) (p : ℕ) (labels octets : List ℕ) : Type 
 -- In a name whose labels so far take s octets, the rest of its encoding takes the octets p..end, which are all there.
 abbrev pub EndsWithin : List ℕ → ℕ → ℕ → ℕ → Type 0
 EndsWithin b p s end = NameContinues b p s end × (end ≤ length b)
+
+-- An item of a reading: an entry, or the fault that an error reports.
+abbrev pub faulted : {X : Type 0} → Result X ParseError → Result X Fault
+faulted (Ok entry) = Ok entry
+faulted (Err error) = Err (fault_of error)

@@ -1,16 +1,15 @@
 -- Plain names and tables, and what they represent. RFC 1035 section 4.1.4.
-use Rattle.std.specs.Prelude.{◌≡◌, ℕ, ◌<◌, List, [], ◌∷◌, Option, Some, None}
-use Rattle.std.specs.FinMap.{get, from_entries}
+use Rattle.std.specs.Prelude.{◌≡◌, ℕ, ◌<◌, List, [], ◌∷◌, ◌++◌, length, Option, Some, None}
+use Rattle.std.specs.FinMap.{get, from_entries, len}
 use Rattle.std.specs.Borrow.{Bor}
 use Rattle.dns_name.specs.Names.{Labels, IsName, framed, uncompressed, pointer_end}
-use Rattle.dns_wire.specs.Encoders.{CompressionTable, TableEntry, Rule, Plain, Static, Tree, Hash, Encoder, CompressedName}
+use Rattle.dns_wire.specs.Encoders.{CompressionTable, TableEntry, Rule, Plain, Static, Tree, Hash, Encoder, CompressedName, compress}
 use Rattle.dns_wire.specs.Encoders as encoders
 use Rattle.dns_wire.specs.Targets.{Written, append}
-use Rattle.dns_plain.specs.declared.compression.Rule as plain
-use Rattle.dns_plain.specs.declared.compression.Rule.TheVariants as rules
-use Rattle.dns_plain.specs.declared.compression.Suffix.{Suffix}
-use Rattle.dns_plain.specs.declared.compression.Compressed.{Compressed}
-use Rattle.dns_plain.specs.declared.compression.PlainTarget.{PlainTarget}
+use Rattle.dns_plain.specs.declared.writing.Rule as plain
+use Rattle.dns_plain.specs.declared.writing.Rule.TheVariants as rules
+use Rattle.dns_plain.specs.declared.writing.Suffix.{Suffix}
+use Rattle.dns_plain.specs.declared.writing.PlainTarget.{PlainTarget}
 
 -- the rule
 abbrev pub rule_of : plain.Rule → Rule
@@ -47,11 +46,6 @@ pub record IsSuffix (suffix : Suffix) (written : encoders.Suffix) : Type 0 where
   pub named : IsNamed suffix.name.items written.labels
   pub offset : suffix.offset ≡ written.offset
 
--- the octets are those of the compressed name, and the suffixes are its suffixes, in order
-pub record IsCompressed (plain : Compressed) (compressed : CompressedName) : Type 0 where
-  pub octets : plain.octets.items ≡ compressed.octets
-  pub suffixes : AreEach IsSuffix plain.suffixes.items compressed.suffixes
-
 -- the suffixes are the entries of the table, the newest first
 pub record ListsTable (suffixes : List Suffix) (m : CompressionTable) : Type 0 where
   pub entries : List (Labels × TableEntry)
@@ -62,11 +56,23 @@ pub record ListsTable (suffixes : List Suffix) (m : CompressionTable) : Type 0 w
 pub record IsInRange (m : CompressionTable) : Type 0 where
   pub each : (s : Labels) (x : TableEntry) → get m s ≡ Some x → x.offset < pointer_end
 
--- the octets are the content, and the suffixes are the table
+-- the octets are the content, and the suffixes are the table, each name in it once
 pub record Represents (plain : PlainTarget) (w : Written) : Type 0 where
   pub octets : plain.octets.items ≡ w.octets
   pub table : ListsTable plain.table.items w.table
+  pub count : length plain.table.items ≡ len w.table
   pub in_range : IsInRange w.table
+
+-- The octets are appended to those of the target, and the suffixes are in order those of the compressed name.
+pub record AppendsCompressed (old new : List ℕ) (plain_suffixes : List Suffix) (compressed : CompressedName) : Type 0 where
+  pub octets : new ≡ old ++ compressed.octets
+  pub suffixes : AreEach IsSuffix plain_suffixes compressed.suffixes
+
+-- A name is appended as it is compressed while the table has this number of entries, and the suffixes are its own.
+abbrev pub Compresses : Rule → List ℕ → ℕ → PlainTarget → List ℕ → List Suffix → Type 0
+Compresses rule name entry_count old new suffixes =
+    (labels : Labels) (m : CompressionTable) → IsNamed name labels → ListsTable old.table.items m → IsInRange m
+    → AppendsCompressed old.octets.items new suffixes (compress rule m (length old.octets.items) entry_count labels)
 
 -- what is appended: if the old target represents some content, the new one represents it with the encoding of x after it, where x is what is to be encoded
 abbrev pub Appends : {X : Type 0} → (X → Type 0) → (X → Encoder) → PlainTarget → PlainTarget → Type 0

@@ -7,18 +7,11 @@
 //! this crate.
 #![tactic(auto)]
 
-mod compression;
-mod entries;
-mod items;
-mod message;
-mod names;
-mod sections;
+mod reading;
+mod writing;
 
-pub use compression::{PlainTarget, Rule};
-pub use entries::{
-    Header, Question, Record, header_at, question_at, question_end, record_at, record_end,
+pub use reading::{
+    EntryKind, Items, PlainEntry, PlainName, entries, entry_at, entry_end, name_at, name_end,
+    section_start,
 };
-pub use items::{Part, QuestionItem, RecordItem};
-pub use message::{PlainMessage, encode};
-pub use names::{PlainName, name_at, name_end};
-pub use sections::{Items, read_questions, read_records, section_start};
+pub use writing::{Part, PlainMessage, PlainTarget, QuestionItem, RecordItem, Rule, encode};

@@ -87,7 +87,7 @@ fn compression_lens(rt: &impl Abort, alloc: Global, names: &[&[u8]]) -> Vec<usiz
 fn plain_octets(rt: &impl Abort, alloc: Global, rule: Rule, names: &[&[u8]]) -> Vec<u8> {
     let mut plain = PlainTarget::new(alloc);
     for name in names {
-        plain.push_name(alloc, rule, name).expect(rt, "memory");
+        plain.push_name(rule, name).expect(rt, "memory");
     }
     plain.octets
 }

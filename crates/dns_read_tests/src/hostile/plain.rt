@@ -1,7 +1,7 @@
 //! What `dns_plain` reads of a message: names, entries and sections, as values that are copied and
 //! compared.
 use crate::hostile::buffer::Buffer;
-use dns_plain::{Question, Record};
+use dns_plain::{EntryKind, PlainEntry};
 use dns_section::Section;
 use dns_wire::ParseError;
 use std::alloc::Global;
@@ -35,53 +35,47 @@ pub(crate) struct Entry {
 /// The header of a record: all but the RDATA, and its length in octets.
 pub(crate) type Header = (Entry, u16);
 
-fn question_of(question: &Question) -> (Entry, usize) {
-    let entry = Entry {
-        name: Buffer::of(&question.name),
-        rtype: question.rtype,
-        class: question.class,
-        ttl: 0,
-        data: Buffer::new(),
-    };
-    (entry, question.end)
-}
-
-fn header_of(header: &dns_plain::Header, data: &[u8]) -> Entry {
-    Entry {
-        name: Buffer::of(&header.owner),
-        rtype: header.rtype,
-        class: header.class,
-        ttl: header.ttl,
-        data: Buffer::of(data),
+/// The kind of the entries of a section: questions in section 0, records in sections 1 to 3.
+fn kind_of(section: u8) -> EntryKind {
+    if section == 0 {
+        EntryKind::Question
+    } else {
+        EntryKind::Record
     }
 }
 
-fn record_of(octets: &[u8], record: &Record) -> (Entry, usize) {
-    let data = octets.get(record.header.end..record.end).unwrap_or(b"");
-    (header_of(&record.header, data), record.end)
+/// An entry, and the offset after it. The RDATA is the last octets before that.
+fn entry_of(octets: &[u8], entry: &PlainEntry) -> (Entry, usize) {
+    let seen = octets.get(..entry.end).unwrap_or(b"");
+    let start = seen.len().saturating_sub(usize::from(entry.rdlen));
+    let copy = Entry {
+        name: Buffer::of(&entry.name),
+        rtype: entry.rtype,
+        class: entry.class,
+        ttl: entry.ttl,
+        data: Buffer::of(seen.get(start..).unwrap_or(b"")),
+    };
+    (copy, entry.end)
 }
 
 /// The entry at this offset: a question in section 0, a record in sections 1 to 3.
 pub(crate) fn entry_at(octets: &[u8], section: u8, offset: usize) -> Located<Entry> {
-    match section {
-        0 => Ok(question_of(&dns_plain::question_at(octets, offset)?)),
-        _ => Ok(record_of(octets, &dns_plain::record_at(octets, offset)?)),
-    }
+    let entry = dns_plain::entry_at(octets, kind_of(section), offset)?;
+    Ok(entry_of(octets, &entry))
 }
 
 /// The offset after the entry of a section at this offset. Its name may be malformed where its
 /// pointer leads.
 pub(crate) fn skip_entry(octets: &[u8], section: u8, offset: usize) -> Result<usize, ParseError> {
-    match section {
-        0 => dns_plain::question_end(octets, offset),
-        _ => dns_plain::record_end(octets, offset),
-    }
+    dns_plain::entry_end(octets, kind_of(section), offset)
 }
 
 /// The record header at this offset.
 pub(crate) fn header_at(octets: &[u8], offset: usize) -> Located<Header> {
-    let header = dns_plain::header_at(octets, offset)?;
-    Ok(((header_of(&header, b""), header.rdlen), header.end))
+    let header = dns_plain::entry_at(octets, EntryKind::Header, offset)?;
+    let (entry, end) = entry_of(octets, &header);
+    let data = Buffer::new();
+    Ok(((Entry { data, ..entry }, header.rdlen), end))
 }
 
 /// The number of entries of a section by the header section.
@@ -141,22 +135,8 @@ pub(crate) struct Plain<'a> {
     parts: Vec<Part>,
 }
 
-/// The questions of a message.
-pub(crate) fn questions_of(rt: &impl Abort, alloc: Global, octets: &[u8]) -> Vec<Located<Entry>> {
-    let mut items = Vec::new(alloc);
-    let questions = dns_plain::read_questions(alloc, octets, count(octets, 0), 12);
-    for question in &questions.expect(rt, "memory") {
-        let item = match question {
-            Ok(question) => Ok(question_of(question)),
-            Err(error) => Err(*error),
-        };
-        items.push(item).expect(rt, "memory");
-    }
-    items
-}
-
-/// The records of a section, the first of which begins at this offset.
-fn records_of(
+/// The entries of a section, the first of which begins at this offset.
+fn entries_of(
     rt: &impl Abort,
     alloc: Global,
     octets: &[u8],
@@ -164,15 +144,21 @@ fn records_of(
     offset: usize,
 ) -> Vec<Located<Entry>> {
     let mut items = Vec::new(alloc);
-    let records = dns_plain::read_records(alloc, octets, count(octets, section), offset);
-    for record in &records.expect(rt, "memory") {
-        let item = match record {
-            Ok(record) => Ok(record_of(octets, record)),
+    let kind = kind_of(section);
+    let entries = dns_plain::entries(alloc, octets, kind, count(octets, section), offset);
+    for entry in &entries.expect(rt, "memory") {
+        let item = match entry {
+            Ok(entry) => Ok(entry_of(octets, entry)),
             Err(error) => Err(*error),
         };
         items.push(item).expect(rt, "memory");
     }
     items
+}
+
+/// The questions of a message.
+pub(crate) fn questions_of(rt: &impl Abort, alloc: Global, octets: &[u8]) -> Vec<Located<Entry>> {
+    entries_of(rt, alloc, octets, 0, 12)
 }
 
 /// A section of records.
@@ -184,7 +170,7 @@ fn part_of(rt: &impl Abort, alloc: Global, octets: &[u8], section: u8) -> Part {
         _ => dns_plain::section_start(octets, Section::Additional),
     };
     let items = match start {
-        Ok(offset) => records_of(rt, alloc, octets, section, offset),
+        Ok(offset) => entries_of(rt, alloc, octets, section, offset),
         Err(_) => Vec::new(alloc),
     };
     Part { start, items }
