@@ -5,10 +5,7 @@ ghost use Rattle.std.specs.List.{flat_map};
 ghost use Rattle.dns_wire.specs.Targets.{AppendReturns};
 ghost use Rattle.dns_opt_builder.specs.OptionLists.{AppendsOption};
 
-use dns_wire::AppendError;
-
-/// The most octets of a list of options, which is the RDATA of one record.
-const MOST_OCTETS: usize = 65_535;
+use dns_wire::{AppendError, MAX_OCTETS};
 
 /// The number of octets of an option's code and length.
 const HEAD_LEN: usize = 4;
@@ -103,7 +100,7 @@ fn begin_option(list: &mut Vec<u8>, code: u16, len: usize) -> Result<(), AppendE
     ensures full { result ≡ Err AppendError.OutOfMemory
         → vec_capacity list.old < length list.old.items + 4 + len }
 {
-    let left = MOST_OCTETS - list.len();
+    let left = MAX_OCTETS - list.len();
     if left < HEAD_LEN || len > left - HEAD_LEN {
         return Err(AppendError::ShortBuf);
     }

@@ -59,7 +59,7 @@ impl<Octs: Octets> Message<Octs> {
         ensures back { IfErr result (λ refused. refused ≡ octets) }
         ensures short { IsErr result ↔ (length (Octs.octets octets) < header_size) }
     {
-        if octets.octets().len() < 12 {
+        if octets.octets().len() < HeaderSection::LEN {
             return Err(octets);
         }
         Ok(Message::of_long(octets))
