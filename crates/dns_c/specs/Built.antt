@@ -1,7 +1,7 @@
 -- What `dnsm_build` writes for the items that C passes, and why it fails. RFC 1035 section 4.1.
-use Rattle.std.specs.Prelude.{◌≡◌, ◌≢◌, ◌<◌, ◌≤◌, ◌⊎◌, ◌++◌, ◌==◌, ◌||◌, ◌&&◌, if◌then◌else◌, ℕ, Bool, List, [], ◌∷◌, length, Option, Some, None, Result, Err}
+use Rattle.std.specs.Prelude.{◌≡◌, ◌≢◌, ◌+◌, ◌<◌, ◌≤◌, ◌⊎◌, ◌++◌, ◌==◌, ◌||◌, ◌&&◌, if◌then◌else◌, ℕ, Bool, List, [], ◌∷◌, length, Option, Some, None, Result, Err}
 use Rattle.std.specs.Int.{to_be_bytes, w16}
-use Rattle.std.specs.List.{filter_map}
+use Rattle.std.specs.List.{All, filter_map}
 use Rattle.dns_octets.specs.declared.error.AppendError.{AppendError}
 use Rattle.dns_name.specs.Names.{Fault, Labels}
 use Rattle.dns_name.specs.NameTexts.{SpellsName}
@@ -18,7 +18,7 @@ use Rattle.dns_item.specs.Items.{RecordItem}
 use Rattle.dns_item.specs.RecordReading.{WholeDataFaultAt}
 use Rattle.dns_section.specs.declared.section.Section.{Section}
 use Rattle.dns_section.specs.declared.section.Section.TheVariants.{Answer, Authority, Additional}
-use Rattle.dns_build.specs.State.{State, Stage, InQuestion, InAdditional, stage_of, move_to, rewound, with_questions, with_record, with_records, records_at, most_entries}
+use Rattle.dns_build.specs.State.{State, Stage, InQuestion, InAdditional, stage_of, move_to, rewound, with_questions, with_record, with_records, records_at, most_entries, depth_of}
 use Rattle.dns_build.specs.BuilderStates.{PushReturns, fresh, size_after}
 use Rattle.dns_build.specs.Answers.{ReturnsQuestion}
 use Rattle.dns_build.specs.MessageOf.{IsMessageOf}
@@ -81,6 +81,14 @@ AllMean [] [] = Unit {0}
 AllMean [] (x ∷ xs) = ⊥
 AllMean (item ∷ items) [] = ⊥
 AllMean (item ∷ items) (x ∷ xs) = Means item x × AllMean items xs
+
+-- each item of the question section is a question
+abbrev pub AreQuestions : List NewItem → Type 0
+AreQuestions items = All (λ item. item.section ≡ 0 → (x : QuestionItem) × IsQuestionOf item x) items
+
+-- each item of this section is a record; the number of a section plus one is the depth of its stage
+abbrev pub AreRecords : Section → List NewItem → Type 0
+AreRecords which items = All (λ item. item.section + 1 ≡ depth_of (stage_of which) → (x : RecordItem) × IsRecordOf item x) items
 
 -- What is written.
 
@@ -186,9 +194,13 @@ module _ (capacity : Option ℕ) (grows : Bool) (rule : Rule) where
       RefusesQuestion (questions_among xs) (beginning_of InQuestion header xs) n
       ⊎ ((which : Section) × RefusesRecord (stage_of which) (records_among which xs) (beginning_of (stage_of which) header xs) n)
 
+  -- the target refuses the header section or an entry
+  abbrev pub RefusesEntries : HeaderFields → List NewEntry → ℕ → Type 0
+  RefusesEntries header xs n = RefusesHeader n ⊎ RefusesEntry header xs n
+
   -- No message is built from the items: one of them is no entry; or all are, and the target refuses the header section or an entry.
   abbrev pub IsUnbuilt : HeaderFields → List NewItem → ℕ → Type 0
-  IsUnbuilt header items n = FirstRefused items n ⊎ ((xs : List NewEntry) × AllMean items xs × (RefusesHeader n ⊎ RefusesEntry header xs n))
+  IsUnbuilt header items n = FirstRefused items n ⊎ ((xs : List NewEntry) × AllMean items xs × RefusesEntries header xs n)
 
 -- all items are entries, and a section has more of them than its 16-bit count can hold. RFC 1035 section 4.1.1
 abbrev pub HasTooMany : List NewItem → Type 0
