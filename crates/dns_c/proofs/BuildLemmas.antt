@@ -8,10 +8,7 @@ use Rattle.std.specs.Prelude.{Bool, Option, Result, Err, None}
 use Rattle.dns_name.proofs.theory.NameTextFaults.{one_text_name}
 use Rattle.dns_wire.specs.Encoders.{Rule}
 use Rattle.dns_wire.specs.Parts.{Part}
-use Rattle.dns_data.proofs.theory.DataReading.{one_rdata_or_fault}
-use Rattle.dns_fields.specs.DataOrders.{octets_of_parts}
-use Rattle.dns_fields.specs.FieldData.{type_layout}
-use Rattle.dns_item.specs.ParsedData.{no_fault}
+use Rattle.dns_fields.proofs.theory.UncompressedOctets.{not_uncompressed, one_uncompressed}
 use Rattle.dns_octets.specs.declared.error.AppendError.{AppendError}
 use Rattle.dns_octets.specs.declared.error.AppendError.TheVariants as appending
 use Rattle.dns_wire.specs.Targets.{AppendReturns}
@@ -29,7 +26,7 @@ use Rattle.dns_build.specs.declared.push_error.PushError.TheVariants as pushing
 use Rattle.dns_c.specs.Codes.{append_fault, number_of, push_fault}
 use Rattle.dns_c.specs.Made.{SpellsNoName}
 use Rattle.dns_c.specs.Walk.{section_at}
-use Rattle.dns_c.specs.Built.{NewEntry, Question, Record, Means, AllMean, IsQuestionOf, IsRecordOf, IsDataOf, AreFieldsOf, HasNoFields, layout_type, LacksFields, IsRefused, FirstRefused, ReturnsRecordPush, RefusesHeader, RefusesQuestion, RefusesRecord, RefusesEntry, IsUnbuilt, HasTooMany, AreQuestions, AreRecords, RefusesEntries, beginning_of, questions_among, records_among}
+use Rattle.dns_c.specs.Built.{NewEntry, Question, Record, Means, AllMean, IsQuestionOf, IsRecordOf, IsDataOf, HasNoFields, item_data_type, LacksFields, IsRefused, FirstRefused, ReturnsRecordPush, RefusesHeader, RefusesQuestion, RefusesRecord, RefusesEntry, IsUnbuilt, HasTooMany, AreQuestions, AreRecords, RefusesEntries, beginning_of, questions_among, records_among}
 use Rattle.dns_c.specs.declared.build.NewItem.{NewItem}
 use Rattle.dns_c.specs.declared.code.Fault.TheVariants.{BadSection, BadText, LongData, BadData, NoRoom, TooMany}
 
@@ -42,16 +39,9 @@ same_question item x y h k =
     let class : x.class ≡ y.class = h.class ∙ sym k.class in
     λ i. record { name = name i; rtype = rtype i; class = class i }
 
--- its RDATA has one list of parts
-same_fields : (item : NewItem) (xs ys : List Part) → AreFieldsOf item xs → AreFieldsOf item ys → xs ≡ ys
-same_fields item xs ys h k =
-    let b = item.rdata.now in
-    ((one_rdata_or_fault b (type_layout (layout_type item)) 0 (omega arith)).one (length b) (length b) xs ys h k).1
-
--- and then it has fields
+-- its RDATA has fields, or it has none
 has_fields : (item : NewItem) (xs : List Part) → IsDataOf item xs → HasNoFields item → ⊥
-has_fields item xs h (inl none) = no_fault item.rdata.now (type_layout (layout_type item)) 0 (omega arith) xs none.0 h.fields none.1
-has_fields item xs h (inr pointed) = pointed.2 (ap octets_of_parts (sym (same_fields item xs pointed.0 h.fields pointed.1)) ∙ h.uncompressed)
+has_fields item xs h none = not_uncompressed (item_data_type item) item.rdata.now none.1 xs h
 
 same_record : (item : NewItem) (x y : RecordItem) → IsRecordOf item x → IsRecordOf item y → x ≡ y
 same_record item x y h k =
@@ -59,7 +49,7 @@ same_record item x y h k =
     let rtype : x.rtype ≡ y.rtype = h.rtype ∙ sym k.rtype in
     let class : x.class ≡ y.class = h.class ∙ sym k.class in
     let ttl : x.ttl ≡ y.ttl = h.ttl ∙ sym k.ttl in
-    let parts : x.parts ≡ y.parts = same_fields item x.parts y.parts h.parts.fields k.parts.fields in
+    let parts : x.parts ≡ y.parts = one_uncompressed (item_data_type item) item.rdata.now x.parts y.parts h.parts k.parts in
     λ i. record { owner = owner i; rtype = rtype i; class = class i; ttl = ttl i; parts = parts i }
 
 -- the remaining items, at an index and at the end
