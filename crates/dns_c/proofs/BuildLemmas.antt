@@ -1,15 +1,14 @@
 -- How the items that C passes become entries, and how entries are pushed.
-use Rattle.std.proofs.Common.{◌≡◌, ◌∙◌, ℕ, zero, suc, ◌+◌, ◌<◌, ◌≤◌, ◌⊎◌, List, [], ◌∷◌, ◌++◌, length, drop, get_or, length-append, append_assoc, append-nil, ap, sym, subst, refl, inl, inr, arith}
+use Rattle.std.proofs.Common.{◌≡◌, ◌∙◌, ℕ, zero, suc, ◌+◌, ◌<◌, ◌≤◌, ◌⊎◌, List, [], ◌∷◌, ◌++◌, length, drop, take, get_or, length-append, append_assoc, append-nil, ap, sym, subst, refl, inl, inr, arith}
 use Rattle.std.proofs.Math.Seq.{drop-cons}
-use Rattle.std.proofs.lemmas.List.{drop_all}
+use Rattle.std.proofs.lemmas.List.{drop_all, take_all}
+use Rattle.std.proofs.lemmas.List.Elements.{All-cons, All-more, All-nil, All-tail}
+use Rattle.std.specs.List.{All}
 use Rattle.std.specs.Prelude.{Bool, Option, Result, Err, None}
 use Rattle.dns_name.proofs.theory.NameTextFaults.{one_text_name}
 use Rattle.dns_wire.specs.Encoders.{Rule}
 use Rattle.dns_wire.specs.Parts.{Part}
-use Rattle.dns_data.proofs.theory.DataReading.{one_rdata_or_fault}
-use Rattle.dns_fields.specs.DataOrders.{octets_of_parts}
-use Rattle.dns_fields.specs.FieldData.{type_layout}
-use Rattle.dns_item.specs.ParsedData.{no_fault}
+use Rattle.dns_fields.proofs.theory.UncompressedOctets.{not_uncompressed, one_uncompressed}
 use Rattle.dns_octets.specs.declared.error.AppendError.{AppendError}
 use Rattle.dns_octets.specs.declared.error.AppendError.TheVariants as appending
 use Rattle.dns_wire.specs.Targets.{AppendReturns}
@@ -27,7 +26,7 @@ use Rattle.dns_build.specs.declared.push_error.PushError.TheVariants as pushing
 use Rattle.dns_c.specs.Codes.{append_fault, number_of, push_fault}
 use Rattle.dns_c.specs.Made.{SpellsNoName}
 use Rattle.dns_c.specs.Walk.{section_at}
-use Rattle.dns_c.specs.Built.{NewEntry, Question, Record, Means, AllMean, IsQuestionOf, IsRecordOf, IsDataOf, AreFieldsOf, HasNoFields, layout_type, LacksFields, IsRefused, FirstRefused, ReturnsRecordPush, RefusesHeader, RefusesQuestion, RefusesRecord, RefusesEntry, IsUnbuilt, HasTooMany, beginning_of, questions_among, records_among}
+use Rattle.dns_c.specs.Built.{NewEntry, Question, Record, Means, AllMean, IsQuestionOf, IsRecordOf, IsDataOf, HasNoFields, item_data_type, LacksFields, IsRefused, FirstRefused, ReturnsRecordPush, RefusesHeader, RefusesQuestion, RefusesRecord, RefusesEntry, IsUnbuilt, HasTooMany, AreQuestions, AreRecords, RefusesEntries, beginning_of, questions_among, records_among}
 use Rattle.dns_c.specs.declared.build.NewItem.{NewItem}
 use Rattle.dns_c.specs.declared.code.Fault.TheVariants.{BadSection, BadText, LongData, BadData, NoRoom, TooMany}
 
@@ -40,16 +39,9 @@ same_question item x y h k =
     let class : x.class ≡ y.class = h.class ∙ sym k.class in
     λ i. record { name = name i; rtype = rtype i; class = class i }
 
--- its RDATA has one list of parts
-same_fields : (item : NewItem) (xs ys : List Part) → AreFieldsOf item xs → AreFieldsOf item ys → xs ≡ ys
-same_fields item xs ys h k =
-    let b = item.rdata.now in
-    ((one_rdata_or_fault b (type_layout (layout_type item)) 0 (omega arith)).one (length b) (length b) xs ys h k).1
-
--- and then it has fields
+-- its RDATA has fields, or it has none
 has_fields : (item : NewItem) (xs : List Part) → IsDataOf item xs → HasNoFields item → ⊥
-has_fields item xs h (inl none) = no_fault item.rdata.now (type_layout (layout_type item)) 0 (omega arith) xs none.0 h.fields none.1
-has_fields item xs h (inr pointed) = pointed.2 (ap octets_of_parts (sym (same_fields item xs pointed.0 h.fields pointed.1)) ∙ h.uncompressed)
+has_fields item xs h none = not_uncompressed (item_data_type item) item.rdata.now none.1 xs h
 
 same_record : (item : NewItem) (x y : RecordItem) → IsRecordOf item x → IsRecordOf item y → x ≡ y
 same_record item x y h k =
@@ -57,7 +49,7 @@ same_record item x y h k =
     let rtype : x.rtype ≡ y.rtype = h.rtype ∙ sym k.rtype in
     let class : x.class ≡ y.class = h.class ∙ sym k.class in
     let ttl : x.ttl ≡ y.ttl = h.ttl ∙ sym k.ttl in
-    let parts : x.parts ≡ y.parts = same_fields item x.parts y.parts h.parts.fields k.parts.fields in
+    let parts : x.parts ≡ y.parts = one_uncompressed (item_data_type item) item.rdata.now x.parts y.parts h.parts k.parts in
     λ i. record { owner = owner i; rtype = rtype i; class = class i; ttl = ttl i; parts = parts i }
 
 -- the remaining items, at an index and at the end
@@ -434,26 +426,93 @@ module _ (capacity : Option ℕ) (grows : Bool) (rule : Rule) where
   unbuilt_full header items n many (inl h) = absurd (first_otherwise n (λ is. omega arith) (λ is. omega arith) (λ is. omega arith) (λ is. omega arith) items h)
   unbuilt_full header items n many (inr h) = (h.0, h.1, made_full header h.0 n many h.2)
 
--- All items are entries, and writing them fails.
+-- Writing entries fails.
 
-module _ (capacity : Option ℕ) (grows : Bool) (rule : Rule) (header : HeaderFields) (items : List NewItem) (xs : List NewEntry) (mean : AllMean items xs) where
+module _ (capacity : Option ℕ) (grows : Bool) (rule : Rule) (header : HeaderFields) (xs : List NewEntry) where
   -- at the header section
   header_refused : {X : Type 0} (r : Result X AppendError) (e : AppendError) → r ≡ Err e → AppendReturns capacity grows header_size r → AppendReturns {X = Unit {0}} capacity grows header_size (Err e)
   header_refused {X} r appending.ShortBuf is answer = subst (λ (q : Result X AppendError). AppendReturns capacity grows header_size q) is answer
   header_refused {X} r appending.OutOfMemory is answer = subst (λ (q : Result X AppendError). AppendReturns capacity grows header_size q) is answer
 
-  pub unbuilt_header : {X : Type 0} (r : Result X AppendError) (e : AppendError) → r ≡ Err e → AppendReturns capacity grows header_size r → IsUnbuilt capacity grows rule header items (number_of (append_fault e))
-  unbuilt_header r e is answer = inr (xs, mean, inl (record { error = e; refused = header_refused r e is answer; number = refl }))
+  pub refused_header : {X : Type 0} (r : Result X AppendError) (e : AppendError) → r ≡ Err e → AppendReturns capacity grows header_size r → RefusesEntries capacity grows rule header xs (number_of (append_fault e))
+  refused_header r e is answer = inl (record { error = e; refused = header_refused r e is answer; number = refl })
 
   -- at a question
-  pub unbuilt_question : (own : HeaderFields) (n : ℕ) → own ≡ header → RefusesQuestion capacity grows rule (questions_among xs) (beginning_of InQuestion own xs) n → IsUnbuilt capacity grows rule header items n
-  unbuilt_question own n is refuses = inr (xs, mean, inr (inl (subst (λ (h : HeaderFields). RefusesQuestion capacity grows rule (questions_among xs) (beginning_of InQuestion h xs) n) is refuses)))
+  pub refused_question : (own : HeaderFields) (n : ℕ) → own ≡ header → RefusesQuestion capacity grows rule (questions_among xs) (beginning_of InQuestion own xs) n → RefusesEntries capacity grows rule header xs n
+  refused_question own n is refuses = inr (inl (subst (λ (h : HeaderFields). RefusesQuestion capacity grows rule (questions_among xs) (beginning_of InQuestion h xs) n) is refuses))
 
   -- at a record
-  pub unbuilt_record : (which : Section) (own : HeaderFields) (n : ℕ) → own ≡ header → RefusesRecord capacity grows rule (stage_of which) (records_among which xs) (beginning_of (stage_of which) own xs) n
-      → IsUnbuilt capacity grows rule header items n
-  unbuilt_record which own n is refuses =
-      inr (xs, mean, inr (inr (which, subst (λ (h : HeaderFields). RefusesRecord capacity grows rule (stage_of which) (records_among which xs) (beginning_of (stage_of which) h xs) n) is refuses)))
+  pub refused_record : (which : Section) (own : HeaderFields) (n : ℕ) → own ≡ header → RefusesRecord capacity grows rule (stage_of which) (records_among which xs) (beginning_of (stage_of which) own xs) n
+      → RefusesEntries capacity grows rule header xs n
+  refused_record which own n is refuses =
+      inr (inr (which, subst (λ (h : HeaderFields). RefusesRecord capacity grows rule (stage_of which) (records_among which xs) (beginning_of (stage_of which) h xs) n) is refuses))
+
+-- The items of each section are converted, so all items are entries.
+
+abbrev IsInSection : NewItem → Type 0
+IsInSection item = item.section ≤ 3
+
+abbrev MayAsk : NewItem → Type 0
+MayAsk item = item.section ≡ 0 → (x : QuestionItem) × IsQuestionOf item x
+
+abbrev MayState : Section → NewItem → Type 0
+MayState which item = item.section + 1 ≡ depth_of (stage_of which) → (x : RecordItem) × IsRecordOf item x
+
+-- an item of each section, by its number
+entry_at : (item : NewItem) (n : ℕ) → item.section ≡ n → n ≤ 3 → (item.section ≡ 0 → (x : QuestionItem) × IsQuestionOf item x)
+    → ((which : Section) → item.section + 1 ≡ depth_of (stage_of which) → (x : RecordItem) × IsRecordOf item x) → (x : NewEntry) × Means item x
+entry_at item zero is small question records = let q = question is in (Question q.0, (is, q.1))
+entry_at item (suc zero) is small question records =
+    let r = records Answer (omega arith) in
+    (Record (section_at item.section) r.0, (omega arith, omega arith, refl, r.1))
+entry_at item (suc (suc zero)) is small question records =
+    let r = records Authority (omega arith) in
+    (Record (section_at item.section) r.0, (omega arith, omega arith, refl, r.1))
+entry_at item (suc (suc (suc n))) is small question records =
+    let r = records Additional (omega arith) in
+    (Record (section_at item.section) r.0, (omega arith, omega arith, refl, r.1))
+
+pub all_entries : (items : List NewItem) → All (λ item. item.section ≤ 3) items → AreQuestions items → ((which : Section) → AreRecords which items) → (xs : List NewEntry) × AllMean items xs
+all_entries [] sections questions records = ([], tt)
+all_entries (item ∷ items) sections questions records =
+    let first = entry_at item item.section refl (sections 0 item (omega arith)) (questions 0 item (omega arith)) (λ which. records which 0 item (omega arith)) in
+    let more = all_entries items (All-tail IsInSection item items sections) (All-tail MayAsk item items questions) (λ which. All-tail (MayState which) item items (records which)) in
+    (first.0 ∷ more.0, (first.1, more.1))
+
+-- entries are in one of the four sections
+pub have_sections : (items : List NewItem) (xs : List NewEntry) → AllMean items xs → All (λ item. item.section ≤ 3) items
+have_sections [] xs mean = All-nil IsInSection
+have_sections (item ∷ items) [] mean = absurd mean
+have_sections (item ∷ items) (Question x ∷ xs) mean = All-cons IsInSection item items (let own = mean.0.0 in omega arith) (have_sections items xs mean.1)
+have_sections (item ∷ items) (Record which x ∷ xs) mean = All-cons IsInSection item items mean.0.1 (have_sections items xs mean.1)
+
+-- records of each section
+pub all_records : (items : List NewItem) → AreRecords Answer items → AreRecords Authority items → AreRecords Additional items → (which : Section) → AreRecords which items
+all_records items answers authorities additionals Answer = answers
+all_records items answers authorities additionals Authority = authorities
+all_records items answers authorities additionals Additional = additionals
+
+-- The items before an index are converted.
+
+module _ (items : List NewItem) where
+  pub no_questions : AreQuestions (take 0 items)
+  no_questions = All-nil MayAsk
+
+  pub one_question : (i : ℕ) (d : NewItem) → i < length items → AreQuestions (take i items) → MayAsk (get_or items i d) → AreQuestions (take (i + 1) items)
+  one_question i d within before here = All-more MayAsk items i d within before here
+
+  pub all_questions : (i : ℕ) → length items ≤ i → AreQuestions (take i items) → AreQuestions items
+  all_questions i past before = subst AreQuestions (take_all i items past) before
+
+  module _ (which : Section) where
+    pub no_records : AreRecords which (take 0 items)
+    no_records = All-nil (MayState which)
+
+    pub one_record : (i : ℕ) (d : NewItem) → i < length items → AreRecords which (take i items) → MayState which (get_or items i d) → AreRecords which (take (i + 1) items)
+    one_record i d within before here = All-more (MayState which) items i d within before here
+
+    pub each_record : (i : ℕ) → length items ≤ i → AreRecords which (take i items) → AreRecords which items
+    each_record i past before = subst (AreRecords which) (take_all i items past) before
 
 -- the number of a section plus one is the depth of its stage
 pub at_depth : (stage : Stage) (which : Section) (depth m n : ℕ) → stage ≡ stage_of which → depth ≡ depth_of stage → m + 1 ≡ depth → m ≡ n → n + 1 ≡ depth_of (stage_of which)

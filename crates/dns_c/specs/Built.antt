@@ -1,7 +1,7 @@
 -- What `dnsm_build` writes for the items that C passes, and why it fails. RFC 1035 section 4.1.
-use Rattle.std.specs.Prelude.{◌≡◌, ◌≢◌, ◌<◌, ◌≤◌, ◌⊎◌, ◌++◌, ◌==◌, ◌||◌, ◌&&◌, if◌then◌else◌, ℕ, Bool, List, [], ◌∷◌, length, Option, Some, None, Result, Err}
+use Rattle.std.specs.Prelude.{◌≡◌, ◌+◌, ◌<◌, ◌≤◌, ◌⊎◌, ◌++◌, ℕ, Bool, List, [], ◌∷◌, length, Option, Some, None, Result, Err}
 use Rattle.std.specs.Int.{to_be_bytes, w16}
-use Rattle.std.specs.List.{filter_map}
+use Rattle.std.specs.List.{All, filter_map}
 use Rattle.dns_octets.specs.declared.error.AppendError.{AppendError}
 use Rattle.dns_name.specs.Names.{Fault, Labels}
 use Rattle.dns_name.specs.NameTexts.{SpellsName}
@@ -11,14 +11,12 @@ use Rattle.dns_wire.specs.Targets.{AppendReturns}
 use Rattle.dns_code.specs.Header.{HeaderFields, fields_in}
 use Rattle.dns_code.specs.HeaderSection.{header_size}
 use Rattle.dns_question.specs.Questions.{QuestionItem}
-use Rattle.dns_data.specs.Layout.{DataAt}
-use Rattle.dns_fields.specs.DataOrders.{octets_of_parts}
-use Rattle.dns_fields.specs.FieldData.{type_layout}
+use Rattle.dns_fields.specs.LayoutTypes.{layout_type}
+use Rattle.dns_fields.specs.UncompressedData.{IsUncompressedData, UncompressedDataFault}
 use Rattle.dns_item.specs.Items.{RecordItem}
-use Rattle.dns_item.specs.RecordReading.{WholeDataFaultAt}
 use Rattle.dns_section.specs.declared.section.Section.{Section}
 use Rattle.dns_section.specs.declared.section.Section.TheVariants.{Answer, Authority, Additional}
-use Rattle.dns_build.specs.State.{State, Stage, InQuestion, InAdditional, stage_of, move_to, rewound, with_questions, with_record, with_records, records_at, most_entries}
+use Rattle.dns_build.specs.State.{State, Stage, InQuestion, InAdditional, stage_of, move_to, rewound, with_questions, with_record, with_records, records_at, most_entries, depth_of}
 use Rattle.dns_build.specs.BuilderStates.{PushReturns, fresh, size_after}
 use Rattle.dns_build.specs.Answers.{ReturnsQuestion}
 use Rattle.dns_build.specs.MessageOf.{IsMessageOf}
@@ -42,24 +40,17 @@ pub record IsQuestionOf (item : NewItem) (x : QuestionItem) : Type 0 where
   pub rtype : x.rtype ≡ item.rtype
   pub class : x.class ≡ item.class
 
--- the type whose fields an item's RDATA has: its own; but NULL (10) if the class is NONE (254) or ANY (255) and there is no RDATA. RFC 2136 section 2.4
-abbrev pub layout_type : NewItem → ℕ
-layout_type item = if ((item.class == 254) || (item.class == 255)) && (length item.rdata.now == 0) then 10 else item.rtype
+-- the type whose fields an item's RDATA has. RFC 2136 section 2.4
+abbrev pub item_data_type : NewItem → ℕ
+item_data_type item = layout_type item.class (length item.rdata.now) item.rtype
 
--- an item's octets are these parts: the fields of its type, which take all the octets. A name may have a pointer.
-abbrev pub AreFieldsOf : NewItem → List Part → Type 0
-AreFieldsOf item parts = DataAt item.rdata.now (type_layout (layout_type item)) 0 (length item.rdata.now) parts
-
--- the parts of an item's RDATA: these fields, and the octets are the parts uncompressed, so there is no pointer. RFC 1035 section 4.1.4
-pub record IsDataOf (item : NewItem) (parts : List Part) : Type 0 where
-  pub fields : AreFieldsOf item parts
-  pub uncompressed : octets_of_parts parts ≡ item.rdata.now
+-- the parts of an item's RDATA: its octets are the fields of that type, uncompressed. RFC 1035 section 4.1.4
+abbrev pub IsDataOf : NewItem → List Part → Type 0
+IsDataOf item parts = IsUncompressedData (item_data_type item) item.rdata.now parts
 
 -- its octets aren't these fields; or they are, but not uncompressed
 abbrev pub HasNoFields : NewItem → Type 0
-HasNoFields item =
-    ((fault : Fault) × WholeDataFaultAt item.rdata.now (type_layout (layout_type item)) 0 fault)
-    ⊎ ((parts : List Part) × AreFieldsOf item parts × (octets_of_parts parts ≢ item.rdata.now))
+HasNoFields item = (fault : Fault) × UncompressedDataFault (item_data_type item) item.rdata.now fault
 
 -- an item as a record: also its TTL and its RDATA
 pub record IsRecordOf (item : NewItem) (x : RecordItem) : Type 0 where
@@ -81,6 +72,14 @@ AllMean [] [] = Unit {0}
 AllMean [] (x ∷ xs) = ⊥
 AllMean (item ∷ items) [] = ⊥
 AllMean (item ∷ items) (x ∷ xs) = Means item x × AllMean items xs
+
+-- each item of the question section is a question
+abbrev pub AreQuestions : List NewItem → Type 0
+AreQuestions items = All (λ item. item.section ≡ 0 → (x : QuestionItem) × IsQuestionOf item x) items
+
+-- each item of this section is a record; the number of a section plus one is the depth of its stage
+abbrev pub AreRecords : Section → List NewItem → Type 0
+AreRecords which items = All (λ item. item.section + 1 ≡ depth_of (stage_of which) → (x : RecordItem) × IsRecordOf item x) items
 
 -- What is written.
 
@@ -186,9 +185,13 @@ module _ (capacity : Option ℕ) (grows : Bool) (rule : Rule) where
       RefusesQuestion (questions_among xs) (beginning_of InQuestion header xs) n
       ⊎ ((which : Section) × RefusesRecord (stage_of which) (records_among which xs) (beginning_of (stage_of which) header xs) n)
 
+  -- the target refuses the header section or an entry
+  abbrev pub RefusesEntries : HeaderFields → List NewEntry → ℕ → Type 0
+  RefusesEntries header xs n = RefusesHeader n ⊎ RefusesEntry header xs n
+
   -- No message is built from the items: one of them is no entry; or all are, and the target refuses the header section or an entry.
   abbrev pub IsUnbuilt : HeaderFields → List NewItem → ℕ → Type 0
-  IsUnbuilt header items n = FirstRefused items n ⊎ ((xs : List NewEntry) × AllMean items xs × (RefusesHeader n ⊎ RefusesEntry header xs n))
+  IsUnbuilt header items n = FirstRefused items n ⊎ ((xs : List NewEntry) × AllMean items xs × RefusesEntries header xs n)
 
 -- all items are entries, and a section has more of them than its 16-bit count can hold. RFC 1035 section 4.1.1
 abbrev pub HasTooMany : List NewItem → Type 0

@@ -9,3 +9,5 @@ pub mod Opts
 pub mod DataNames
 pub mod Sinks
 pub mod NewData
+pub mod CallerBuffers
+pub mod NameTables

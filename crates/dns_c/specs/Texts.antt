@@ -1,15 +1,16 @@
 -- Text in a caller's buffer, and the texts of record types, classes, names and RDATA. RFC 1035 section 5.1, RFC 3597 section 5.
 use Rattle.std.specs.Prelude.{◌≡◌, ℕ, ◌≤◌, ◌-◌, ◌^◌, List, codes, drop, length, take, min, Option}
+use Rattle.std.specs.Result.{result_ok}
 use Rattle.dns_name.specs.Names.{Fault}
 use Rattle.dns_number.specs.NumberTexts.{number_text}
 use Rattle.dns_number.specs.Registry.{registered_classes, registered_types}
 use Rattle.dns_item.specs.Items.{RecordEntry, ReadsRecord, RecordFaultAt}
 use Rattle.dns_item.specs.ParsedRecord.{EncodedRecord}
 use Rattle.dns_item.specs.RecordReading.{up_to_rdata_end}
+use Rattle.dns_item.specs.TypedRecords.{data_in}
 use Rattle.dns_wire.specs.Parts.{Part}
 use Rattle.dns_fields.specs.FieldData.{type_layout}
-use Rattle.dns_lines.specs.ZoneLines.{rdata_text}
-use Rattle.dns_tool.specs.Show.{data_parts}
+use Rattle.dns_fields_text.specs.RdataTexts.{rdata_text}
 use Rattle.dns_c.specs.Codes.{ReportsFault}
 
 -- `end` is the length of the text, at most 2^64 - 1, and the buffer begins with the text if it is long enough
@@ -39,7 +40,7 @@ data_octets b x = drop x.rdata_start (up_to_rdata_end b x)
 
 -- the parts of a record's RDATA as the fields of its type; none if it is malformed
 abbrev pub field_parts : EncodedRecord → Option (List Part)
-field_parts r = data_parts r (type_layout r.entry.rtype)
+field_parts r = result_ok (data_in r (type_layout r.entry.rtype))
 
 -- the text of RDATA: its fields, or its octets if it is malformed
 abbrev pub data_text : List ℕ → RecordEntry → List ℕ

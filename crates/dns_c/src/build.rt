@@ -1,5 +1,6 @@
 //! Builds a message from the items that a caller passes.
-ghost use Rattle.std.specs.Prelude.{◌≡◌, List, None, true, IfOk, IfErr, OnOk};
+ghost use Rattle.std.specs.Prelude.{◌≡◌, ◌≤◌, ◌↔◌, IsTrue, List, None, true, IfOk, IfErr, OnOk};
+ghost use Rattle.std.specs.List.{All};
 ghost use Rattle.dns_name.specs.NameReading.{name_labels};
 ghost use Rattle.dns_wire.specs.Encoders.{Tree};
 ghost use Rattle.dns_build.specs.State.{InQuestion, with_questions, with_records};
@@ -8,7 +9,7 @@ ghost use Rattle.dns_build.specs.BuilderStates.{InEach, MovesState};
 ghost use Rattle.dns_c.specs.Codes.{number_of};
 ghost use Rattle.dns_c.specs.Made.{SpellsNoName};
 ghost use Rattle.dns_c.specs.NewData.{new_rtype, new_parts};
-ghost use Rattle.dns_c.specs.Built.{NewEntry, Means, AllMean, IsQuestionOf, IsRecordOf, IsBuilt, LacksFields, IsRefused, FirstRefused, RefusesQuestion, RefusesRecord, IsUnbuilt, questions_among, records_among, header_of};
+ghost use Rattle.dns_c.specs.Built.{NewEntry, Means, AllMean, AreQuestions, AreRecords, IsQuestionOf, IsRecordOf, IsBuilt, LacksFields, IsRefused, FirstRefused, RefusesEntries, RefusesQuestion, RefusesRecord, IsUnbuilt, questions_among, records_among, header_of};
 
 use crate::code::Fault;
 use crate::make::{Text, name_of};
@@ -122,11 +123,19 @@ fn check_all(items: &[NewItem<'_>]) -> Result<(), Fault>
     Ok(())
 }
 
+/// Whether each item is in the question section or in a section of records.
+fn have_sections(items: &[NewItem<'_>]) -> bool
+    ensures { IsTrue result ↔ All (λ item. item.section ≤ 3) items.now }
+{
+    items.iter().all(|item| item.section <= ADDITIONAL)
+}
+
 /// Pushes the questions among `items`, in order. Stops at the first that is refused.
 fn push_questions<T: Composer>(
     builder: &mut QuestionBuilder<T>,
     items: &[NewItem<'_>],
 ) -> Result<(), Fault>
+    ensures questions { OnOk result (AreQuestions items.now) }
     ensures pushed { OnOk result ((xs : List NewEntry) → AllMean items.now xs
         → MovesState InQuestion InQuestion T.rule (with_questions (questions_among xs))
         builder.old builder.new) }
@@ -148,6 +157,7 @@ fn push_records<T: Composer, S: RecordStage>(
     builder: &mut Builder<T, S>,
     items: &[NewItem<'_>],
 ) -> Result<(), Fault>
+    ensures records { OnOk result (AreRecords S.section items.now) }
     ensures pushed { OnOk result ((xs : List NewEntry) → AllMean items.now xs
         → MovesState S.stage S.stage T.rule (with_records S.stage (records_among S.section xs))
         builder.old builder.new) }
@@ -172,19 +182,17 @@ fn header_of(id: u16, flags: u16) -> Header
     Header::for_message_slice(&[a, b, c, d])
 }
 
-/// Writes the header and the items, each in its section, in order. Empties `target` first.
-fn build_over<T: Composer>(
-    target: T,
-    id: u16,
-    flags: u16,
-    items: &[NewItem<'_>],
-) -> Result<T, Fault>
+/// Writes the header and the items, each in its section, in order. Empties `target` first. Each
+/// item is converted once, when it is pushed, so an error may not be that of the first bad item.
+fn push_all<T: Composer>(target: T, id: u16, flags: u16, items: &[NewItem<'_>]) -> Result<T, Fault>
     ensures made { IfOk result (λ made. IsBuilt T.rule id flags items.now
         (T.written made).octets) }
-    ensures none { IfErr result (λ fault. IsUnbuilt T.capacity T.grows T.rule (header_of id flags)
-        items.now (number_of fault)) }
+    ensures none { IfErr result (λ fault. (xs : List NewEntry) → AllMean items.now xs
+        → RefusesEntries T.capacity T.grows T.rule (header_of id flags) xs (number_of fault)) }
 {
-    check_all(items)?;
+    if !have_sections(items) {
+        return Err(Fault::BadSection);
+    }
     let mut builder = MessageBuilder::from_target(target)?;
     builder.set_header(header_of(id, flags));
     let mut questions = builder.question();
@@ -196,6 +204,28 @@ fn build_over<T: Composer>(
     let mut additionals = authorities.additional();
     push_records(&mut additionals, items)?;
     Ok(additionals.finish())
+}
+
+/// Like `push_all`, but the error is that of the first bad item, if there is one: only after an
+/// error the items are checked in their order.
+fn build_over<T: Composer>(
+    target: T,
+    id: u16,
+    flags: u16,
+    items: &[NewItem<'_>],
+) -> Result<T, Fault>
+    ensures made { IfOk result (λ made. IsBuilt T.rule id flags items.now
+        (T.written made).octets) }
+    ensures none { IfErr result (λ fault. IsUnbuilt T.capacity T.grows T.rule (header_of id flags)
+        items.now (number_of fault)) }
+{
+    match push_all(target, id, flags, items) {
+        Ok(made) => Ok(made),
+        Err(fault) => {
+            check_all(items)?;
+            Err(fault)
+        }
+    }
 }
 
 /// Like `build_over`, with compressed names. Allocates.

@@ -4,8 +4,8 @@ ghost use Rattle.dns_name.specs.Names.{fault_of};
 ghost use Rattle.dns_data.specs.Printing.{opaque_text};
 ghost use Rattle.dns_fields_text.specs.DataTexts.{data_line};
 ghost use Rattle.dns_item.specs.Items.{RecordEntry, RecordFaultAt};
+ghost use Rattle.dns_item.specs.ParsedData.{HasSpan};
 ghost use Rattle.dns_item.specs.ParsedRecord.{octets_of, parsed_entry, encoded_record};
-ghost use Rattle.dns_tool.specs.Show.{IsRead};
 ghost use Rattle.dns_c.specs.Codes.{number_of};
 ghost use Rattle.dns_c.specs.Texts.{Holds, NoRecordAt, RecordAt, data_octets, data_text};
 
@@ -22,6 +22,7 @@ use dns_wire::ParseError;
 fn record_at(octets: &[u8], place: usize) -> Result<(ParsedRecord<'_>, &[u8]), ParseError>
     ensures octets { IfOk result (λ found. octets_of found.0 ≡ octets.now) }
     ensures found { IfOk result (λ found. RecordAt octets.now place (parsed_entry found.0)) }
+    ensures span { IfOk result (λ found. HasSpan (encoded_record found.0)) }
     ensures opaque { IfOk result (λ found.
         found.1.now ≡ data_octets octets.now (parsed_entry found.0)) }
     ensures none { IfErr result (λ error. RecordFaultAt octets.now place (fault_of error)) }
@@ -57,7 +58,7 @@ fn write_octets(octets: &[u8], out: &mut [u8]) -> End
 
 /// Writes RDATA by its fields, or as octets if it is malformed.
 fn write_data(found: &ParsedRecord<'_>, opaque: &[u8], out: &mut [u8]) -> End
-    requires read { IsRead (encoded_record found.now) }
+    requires span { HasSpan (encoded_record found.now) }
     requires opaque { opaque.now ≡ data_octets (octets_of found.now) (parsed_entry found.now) }
     ensures { Holds out.new (data_text (octets_of found.now) (parsed_entry found.now)) result }
 {

@@ -1,11 +1,20 @@
-//! How faults compare, and how what C passes and gets clones. The functions do nothing: the contract
-//! of each is a theorem over all values.
+//! Where the names in RDATA are, how faults compare, and how what C passes and gets clones. The
+//! functions do nothing: the contract of each is a theorem over all values.
 ghost use Rattle.std.specs.Prelude.{◌≡◌, ◌↔◌, IsTrue};
+ghost use Rattle.dns_c.specs.NameTables.{FirstNamesAreFields, PutLayoutsAreFields};
 
 use crate::build::NewItem;
 use crate::code::Fault;
 use crate::opts::{Opt, OptOption};
 use crate::walk::{Cursor, Header, Item};
+
+/// The names that `dnsm_data_name` finds, and those that `dnsm_put` compresses, are those among the
+/// fields of the record types in `TABLE` of `dns_fields`.
+#[tactic(auto, unfolding(dns_fields::specs::RecordTypes::record_types, dns_fields::specs::Table::definitions_of, crate::specs::DataNames::first_names))]
+pub fn names_are_fields()
+    ensures first { FirstNamesAreFields }
+    ensures put { PutLayoutsAreFields }
+{}
 
 /// Two faults are equal if and only if they are the same.
 pub fn fault_equality()

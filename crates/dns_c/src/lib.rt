@@ -36,6 +36,7 @@ ghost use Rattle.dns_put.specs.Refusals.{IsAcceptable, IsRefused};
 ghost use Rattle.dns_put.specs.declared.draft.Draft.{Draft};
 ghost use Rattle.dns_put.specs.declared.draft.PutError.{PutError};
 ghost use Rattle.dns_c.specs.Built.{HasTooMany, IsBuilt, IsUnbuilt, header_of};
+ghost use Rattle.dns_c.specs.CallerBuffers.{WritesOctets, WritesText};
 ghost use Rattle.dns_c.specs.Codes.{number_of, put_fault};
 ghost use Rattle.dns_c.specs.DataNames.{IsDataName, LacksDataName, data_end, up_to_data_end};
 ghost use Rattle.dns_c.specs.Made.{AsksNothing, AsksOne, HoldsQuery, IsLonger, IsQuery, IsResponse, LacksName, SpellsNoName};
@@ -100,9 +101,7 @@ pub extern "C" fn dnsm_name_text(
     out: &mut [u8],
     len: &mut usize,
 ) -> u32
-    ensures length { length out.new ≡ length out.old }
-    ensures within { result ≡ 0 → len.new < length out.new }
-    ensures empty { result ≢ 0 → result ≢ number_of Fault.NoRoom → len.new ≡ 0 }
+    ensures writes { WritesText out.old out.new len.new result }
     ensures text { result ≡ 0 → (name : Labels) × NameAt message.now place name
         × (take (len.new + 1) out.new ≡ name_text name ++ 46 ∷ 0 ∷ []) }
     ensures no_room { result ≡ number_of Fault.NoRoom → (name : Labels)
@@ -126,9 +125,7 @@ pub extern "C" fn dnsm_name_octets(
     out: &mut [u8],
     len: &mut usize,
 ) -> u32
-    ensures length { length out.new ≡ length out.old }
-    ensures within { result ≡ 0 → len.new ≤ length out.new }
-    ensures empty { result ≢ 0 → result ≢ number_of Fault.NoRoom → len.new ≡ 0 }
+    ensures writes { WritesOctets out.old out.new len.new result }
     ensures name { result ≡ 0 → (name : Labels) × NameAt message.now place name
         × (take len.new out.new ≡ uncompressed name) }
     ensures no_room { result ≡ number_of Fault.NoRoom → (name : Labels)
@@ -152,9 +149,8 @@ pub extern "C" fn dnsm_data_text(
     out: &mut [u8],
     len: &mut usize,
 ) -> u32
-    ensures length { length out.new ≡ length out.old }
-    ensures empty { result ≢ 0 → result ≢ number_of Fault.NoRoom → len.new ≡ 0 }
-    ensures ended { result ≡ 0 → (len.new < length out.new) × (get_or out.new len.new 1 ≡ 0) }
+    ensures writes { WritesText out.old out.new len.new result }
+    ensures ended { result ≡ 0 → get_or out.new len.new 1 ≡ 0 }
     ensures text { result ≡ 0 → (x : RecordEntry) × RecordAt message.now item.now.place x
         × (take (len.new + 1) out.new ≡ data_text message.now x ++ 0 ∷ []) }
     ensures no_room { result ≡ number_of Fault.NoRoom → (x : RecordEntry)
@@ -221,9 +217,7 @@ pub extern "C" fn dnsm_data_name(
 /// Writes the octets of the name that a text spells, uncompressed: at most 255 octets.
 #[unsafe(no_mangle)]
 pub extern "C" fn dnsm_name_from_text(text: &[u8], out: &mut [u8], len: &mut usize) -> u32
-    ensures length { length out.new ≡ length out.old }
-    ensures within { result ≡ 0 → len.new ≤ length out.new }
-    ensures empty { result ≢ 0 → result ≢ number_of Fault.NoRoom → len.new ≡ 0 }
+    ensures writes { WritesOctets out.old out.new len.new result }
     ensures name { result ≡ 0 → (name : Labels) × SpellsName text.now name
         × (take len.new out.new ≡ uncompressed name) }
     ensures no_room { result ≡ number_of Fault.NoRoom → (name : Labels)
@@ -242,8 +236,7 @@ pub extern "C" fn dnsm_name_from_text(text: &[u8], out: &mut [u8], len: &mut usi
 /// octet.
 #[unsafe(no_mangle)]
 pub extern "C" fn dnsm_type_text(rtype: u16, out: &mut [u8], len: &mut usize) -> u32
-    ensures length { length out.new ≡ length out.old }
-    ensures within { result ≡ 0 → len.new < length out.new }
+    ensures writes { WritesText out.old out.new len.new result }
     ensures text { result ≡ 0 → take (len.new + 1) out.new ≡ type_text rtype ++ 0 ∷ [] }
     ensures no_room { result ≢ 0 → (result ≡ number_of Fault.NoRoom)
         × (length out.old < length (type_text rtype) + 1)
@@ -256,8 +249,7 @@ pub extern "C" fn dnsm_type_text(rtype: u16, out: &mut [u8], len: &mut usize) ->
 /// Writes the name that IANA has registered for a class, or `CLASS` and its number, and a zero octet.
 #[unsafe(no_mangle)]
 pub extern "C" fn dnsm_class_text(class: u16, out: &mut [u8], len: &mut usize) -> u32
-    ensures length { length out.new ≡ length out.old }
-    ensures within { result ≡ 0 → len.new < length out.new }
+    ensures writes { WritesText out.old out.new len.new result }
     ensures text { result ≡ 0 → take (len.new + 1) out.new ≡ class_text class ++ 0 ∷ [] }
     ensures no_room { result ≢ 0 → (result ≡ number_of Fault.NoRoom)
         × (length out.old < length (class_text class) + 1)
@@ -270,8 +262,7 @@ pub extern "C" fn dnsm_class_text(class: u16, out: &mut [u8], len: &mut usize) -
 /// Writes what a status means, and a zero octet.
 #[unsafe(no_mangle)]
 pub extern "C" fn dnsm_status_text(status: u32, out: &mut [u8], len: &mut usize) -> u32
-    ensures length { length out.new ≡ length out.old }
-    ensures within { result ≡ 0 → len.new < length out.new }
+    ensures writes { WritesText out.old out.new len.new result }
     ensures text { result ≡ 0 → take (len.new + 1) out.new ≡ status_text status ++ 0 ∷ [] }
     ensures no_room { result ≢ 0 → (result ≡ number_of Fault.NoRoom)
         × (length out.old < length (status_text status) + 1)
@@ -330,9 +321,7 @@ pub extern "C" fn dnsm_next_option(
 /// Writes an option: its code, the length of its octets, and the octets.
 #[unsafe(no_mangle)]
 pub extern "C" fn dnsm_option_octets(code: u16, data: &[u8], out: &mut [u8], len: &mut usize) -> u32
-    ensures length { length out.new ≡ length out.old }
-    ensures within { result ≡ 0 → len.new ≤ length out.new }
-    ensures empty { result ≢ 0 → result ≢ number_of Fault.NoRoom → len.new ≡ 0 }
+    ensures writes { WritesOctets out.old out.new len.new result }
     ensures option { result ≡ 0 → take len.new out.new
         ≡ encode_option (record { code = code; octets = «data».now }) }
     ensures no_room { result ≡ number_of Fault.NoRoom → (length out.old < length «data».now + 4)
@@ -357,9 +346,7 @@ pub extern "C" fn dnsm_query(
     out: &mut [u8],
     len: &mut usize,
 ) -> u32
-    ensures length { length out.new ≡ length out.old }
-    ensures within { result ≡ 0 → len.new ≤ length out.new }
-    ensures empty { result ≢ 0 → result ≢ number_of Fault.NoRoom → len.new ≡ 0 }
+    ensures writes { WritesOctets out.old out.new len.new result }
     ensures query { result ≡ 0
         → IsQuery id recursion name.now qtype qclass (take len.new out.new) }
     ensures no_room { result ≡ number_of Fault.NoRoom
@@ -384,9 +371,7 @@ pub extern "C" fn dnsm_respond_a(
     out: &mut [u8],
     len: &mut usize,
 ) -> u32
-    ensures length { length out.new ≡ length out.old }
-    ensures within { result ≡ 0 → len.new ≤ length out.new }
-    ensures empty { result ≢ 0 → result ≢ number_of Fault.NoRoom → len.new ≡ 0 }
+    ensures writes { WritesOctets out.old out.new len.new result }
     ensures response { result ≡ 0
         → IsResponse query.now authoritative ttl address.now (take len.new out.new) }
     ensures no_room { result ≡ number_of Fault.NoRoom
@@ -420,9 +405,7 @@ pub extern "C" fn dnsm_build(
     out: &mut [u8],
     len: &mut usize,
 ) -> u32
-    ensures length { length out.new ≡ length out.old }
-    ensures within { result ≡ 0 → len.new ≤ length out.new }
-    ensures empty { result ≢ 0 → result ≢ number_of Fault.NoRoom → len.new ≡ 0 }
+    ensures writes { WritesOctets out.old out.new len.new result }
     ensures built { result ≡ 0 → IsBuilt Tree id flags items.now (take len.new out.new) }
     ensures no_room { result ≡ number_of Fault.NoRoom
         → IsLonger (IsBuilt Tree id flags items.now) (length out.old) len.new }

@@ -3,6 +3,7 @@ ghost use Rattle.std.specs.Prelude.{◌≡◌, ◌≢◌, ◌<◌, ◌≤◌, �
 ghost use Rattle.dns_name.specs.Names.{Labels, NameAt};
 ghost use Rattle.dns_name.specs.NameTexts.{dotted_text};
 ghost use Rattle.dns_name.specs.ParsedName.{labels};
+ghost use Rattle.dns_c.specs.CallerBuffers.{WritesText};
 ghost use Rattle.dns_c.specs.Codes.{number_of};
 ghost use Rattle.dns_c.specs.Made.{LacksName};
 ghost use Rattle.dns_c.specs.Texts.{Holds};
@@ -36,8 +37,8 @@ fn write_name(name: &ParsedName<'_>, out: &mut [u8]) -> End
 
 /// Terminates a text with a zero octet, sets `len` to its length, and returns the status.
 pub(crate) fn finish(end: End, out: &mut [u8], len: &mut usize) -> u32
-    ensures length { length out.new ≡ length out.old }
-    ensures ended { result ≡ 0 → (len.new < length out.new) × (get_or out.new len.new 1 ≡ 0) }
+    ensures writes { WritesText out.old out.new len.new result }
+    ensures ended { result ≡ 0 → get_or out.new len.new 1 ≡ 0 }
     ensures fault { result ≢ 0 → result ≡ number_of Fault.NoRoom }
     ensures text { (text : List ℕ) → Holds out.old text end → result ≡ 0
         → take (len.new + 1) out.new ≡ text ++ 0 ∷ [] }

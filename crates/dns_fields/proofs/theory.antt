@@ -1,3 +1,4 @@
 -- Lemmas that other crates cite, so a change here affects them too.
 pub mod PartOctets
 pub mod SkippedItems
+pub mod UncompressedOctets

@@ -14,6 +14,7 @@ pub mod ParameterItems
 pub mod Parameters
 pub mod PrefixItems
 pub mod Prefixes
+pub mod RdataTexts
 pub mod RecordLines
 pub mod Separated
 pub mod SmallMaps

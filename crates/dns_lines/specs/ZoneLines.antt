@@ -1,24 +1,16 @@
 -- The lines that a message's records have in a zone file. RFC 1035 section 5.1, RFC 3597 section 5.
-use Rattle.std.specs.Prelude.{ℕ, ◌==◌, ◌||◌, ◌&&◌, Bool, nat_eq, if◌then◌else◌, List, [], ◌∷◌, ◌++◌, drop, Option, Some, None, Result, Ok, Err, codes}
+use Rattle.std.specs.Prelude.{ℕ, ◌==◌, ◌||◌, ◌&&◌, Bool, nat_eq, if◌then◌else◌, List, [], ◌∷◌, ◌++◌, drop, Option, Result, Ok, Err, codes}
 use Rattle.std.specs.List.{starts_with}
 use Rattle.dns_name.specs.Names.{Fault}
 use Rattle.dns_wire.specs.Parts.{Part}
-use Rattle.dns_data.specs.Printing.{opaque_text}
 use Rattle.dns_item.specs.ParsedRecord.{EncodedRecord}
 use Rattle.dns_item.specs.RecordReading.{up_to_rdata_end}
 use Rattle.dns_section.specs.declared.section.Section.{Section}
 use Rattle.dns_fields.specs.FieldData.{type_layout}
-use Rattle.dns_fields.specs.FieldParts.{named_parts}
-use Rattle.dns_fields.specs.Table.{definitions_of}
-use Rattle.dns_fields_text.specs.DataTexts.{data_text}
+use Rattle.dns_fields_text.specs.RdataTexts.{rdata_text}
 use Rattle.dns_fields_text.specs.RecordLines.{record_text}
 use Rattle.dns_fields_text.specs.ZoneNames.{zone_name_text}
 use Rattle.dns_tool.specs.Show.{line, data_parts, section_word, sections_text}
-
--- RDATA: the fields of its record type if it has these parts, else its octets
-abbrev pub rdata_text : EncodedRecord → Option (List Part) → List ℕ
-rdata_text x (Some parts) = data_text (named_parts (definitions_of x.entry.rtype) parts)
-rdata_text x None = opaque_text (drop x.entry.rdata_start (up_to_rdata_end x.octets x.entry))
 
 -- the line of a record, by the parts of its RDATA
 abbrev pub line_with : EncodedRecord → Option (List Part) → List ℕ

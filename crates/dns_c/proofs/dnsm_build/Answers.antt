@@ -2,6 +2,7 @@ use Rattle.std.proofs.Common.{◌∙◌, ℕ, None, subst, sym, true}
 use Rattle.dns_wire.specs.Encoders.{Tree}
 use Rattle.dns_c.specs.Built.{IsUnbuilt, header_of}
 use Rattle.dns_c.proofs.BuildLemmas.{unbuilt_full, unbuilt_otherwise}
+use Rattle.dns_c.proofs.CallerLemmas.{refused_octets}
 use Rattle.dns_c.proofs.dnsm_build.Goals as goal
 
 pub returns-in-Err-clause-no_room : goal.returns-in-Err-clause-no_room
@@ -16,3 +17,6 @@ returns-in-Err-clause-unbuilt c =
 pub returns-in-Err-clause-too_many : goal.returns-in-Err-clause-too_many
 returns-in-Err-clause-too_many c =
     λ many. unbuilt_full None true Tree (header_of c.args.id c.args.flags) c.args.items.now _ (sym c.refuse.ensures.code ∙ many) c.in-Err.ensures.none
+
+pub returns-in-Err-clause-writes : goal.returns-in-Err-clause-writes
+returns-in-Err-clause-writes c = refused_octets c.args.out.now _ _ c.refuse.ensures.empty

@@ -2,6 +2,7 @@ use Rattle.std.proofs.Common.{◌∙◌, ◌∷◌, [], append_assoc, arith, len
 use Rattle.dns_name.specs.Unique.{encoded_name}
 use Rattle.dns_name.specs.NameTexts.{name_text}
 use Rattle.dns_c.proofs.TextSizes.{name_text_short}
+use Rattle.dns_c.proofs.CallerLemmas.{moved_text, refused_text}
 use Rattle.dns_c.proofs.dnsm_name_text.Goals as goal
 
 pub returns-in-Ok-clause-text : goal.returns-in-Ok-clause-text
@@ -27,3 +28,9 @@ returns-in-Ok-clause-no_room c =
     let counted = c.finish.ensures.counted _ name.2 in
     let capacity = c.finish.ensures.capacity _ name.2 (λ written. let none = sym written ∙ full in omega arith) in
     (name.0, name.1, omega (arith, capacity, both), omega (arith, counted, both))
+
+pub returns-in-Ok-clause-writes : goal.returns-in-Ok-clause-writes
+returns-in-Ok-clause-writes c = moved_text c.finish.ensures.writes (omega arith)
+
+pub returns-in-Err-clause-writes : goal.returns-in-Err-clause-writes
+returns-in-Err-clause-writes c = moved_text (refused_text c.name.new.out _ _ c.refuse.ensures.empty _ c.refuse.ensures.code) (omega arith)

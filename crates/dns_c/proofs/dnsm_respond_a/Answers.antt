@@ -1,5 +1,6 @@
 use Rattle.std.proofs.Common.{◌∙◌, sym}
 use Rattle.dns_c.proofs.AskedLemmas.{room_unreported, response_reported, response_unasked, opcode_reported, opcode_unasked, class_reported, class_unasked, type_reported, type_unasked}
+use Rattle.dns_c.proofs.CallerLemmas.{refused_octets}
 use Rattle.dns_c.proofs.dnsm_respond_a.Goals as goal
 
 pub returns-in-Err-clause-no_room : goal.returns-in-Err-clause-no_room
@@ -31,3 +32,6 @@ returns-in-Ok-clause-other_type c =
 pub returns-in-Err-clause-other_type : goal.returns-in-Err-clause-other_type
 returns-in-Err-clause-other_type c =
     λ x asks internet no_address not_all. c.refuse.ensures.code ∙ type_reported c.args.query.now x asks internet no_address not_all _ c.in-Err.ensures.none
+
+pub returns-in-Err-clause-writes : goal.returns-in-Err-clause-writes
+returns-in-Err-clause-writes c = refused_octets c.args.out.now _ _ c.refuse.ensures.empty

@@ -1,11 +1,12 @@
-use Rattle.std.proofs.Common.{List, drop}
+use Rattle.std.proofs.Common.{List, drop, take}
 use Rattle.dns_build.specs.State.{State, InQuestion}
 use Rattle.dns_build.specs.BuilderStates.{Represents}
-use Rattle.dns_c.specs.Built.{NewEntry, AllMean}
+use Rattle.dns_c.specs.Built.{NewEntry, AllMean, AreQuestions}
 use Rattle.dns_c.proofs.BuildLemmas.{Asking}
 use Rattle.dns_c.proofs.build.push_questions.Given as goal
 
 abbrev pub invariant-loop-item : goal.invariant-loop-item
 invariant-loop-item g l =
-    (xs : List NewEntry) → AllMean l.items xs → (s : State) → Represents InQuestion g.T.Composer.rule s l.fn.builder
-    → Asking g.T.Composer.rule (drop l.item-index l.items) xs s l.builder
+    AreQuestions (take l.item-index l.items)
+    × ((xs : List NewEntry) → AllMean l.items xs → (s : State) → Represents InQuestion g.T.Composer.rule s l.fn.builder
+    → Asking g.T.Composer.rule (drop l.item-index l.items) xs s l.builder)

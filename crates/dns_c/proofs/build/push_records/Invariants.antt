@@ -1,11 +1,12 @@
-use Rattle.std.proofs.Common.{List, drop}
+use Rattle.std.proofs.Common.{List, drop, take}
 use Rattle.dns_build.specs.State.{State}
 use Rattle.dns_build.specs.BuilderStates.{Represents}
-use Rattle.dns_c.specs.Built.{NewEntry, AllMean}
+use Rattle.dns_c.specs.Built.{NewEntry, AllMean, AreRecords}
 use Rattle.dns_c.proofs.BuildLemmas.{Stating}
 use Rattle.dns_c.proofs.build.push_records.Given as goal
 
 abbrev pub invariant-loop-item : goal.invariant-loop-item
 invariant-loop-item g l =
-    (xs : List NewEntry) → AllMean l.items xs → (s : State) → Represents g.S.BuilderStage.stage g.T.Composer.rule s l.fn.builder
-    → Stating g.T.Composer.rule g.S.BuilderStage.stage g.S.RecordStage.section (drop l.item-index l.items) xs s l.builder
+    AreRecords g.S.RecordStage.section (take l.item-index l.items)
+    × ((xs : List NewEntry) → AllMean l.items xs → (s : State) → Represents g.S.BuilderStage.stage g.T.Composer.rule s l.fn.builder
+    → Stating g.T.Composer.rule g.S.BuilderStage.stage g.S.RecordStage.section (drop l.item-index l.items) xs s l.builder)
