@@ -16,6 +16,8 @@ mod compressors;
 #[cfg(test)]
 mod copies;
 #[cfg(test)]
+mod long_inputs;
+#[cfg(test)]
 mod opt;
 #[cfg(test)]
 mod reserved_opt;
