@@ -1,5 +1,5 @@
 -- Appending the octets of words.
-use Rattle.std.proofs.Common.{◌≡◌, ◌∙◌, ℕ, List, ◌++◌, refl, ap, sym, subst, inl, inr}
+use Rattle.std.proofs.Common.{◌≡◌, ◌≢◌, ◌∙◌, ℕ, List, [], ◌++◌, refl, ap, sym, subst, inl, inr}
 use Rattle.std.specs.Prelude.{◌↔◌, ⊤, Some, Result, Ok, Err, OnOk, IfErr}
 use Rattle.std.specs.Global.{Vec}
 use Rattle.dns_value_text.specs.Reading.{ReadsOctets, TakesMemory}
@@ -8,7 +8,9 @@ use Rattle.dns_value_text.specs.declared.text_error.TextError.TheVariants.{OutOf
 use Rattle.dns_fields.specs.declared.kind.Kind.{Kind}
 use Rattle.dns_fields_read.specs.TypeWords.{IsTypeWord}
 use Rattle.dns_fields_read.specs.Base32Words.{last_octets}
-use Rattle.dns_fields_read.specs.Reading.{AppendsOctets, AppendsOctetsIf, HasValue, ReadsWords, ReadsWordsIf}
+use Rattle.dns_fields_read.specs.JoinedWords.{MayBeJoined, joined}
+use Rattle.dns_fields_read.specs.Reading.{AppendsOctets, AppendsOctetsIf, FailsIf, HasValue, ReadsWords, ReadsWordsIf}
+use Rattle.dns_fields_read.proofs.theory.JoinedLemmas.{joined_there}
 use Rattle.dns_data_read.specs.Appended.{AppendsRead}
 use Rattle.dns_data_read.specs.FieldWords.{AreFieldWords, IsType, IsFieldWord, Words}
 use Rattle.dns_data_read.specs.MayBe.{MayBeWord, MayBeWords}
@@ -34,6 +36,19 @@ read_appended May Represents (Ok more) old new (Err e) may is appends = inl (app
 read_appended May Represents (Err f) old new (Ok u) may is appends = absurd (cc appends)
 read_appended May Represents (Err f) old new (Err e) may (inl memory) appends = let same : e ≡ f = cc in inl (same ∙ memory.0, memory.1)
 read_appended May Represents (Err f) old new (Err e) may (inr bad) appends = let same : e ≡ f = cc in inr (same ∙ bad.0, bad.1)
+
+-- what appending the octets of digits returns, one at least
+pub some_appended : (Represents : List ℕ → List ℕ → Type 0) (words : Words) (more slice old new : List ℕ) (result : Result Unit TextError)
+    → ((x y : List ℕ) → Represents (joined words) x → Represents (joined words) y → x ≡ y) → slice ≡ more → Represents (joined words) more → AppendsOctets (λ all. (all ≡ slice) × (all ≢ [])) old new result
+    → AppendsOctetsIf (MayBeJoined Represents words) (λ all. Represents (joined words) all × (all ≢ [])) old new result
+some_appended Represents words more slice old new (Ok u) one same is a = (a.0, (subst (λ (octets : List ℕ). Represents (joined words) octets) (sym (a.1.0 ∙ same)) is, a.1.1), a.2)
+some_appended Represents words more slice old new (Err e) one same is (inl memory) = inl (memory.0, joined_there Represents words more is)
+some_appended Represents words more slice old new (Err e) one same is (inr bad) = inr (bad.0, λ octets h. bad.1 octets (one octets more h.0 is ∙ sym same, h.1))
+
+-- why there are none
+pub some_fails : (May : Type 0) (Represents : List ℕ → Type 0) (e : TextError) → FailsIf May Represents e → FailsIf May (λ all. Represents all × (all ≢ [])) e
+some_fails May Represents e (inl memory) = inl memory
+some_fails May Represents e (inr bad) = inr (bad.0, λ octets h. bad.1 octets h.0)
 
 -- where nothing is known of them
 pub reads_if : (Represents : List ℕ → Type 0) (result : Result (Vec ℕ) TextError) → ReadsOctets Represents result → ReadsWordsIf ⊤ Represents result

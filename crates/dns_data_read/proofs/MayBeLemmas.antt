@@ -4,6 +4,7 @@ use Rattle.std.proofs.Math.Seq.{drop-append_seam, take-append_seam}
 use Rattle.std.proofs.lemmas.List.{drop_all}
 use Rattle.std.specs.Prelude.{IsTrue, Result, Ok, Err}
 use Rattle.std.specs.Global.{Vec}
+use Rattle.dns_value_text.specs.Octets.{IsBase64, IsHex}
 use Rattle.dns_value_text.specs.Reading.{ReadsOctets}
 use Rattle.dns_value_text.specs.declared.text_error.TextError.{TextError}
 use Rattle.dns_fields.specs.Table.{Field, kinds as kinds_at, kinds_of}
@@ -11,13 +12,13 @@ use Rattle.dns_fields.specs.declared.kind.Kind.{Kind}
 use Rattle.dns_fields.specs.declared.kind.Kind.TheVariants as kinds
 use Rattle.dns_fields_read.specs.GatewayWords.{IsGateway, MayBeGateway}
 use Rattle.dns_fields_read.specs.IdentityWords.{IsHostIdentity, MayBeHostIdentity}
-use Rattle.dns_fields_read.specs.PrefixWords.{ArePrefixWords, BeginsWithPrefix}
 use Rattle.dns_fields_read.specs.Reading.{AppendsOctetsIf, FailsIf, ReadsWordsIf}
 use Rattle.dns_fields_read.specs.SizedWords.{AreSized, MayBeSized}
+use Rattle.dns_fields_read.proofs.theory.JoinedLemmas.{joined_there}
 use Rattle.dns_data_read.specs.DataWords.{AreCountedDigits, AreDataWords, AreFields, BeginsWith, IsDataText, IsMarked, MayBeData}
 use Rattle.dns_data_read.specs.Extents.{extent_of}
 use Rattle.dns_data_read.specs.FieldWords.{AreFieldWords, AreStrings, IsField, IsFieldOf, IsFieldWord, IsOne, Words}
-use Rattle.dns_data_read.specs.MayBe.{BeginsWithString, MayBeField, MayBeFields, MayBeOf, MayBeOne, MayBeWord, MayBeWords}
+use Rattle.dns_data_read.specs.MayBe.{MayBeField, MayBeFields, MayBeOf, MayBeOne, MayBeWord, MayBeWords, RepresentStrings}
 use Rattle.dns_data_read.specs.WordCounts.{IsWordCount}
 use Rattle.dns_data_read.specs.declared.extent.Extent.{Extent}
 use Rattle.dns_data_read.specs.declared.extent.Extent.TheVariants.{One, OneOrTwo, All}
@@ -28,35 +29,30 @@ word_may kinds.CharacterString word octets is = (is.0, is.1)
 word_may kind word octets is = (octets, is)
 
 -- of several
-pub strings_may : (words : Words) (octets : List ℕ) → AreStrings words octets → BeginsWithString words
+pub strings_may : (words : Words) (octets : List ℕ) → AreStrings words octets → RepresentStrings words
 strings_may [] octets are = tt
-strings_may (word ∷ words) octets are = (are.2.0, are.2.1)
-
-pub prefixes_may : (words : Words) (octets : List ℕ) → ArePrefixWords words octets → BeginsWithPrefix words
-prefixes_may [] octets are = tt
-prefixes_may (word ∷ words) octets are = (are.0, are.2)
+strings_may (word ∷ words) octets are = ((are.2.0, are.2.1), strings_may words are.1 are.4)
 
 pub gateway_may : (words : Words) (octets : List ℕ) → IsGateway words octets → MayBeGateway words
 gateway_may [] octets is = absurd is
 gateway_may (a ∷ []) octets is = absurd is
 gateway_may (a ∷ b ∷ []) octets is = absurd is
 gateway_may (a ∷ b ∷ c ∷ key) octets is =
-    record { gateway_type = is.gateway_type; is_type = is.is_type; is_algorithm = (is.algorithm, is.is_algorithm); is_gateway = (is.gateway, is.is_gateway) }
+    record { gateway_type = is.gateway_type; is_type = is.is_type; is_algorithm = (is.algorithm, is.is_algorithm); is_gateway = (is.gateway, is.is_gateway); is_key = joined_there IsBase64 key is.key is.is_key }
 
 pub identity_may : (words : Words) (octets : List ℕ) → IsHostIdentity words octets → MayBeHostIdentity words
 identity_may [] octets is = absurd is
 identity_may (a ∷ []) octets is = absurd is
 identity_may (a ∷ b ∷ []) octets is = absurd is
-identity_may (a ∷ b ∷ c ∷ servers) octets is = ((is.algorithm, is.is_algorithm), (is.tag, is.is_tag), (is.servers, is.are_servers))
+identity_may (a ∷ b ∷ c ∷ servers) octets is = ((is.algorithm, is.is_algorithm), (is.tag, is.is_tag), (is.key, is.is_key.0), (is.servers, is.are_servers))
 
 pub words_may : (kind : Kind) (words : Words) (octets : List ℕ) → AreFieldWords kind words octets → MayBeWords kind words
 words_may kinds.Strings words octets is = strings_may words octets is.1
-words_may kinds.Hexadecimal words octets is = tt
-words_may kinds.Base64 words octets is = tt
+words_may kinds.Hexadecimal words octets is = joined_there IsHex words octets is.0
+words_may kinds.Base64 words octets is = joined_there IsBase64 words octets is.0
 words_may kinds.TypeBitMap words octets is = is.types
 words_may kinds.SmallTypeBitMap words octets is = is.types
 words_may kinds.ServiceParameters words octets is = tt
-words_may kinds.AddressPrefixes words octets is = prefixes_may words octets is
 words_may kinds.GatewayAndKey words octets is = gateway_may words octets is
 words_may kinds.HostIdentity words octets is = identity_may words octets is
 words_may kind words octets is = (octets, is)
@@ -64,7 +60,7 @@ words_may kind words octets is = (octets, is)
 pub sized_may : (words : Words) (octets : List ℕ) → AreSized words octets → MayBeSized words
 sized_may [] octets is = absurd is
 sized_may (number ∷ []) octets is = is.0
-sized_may (number ∷ word ∷ []) octets is = let few = is.1.2 in (length octets, (is.0, omega arith))
+sized_may (number ∷ word ∷ []) octets is = let few = is.1.2 in ((length octets, (is.0, omega arith)), (octets, is.1.0))
 sized_may (number ∷ word ∷ next ∷ words) octets is = absurd is
 
 one_may : (kind : Kind) (words : Words) (octets : List ℕ) → IsOne (IsFieldWord kind) words octets → MayBeOne (MayBeWord kind) words

@@ -14,7 +14,7 @@ use Rattle.dns_fields_read.specs.Salts.{IsHashWord, IsSaltWord}
 use Rattle.dns_fields_read.proofs.theory.StringLemmas.{one_string}
 use Rattle.dns_fields_read.proofs.theory.WordLists.{AreInOrder, appends_at_if}
 use Rattle.dns_data_read.specs.FieldWords.{AreStrings, IsHash, IsSalt, IsString, Words}
-use Rattle.dns_data_read.specs.MayBe.{BeginsWithString}
+use Rattle.dns_data_read.specs.MayBe.{RepresentStrings}
 
 -- a longer string
 pub long_string : (word string : List ℕ) → SpellsString word string → 255 < length string → (octets : List ℕ) → ¬ (IsString word octets)
@@ -71,18 +71,18 @@ strings_in_order = record {
 }
 
 module _ (words : Words) (k : ℕ) (d : Bor (List ℕ)) (within : k < length words) where
-  -- the word at an index is a string
+  -- what appending the strings from the word at an index on returns, where that one is appended
   pub string_more : (old middle new : List ℕ) (u : Unit {0}) (result : Result Unit TextError) → AppendsOctetsIf (HasValue (SpellsString (get_or words k d).now)) (IsString (get_or words k d).now) old middle (Ok u)
-      → AppendsOctetsIf (BeginsWithString (drop (k + 1) words)) (AreStrings (drop (k + 1) words)) middle new result → AppendsOctetsIf (BeginsWithString (drop k words)) (AreStrings (drop k words)) old new result
+      → AppendsOctetsIf (RepresentStrings (drop (k + 1) words)) (AreStrings (drop (k + 1) words)) middle new result → AppendsOctetsIf (RepresentStrings (drop k words)) (AreStrings (drop k words)) old new result
   string_more old middle new u result a b =
-      appends_at_if IsStringWord AreStrings strings_in_order BeginsWithString (λ word ws own. (own.1.0, own.1.1)) words k d old middle new u result within a b
+      appends_at_if IsStringWord AreStrings strings_in_order RepresentStrings (λ word ws own others. ((own.1.0, own.1.1), others)) words k d old middle new u result within a b
 
-  -- it isn't read
-  first_wrong : (word : Bor (List ℕ)) (ws : Words) (e : TextError) → FailsIf (HasValue (SpellsString word.now)) (IsString word.now) e → FailsIf (BeginsWithString (word ∷ ws)) (AreStrings (word ∷ ws)) e
-  first_wrong word ws e (inl memory) = inl memory
-  first_wrong word ws e (inr bad) = inr (bad.0, λ octets is. bad.1 is.0 is.2)
+  -- the words that are left represent strings if the one at an index and those after it do
+  pub strings_there : HasValue (SpellsString (get_or words k d).now) → RepresentStrings (drop (k + 1) words) → RepresentStrings (drop k words)
+  strings_there own others = subst RepresentStrings (sym (drop_more words k d within)) (own, others)
 
-  pub string_wrong : (old new : List ℕ) (e : TextError) → FailsIf (HasValue (SpellsString (get_or words k d).now)) (IsString (get_or words k d).now) e
-      → AppendsOctetsIf (BeginsWithString (drop k words)) (AreStrings (drop k words)) old new (Err e)
-  string_wrong old new e fails =
-      subst (λ (ws : Words). FailsIf (BeginsWithString ws) (AreStrings ws) e) (sym (drop_more words k d within)) (first_wrong (get_or words k d) (drop (k + 1) words) e fails)
+  -- the words that are left after one of those that are left
+  pub strings_left : HasValue (AreStrings (drop k words)) → HasValue (IsString (get_or words k d).now) × HasValue (AreStrings (drop (k + 1) words))
+  strings_left left =
+      let are = subst (λ (ws : Words). HasValue (AreStrings ws)) (drop_more words k d within) left in
+      strings_in_order.parts (get_or words k d) (drop (k + 1) words) are.0 are.1

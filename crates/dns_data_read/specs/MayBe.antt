@@ -2,10 +2,11 @@
 use Rattle.std.specs.Prelude.{List, [], ◌∷◌, ◌++◌, ◌≡◌, ℕ, ⊤}
 use Rattle.dns_fields.specs.declared.kind.Kind.{Kind}
 use Rattle.dns_fields.specs.declared.kind.Kind.TheVariants as kinds
+use Rattle.dns_value_text.specs.Octets.{IsBase64, IsHex}
 use Rattle.dns_value_text.specs.Strings.{SpellsString}
 use Rattle.dns_fields_read.specs.GatewayWords.{MayBeGateway}
 use Rattle.dns_fields_read.specs.IdentityWords.{MayBeHostIdentity}
-use Rattle.dns_fields_read.specs.PrefixWords.{BeginsWithPrefix}
+use Rattle.dns_fields_read.specs.JoinedWords.{MayBeJoined}
 use Rattle.dns_fields_read.specs.Reading.{HasValue}
 use Rattle.dns_fields_read.specs.SizedWords.{MayBeSized}
 use Rattle.dns_fields_read.specs.TypeMapWords.{AreTypes}
@@ -19,20 +20,19 @@ abbrev pub MayBeWord : Kind → List ℕ → Type 0
 MayBeWord kinds.CharacterString word = HasValue (SpellsString word)
 MayBeWord kind word = HasValue (IsFieldWord kind word)
 
--- the first word, if there is one, represents octets
-abbrev pub BeginsWithString : Words → Type 0
-BeginsWithString [] = Unit {0}
-BeginsWithString (word ∷ words) = HasValue (SpellsString word.now)
+-- each word represents octets, however many
+abbrev pub RepresentStrings : Words → Type 0
+RepresentStrings [] = Unit {0}
+RepresentStrings (word ∷ words) = HasValue (SpellsString word.now) × RepresentStrings words
 
 -- the words are a field of this kind, as far as they are read before an allocation fails
 abbrev pub MayBeWords : Kind → Words → Type 0
-MayBeWords kinds.Strings words = BeginsWithString words
-MayBeWords kinds.Hexadecimal words = ⊤
-MayBeWords kinds.Base64 words = ⊤
+MayBeWords kinds.Strings words = RepresentStrings words
+MayBeWords kinds.Hexadecimal words = MayBeJoined IsHex words
+MayBeWords kinds.Base64 words = MayBeJoined IsBase64 words
 MayBeWords kinds.TypeBitMap words = AreTypes words
 MayBeWords kinds.SmallTypeBitMap words = AreTypes words
 MayBeWords kinds.ServiceParameters words = ⊤
-MayBeWords kinds.AddressPrefixes words = BeginsWithPrefix words
 MayBeWords kinds.GatewayAndKey words = MayBeGateway words
 MayBeWords kinds.HostIdentity words = MayBeHostIdentity words
 MayBeWords kind words = HasValue (AreFieldWords kind words)

@@ -1,10 +1,11 @@
 //! Fields that are all words that are left (RFC 1035 section 5.1).
-ghost use Rattle.std.specs.Prelude.{◌≡◌, ◌≢◌, [], ⊤};
+ghost use Rattle.std.specs.Prelude.{◌≡◌, ◌≢◌, []};
 ghost use Rattle.dns_data_read.specs.FieldWords.{AreStrings, AreFieldWords};
-ghost use Rattle.dns_fields_read.specs.JoinedWords.{AreBase64, AreHex};
+ghost use Rattle.dns_fields_read.specs.JoinedWords.{AreBase64, AreHex, MayBeJoined};
 ghost use Rattle.dns_fields_read.specs.LocationWords.{IsLocation};
-ghost use Rattle.dns_data_read.specs.MayBe.{BeginsWithString, MayBeWords};
+ghost use Rattle.dns_data_read.specs.MayBe.{MayBeWords, RepresentStrings};
 ghost use Rattle.dns_fields_read.specs.Reading.{AppendsOctets, AppendsOctetsIf};
+ghost use Rattle.dns_value_text.specs.Octets.{IsBase64, IsHex};
 
 use crate::append::push_read;
 use crate::word::push_string;
@@ -17,22 +18,30 @@ use dns_parameters_read::read_parameters;
 use dns_value_text::TextError;
 use std::alloc::Global;
 
-/// Appends character strings.
+/// Appends character strings. After an allocation fails, the other words are still read, since a bad
+/// one of them is the error.
 fn push_strings(alloc: Global, octets: &mut Vec<u8>, words: &[&str]) -> Result<(), TextError>
-    ensures { AppendsOctetsIf (BeginsWithString words.now) (AreStrings words.now)
+    ensures { AppendsOctetsIf (RepresentStrings words.now) (AreStrings words.now)
         octets.old.items octets.new.items result }
 {
+    let mut fits = true;
     for word in words {
-        if let Err(error) = push_string(alloc, octets, word) {
-            return Err(error);
+        match push_string(alloc, octets, word) {
+            Ok(()) => {}
+            Err(TextError::OutOfMemory) => fits = false,
+            Err(TextError::BadWord) => return Err(TextError::BadWord),
         }
     }
-    Ok(())
+    if fits {
+        Ok(())
+    } else {
+        Err(TextError::OutOfMemory)
+    }
 }
 
 /// Appends character strings, one at least.
 fn push_some_strings(alloc: Global, octets: &mut Vec<u8>, words: &[&str]) -> Result<(), TextError>
-    ensures { AppendsOctetsIf (BeginsWithString words.now)
+    ensures { AppendsOctetsIf (RepresentStrings words.now)
         (λ all. (words.now ≢ []) × AreStrings words.now all)
         octets.old.items octets.new.items result }
 {
@@ -55,8 +64,8 @@ fn push_some(octets: &mut Vec<u8>, more: &[u8]) -> Result<(), TextError>
 
 /// Appends the octets of hexadecimal digits, one octet at least.
 fn push_hex(alloc: Global, octets: &mut Vec<u8>, words: &[&str]) -> Result<(), TextError>
-    ensures { AppendsOctetsIf ⊤ (λ all. AreHex words.now all × (all ≢ []))
-        octets.old.items octets.new.items result }
+    ensures { AppendsOctetsIf (MayBeJoined IsHex words.now)
+        (λ all. AreHex words.now all × (all ≢ [])) octets.old.items octets.new.items result }
 {
     match read_hex_words(alloc, words) {
         Ok(more) => push_some(octets, more.as_slice()),
@@ -66,8 +75,8 @@ fn push_hex(alloc: Global, octets: &mut Vec<u8>, words: &[&str]) -> Result<(), T
 
 /// Appends the octets of base64, one octet at least.
 fn push_base64(alloc: Global, octets: &mut Vec<u8>, words: &[&str]) -> Result<(), TextError>
-    ensures { AppendsOctetsIf ⊤ (λ all. AreBase64 words.now all × (all ≢ []))
-        octets.old.items octets.new.items result }
+    ensures { AppendsOctetsIf (MayBeJoined IsBase64 words.now)
+        (λ all. AreBase64 words.now all × (all ≢ [])) octets.old.items octets.new.items result }
 {
     match read_base64_words(alloc, words) {
         Ok(more) => push_some(octets, more.as_slice()),

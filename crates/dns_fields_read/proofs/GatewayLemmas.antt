@@ -1,10 +1,11 @@
 -- Gateways and relays, and their words.
 use Rattle.std.proofs.Common.{◌≡◌, ◌≢◌, ◌∙◌, ◌↔◌, ◌+◌, ◌*◌, ◌≤◌, ◌<◌, length, get_or, ℕ, Bool, true, false, List, [], ◌∷◌, codes, refl, sym, subst, arith, inl, inr}
-use Rattle.std.specs.Prelude.{IsTrue, Option, Some, None, Result, bytes_eq, is_some, ⊤}
+use Rattle.std.specs.Prelude.{IsTrue, Option, Some, None, Result, bytes_eq, is_some}
 use Rattle.std.proofs.lemmas.Slice.Eq.{bytes_eq-Decides}
 use Rattle.std.specs.Borrow.{Bor}
 use Rattle.std.specs.Global.{Vec}
 use Rattle.std.specs.Net.Grammar.{IsDotted}
+use Rattle.dns_value_text.specs.Octets.{IsBase64}
 use Rattle.dns_value_text.specs.declared.text_error.TextError.{TextError}
 use Rattle.dns_octets.specs.declared.octets.Octets.{Ghosts}
 use Rattle.dns_name.specs.Names.{uncompressed}
@@ -12,7 +13,7 @@ use Rattle.dns_name.specs.NameReading.{name_labels}
 use Rattle.dns_name.specs.declared.name.Name.{Name}
 use Rattle.dns_fields_read.specs.Addresses.{IsIpv6Word}
 use Rattle.dns_fields_read.specs.GatewayWords.{IsGatewayAndKey, IsGatewayOf, IsNumberTo, IsRelay, IsRelayOf, MayBeGatewayAndKey}
-use Rattle.dns_fields_read.specs.JoinedWords.{AreBase64}
+use Rattle.dns_fields_read.specs.JoinedWords.{AreBase64, MayBeJoined}
 use Rattle.dns_fields_read.specs.NameWords.{IsNameText, IsNameWord, ReadsNameWord}
 use Rattle.dns_fields_read.specs.Reading.{AppendsOctets, Fails, FailsIf, HasValue, ReadsWords}
 use Rattle.dns_fields_read.proofs.theory.AppendLemmas.{appends_as}
@@ -103,17 +104,17 @@ module _ (type_word algorithm_word word : List ℕ) (key_words : List (Bor (List
   pub no_gateway : (b : Bool) → b ≡ false → IsTrue b ↔ HasValue (IsGatewayOf t word) → (octets : List ℕ) → ¬ (IsGatewayAndKey type_word algorithm_word word key_words octets)
   no_gateway b is_false tested octets is = let is_true = tested.1 (is.gateway, gateway_in octets is) in absurd (cc (is_false, is_true))
 
-  pub may_be : (algorithm : ℕ) (b : Bool) → IsNumberTo 255 algorithm_word algorithm → b ≡ true → IsTrue b ↔ HasValue (IsGatewayOf t word) → MayBeGatewayAndKey type_word algorithm_word word
-  may_be algorithm b is is_true tested = record { gateway_type = t; is_type = is_t; is_algorithm = (algorithm, is); is_gateway = tested.0 is_true }
+  pub may_be : (algorithm : ℕ) (b : Bool) → IsNumberTo 255 algorithm_word algorithm → b ≡ true → IsTrue b ↔ HasValue (IsGatewayOf t word) → MayBeJoined IsBase64 key_words → MayBeGatewayAndKey type_word algorithm_word word key_words
+  may_be algorithm b is is_true tested key = record { gateway_type = t; is_type = is_t; is_algorithm = (algorithm, is); is_gateway = tested.0 is_true; is_key = key }
 
-  pub gateway_fails : (e : TextError) → MayBeGatewayAndKey type_word algorithm_word word → Fails (IsGatewayOf t word) e
-      → FailsIf (MayBeGatewayAndKey type_word algorithm_word word) (IsGatewayAndKey type_word algorithm_word word key_words) e
+  pub gateway_fails : (e : TextError) → MayBeGatewayAndKey type_word algorithm_word word key_words → Fails (IsGatewayOf t word) e
+      → FailsIf (MayBeGatewayAndKey type_word algorithm_word word key_words) (IsGatewayAndKey type_word algorithm_word word key_words) e
   gateway_fails e may (inl memory) = inl (memory.0, may)
   gateway_fails e may (inr bad) = inr (bad.0, λ octets is. bad.1 is.gateway (gateway_in octets is))
 
-  pub key_fails : (e : TextError) → MayBeGatewayAndKey type_word algorithm_word word → FailsIf ⊤ (AreBase64 key_words) e
-      → FailsIf (MayBeGatewayAndKey type_word algorithm_word word) (IsGatewayAndKey type_word algorithm_word word key_words) e
-  key_fails e may (inl memory) = inl (memory.0, may)
+  pub key_fails : (e : TextError) → (MayBeJoined IsBase64 key_words → MayBeGatewayAndKey type_word algorithm_word word key_words) → FailsIf (MayBeJoined IsBase64 key_words) (AreBase64 key_words) e
+      → FailsIf (MayBeGatewayAndKey type_word algorithm_word word key_words) (IsGatewayAndKey type_word algorithm_word word key_words) e
+  key_fails e may (inl memory) = inl (memory.0, may memory.1)
   key_fails e may (inr bad) = inr (bad.0, λ octets is. bad.1 is.key is.is_key)
 
 -- a relay

@@ -2,6 +2,7 @@
 pub mod AddressLaws
 pub mod AppendLemmas
 pub mod ByteLemmas
+pub mod JoinedLemmas
 pub mod LastSplits
 pub mod LocationLemmas
 pub mod OneFields

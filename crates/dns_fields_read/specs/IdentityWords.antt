@@ -1,7 +1,7 @@
 -- Words that represent host identities. RFC 8005 section 6.
 use Rattle.std.specs.Prelude.{◌≡◌, ℕ, ◌/◌, ◌%◌, List, [], ◌∷◌, ◌++◌, length}
 use Rattle.std.specs.Borrow.{Bor}
-use Rattle.dns_value_text.specs.Octets.{IsHex}
+use Rattle.dns_value_text.specs.Octets.{IsBase64, IsHex}
 use Rattle.dns_fields_read.specs.GatewayWords.{IsNumberTo}
 use Rattle.dns_fields_read.specs.NameWords.{IsNameWord}
 use Rattle.dns_fields_read.specs.Reading.{HasValue}
@@ -34,13 +34,13 @@ pub record IsIdentity (algorithm_word tag_word key_word : List ℕ) (server_word
   pub are_servers : AreNames server_words servers
   pub whole : octets ≡ identity_octets algorithm tag key ++ servers
 
--- what is known of the words if an allocation fails: they are an algorithm, a tag, another word and names
-abbrev pub MayBeIdentity : List ℕ → List ℕ → List (Bor (List ℕ)) → Type 0
-MayBeIdentity algorithm tag servers =
-    HasValue (IsNumberTo 255 algorithm) × HasValue (IsCountedHex tag) × HasValue (AreNames servers)
+-- what is known of the words if an allocation fails: they are an algorithm, a tag, octets in base64, however many, and names
+abbrev pub MayBeIdentity : List ℕ → List ℕ → List ℕ → List (Bor (List ℕ)) → Type 0
+MayBeIdentity algorithm tag key servers =
+    HasValue (IsNumberTo 255 algorithm) × HasValue (IsCountedHex tag) × HasValue (IsBase64 key) × HasValue (AreNames servers)
 
 abbrev pub MayBeHostIdentity : List (Bor (List ℕ)) → Type 0
-MayBeHostIdentity (algorithm ∷ tag ∷ key ∷ servers) = MayBeIdentity algorithm.now tag.now servers
+MayBeHostIdentity (algorithm ∷ tag ∷ key ∷ servers) = MayBeIdentity algorithm.now tag.now key.now servers
 MayBeHostIdentity _ = ⊥
 
 -- three words and those of the servers

@@ -6,7 +6,7 @@ use Rattle.dns_fields_text.specs.PrefixItems.{PrefixItem}
 use Rattle.dns_fields_text.specs.Prefixes.{has_word, padded, sign}
 use Rattle.dns_value_text.specs.declared.text_error.TextError.{TextError}
 use Rattle.dns_fields_read.specs.Addresses.{IsIpv6Word}
-use Rattle.dns_fields_read.specs.Reading.{AppendsOctetsIf, Fails, HasValue}
+use Rattle.dns_fields_read.specs.Reading.{Fails}
 
 -- a prefix as octets: its family, its size, a bit for its sign beside the number of the octets of its address, and these. RFC 3123 section 4
 abbrev pub prefix_octets : PrefixItem → List ℕ
@@ -47,12 +47,3 @@ abbrev pub AppendsPrefix : (PrefixItem → Type 0) → List ℕ → List ℕ →
 AppendsPrefix Is old new result =
     MatchResult result (λ _. (item : PrefixItem) × Is item × (new ≡ old ++ prefix_octets item))
     (Fails Is)
-
--- the first word, if there is one, represents a prefix
-abbrev pub BeginsWithPrefix : List (Bor (List ℕ)) → Type 0
-BeginsWithPrefix [] = Unit {0}
-BeginsWithPrefix (word ∷ words) = HasValue (IsPrefixWord word.now)
-
--- the octets of consecutive prefixes are appended, or why there are none
-abbrev pub AppendsPrefixes : List (Bor (List ℕ)) → List ℕ → List ℕ → Result Unit TextError → Type 0
-AppendsPrefixes words old new result = AppendsOctetsIf (BeginsWithPrefix words) (ArePrefixWords words) old new result

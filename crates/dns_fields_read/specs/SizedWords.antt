@@ -17,10 +17,10 @@ AreSized (number ∷ []) octets = IsNumber 10 number.now 0 × (octets ≡ [])
 AreSized (number ∷ word ∷ []) octets = IsNumber 10 number.now (length octets) × IsCountedBase64 word.now octets
 AreSized _ octets = ⊥
 
--- what is known of the words if an allocation fails: they are a zero, or a number of at most 65,535 and another word
+-- what is known of the words if an allocation fails: they are a zero, or a number of at most 65,535 and octets in base64, however many
 abbrev pub MayBeSized : List (Bor (List ℕ)) → Type 0
 MayBeSized (number ∷ []) = IsNumber 10 number.now 0
-MayBeSized (number ∷ word ∷ []) = HasValue (IsNumberTo 65535 number.now)
+MayBeSized (number ∷ word ∷ []) = HasValue (IsNumberTo 65535 number.now) × HasValue (IsBase64 word.now)
 MayBeSized _ = ⊥
 
 -- the words represent octets, and these are the octets after their length

@@ -1,10 +1,9 @@
 //! Gateways and relays (RFC 4025 section 3.1, RFC 8777 section 4.3.1).
-ghost use Rattle.std.specs.Prelude.{◌↔◌, ⊤, IsTrue};
+ghost use Rattle.std.specs.Prelude.{◌↔◌, IsTrue};
 ghost use Rattle.std.specs.Net.Grammar.{IsDotted};
 ghost use Rattle.dns_fields_read.specs.Addresses.{IsIpv6Word};
 ghost use Rattle.dns_fields_read.specs.GatewayWords.{IsGateway, IsGatewayAndKey, IsGatewayOf, IsNumberTo, IsRelay, IsRelayOf, MayBeGateway, MayBeGatewayAndKey};
-ghost use Rattle.dns_fields_read.specs.JoinedWords.{AreBase64};
-ghost use Rattle.dns_fields_read.specs.Reading.{AppendsOctets, AppendsOctetsIf, HasValue, Reads, ReadsWords, ReadsWordsIf};
+ghost use Rattle.dns_fields_read.specs.Reading.{AppendsOctets, HasValue, Reads, ReadsWords, ReadsWordsIf};
 
 use crate::address::{read_ipv4, read_ipv6};
 use crate::append::{push_name, push_octets};
@@ -76,15 +75,6 @@ fn push_gateway(octets: &mut Vec<u8>, gateway_type: u8, word: &str) -> Result<()
     }
 }
 
-/// Appends the public key that words represent.
-fn push_key(alloc: Global, octets: &mut Vec<u8>, words: &[&str]) -> Result<(), TextError>
-    ensures { AppendsOctetsIf ⊤ (AreBase64 words.now) octets.old.items octets.new.items
-        result }
-{
-    let key = read_base64_words(alloc, words)?;
-    push_octets(octets, key.as_slice())
-}
-
 /// A gateway type, an algorithm, a gateway and a public key.
 fn read_gateway_and_key(
     alloc: Global,
@@ -93,7 +83,7 @@ fn read_gateway_and_key(
     gateway: &str,
     key: &[&str],
 ) -> Result<Vec<u8>, TextError>
-    ensures { ReadsWordsIf (MayBeGatewayAndKey gateway_type.now algorithm.now gateway.now)
+    ensures { ReadsWordsIf (MayBeGatewayAndKey gateway_type.now algorithm.now gateway.now key.now)
         (IsGatewayAndKey gateway_type.now algorithm.now gateway.now key.now) result }
 {
     let Some(gateway_type) = read_octet(gateway_type, 3) else {
@@ -105,6 +95,10 @@ fn read_gateway_and_key(
     if !is_gateway(gateway_type, gateway) {
         return Err(TextError::BadWord);
     }
+    let key = match read_base64_words(alloc, key) {
+        Ok(key) => key,
+        Err(error) => return Err(error),
+    };
     let mut octets = Vec::new(alloc);
     if let Err(error) = push_octets(&mut octets, &[gateway_type, algorithm]) {
         return Err(error);
@@ -112,7 +106,7 @@ fn read_gateway_and_key(
     if let Err(error) = push_gateway(&mut octets, gateway_type, gateway) {
         return Err(error);
     }
-    match push_key(alloc, &mut octets, key) {
+    match push_octets(&mut octets, key.as_slice()) {
         Ok(()) => Ok(octets),
         Err(error) => Err(error),
     }

@@ -1,7 +1,7 @@
 //! Host identities (RFC 8005 section 6).
 ghost use Rattle.std.specs.Prelude.{◌≡◌, ◌↔◌, ◌++◌, ◌<◌, IsTrue, length, IfErr, OnOk};
 ghost use Rattle.dns_fields_read.specs.IdentityWords.{AreNames, IsHostIdentity, IsIdentity, MayBeHostIdentity, MayBeIdentity, identity_octets};
-ghost use Rattle.dns_fields_read.specs.Reading.{AppendsOctets, HasValue, ReadsWordsIf};
+ghost use Rattle.dns_fields_read.specs.Reading.{AppendsOctets, FailsFirst, HasValue, ReadsWordsIf};
 ghost use Rattle.dns_value_text.specs.declared.text_error.TextError.TheVariants.{OutOfMemory};
 
 use crate::append::{failure, push_name, push_octets};
@@ -61,6 +61,16 @@ fn push_identity(
     push_octets(octets, key)
 }
 
+/// Why two words aren't read, of which the first isn't.
+fn first_failure(first: TextError, second: Result<Vec<u8>, TextError>) -> TextError
+    ensures { FailsFirst first second result }
+{
+    match second {
+        Err(TextError::BadWord) => TextError::BadWord,
+        _ => first,
+    }
+}
+
 /// An algorithm, a host identity tag, a public key and the names of rendezvous servers.
 fn read_identity(
     alloc: Global,
@@ -69,7 +79,7 @@ fn read_identity(
     key: &str,
     servers: &[&str],
 ) -> Result<Vec<u8>, TextError>
-    ensures { ReadsWordsIf (MayBeIdentity algorithm.now tag.now servers.now)
+    ensures { ReadsWordsIf (MayBeIdentity algorithm.now tag.now key.now servers.now)
         (IsIdentity algorithm.now tag.now key.now servers.now) result }
 {
     let Some(algorithm) = read_octet(algorithm, 255) else {
@@ -80,7 +90,7 @@ fn read_identity(
     }
     let tag = match read_counted_hex(alloc, tag) {
         Ok(tag) => tag,
-        Err(error) => return Err(error),
+        Err(error) => return Err(first_failure(error, read_counted_base64(alloc, key))),
     };
     let key = match read_counted_base64(alloc, key) {
         Ok(key) => key,

@@ -1,6 +1,7 @@
 //! Octets in several words (RFC 4034 sections 2.2 and 5.3).
-ghost use Rattle.dns_fields_read.specs.JoinedWords.{AreBase64, AreHex};
-ghost use Rattle.dns_value_text.specs.Reading.{ReadsOctets};
+ghost use Rattle.dns_fields_read.specs.JoinedWords.{AreBase64, AreHex, MayBeJoined};
+ghost use Rattle.dns_fields_read.specs.Reading.{ReadsWordsIf};
+ghost use Rattle.dns_value_text.specs.Octets.{IsBase64, IsHex};
 
 use dns_value_text::{TextError, read_base64, read_hex};
 use std::alloc::Global;
@@ -9,8 +10,11 @@ use std::alloc::Global;
 ///
 /// No words at all are no octets.
 pub fn read_base64_words(alloc: Global, words: &[&str]) -> Result<Vec<u8>, TextError>
-    ensures { ReadsOctets (AreBase64 words.now) result }
+    ensures { ReadsWordsIf (MayBeJoined IsBase64 words.now) (AreBase64 words.now) result }
 {
+    if let [word] = words {
+        return read_base64(alloc, word);
+    }
     match words.concat(alloc) {
         Ok(text) => read_base64(alloc, text.as_str()),
         Err(_) => Err(TextError::OutOfMemory),
@@ -21,8 +25,11 @@ pub fn read_base64_words(alloc: Global, words: &[&str]) -> Result<Vec<u8>, TextE
 ///
 /// No words at all are no octets.
 pub fn read_hex_words(alloc: Global, words: &[&str]) -> Result<Vec<u8>, TextError>
-    ensures { ReadsOctets (AreHex words.now) result }
+    ensures { ReadsWordsIf (MayBeJoined IsHex words.now) (AreHex words.now) result }
 {
+    if let [word] = words {
+        return read_hex(alloc, word);
+    }
     match words.concat(alloc) {
         Ok(text) => read_hex(alloc, text.as_str()),
         Err(_) => Err(TextError::OutOfMemory),

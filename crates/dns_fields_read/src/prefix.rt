@@ -1,8 +1,8 @@
 //! Address prefixes (RFC 3123 section 5).
 ghost use Rattle.std.specs.Prelude.{◌≡◌, ◌≤◌, ◌-◌, ◌++◌, true, length, replicate, IfErr, OnOk};
 ghost use Rattle.dns_fields_text.specs.Prefixes.{is_trimmed};
-ghost use Rattle.dns_fields_read.specs.PrefixWords.{AppendsPrefix, AppendsPrefixes, ArePrefixWords, BeginsWithPrefix, IsPrefixOf, IsPrefixWord, SplitsSign, prefix_octets};
-ghost use Rattle.dns_fields_read.specs.Reading.{ReadsWordsIf};
+ghost use Rattle.dns_fields_read.specs.PrefixWords.{AppendsPrefix, ArePrefixWords, IsPrefixOf, IsPrefixWord, SplitsSign, prefix_octets};
+ghost use Rattle.dns_fields_read.specs.Reading.{AppendsOctets, ReadsWords};
 ghost use Rattle.dns_value_text.specs.declared.text_error.TextError.TheVariants.{OutOfMemory};
 
 use crate::address::{read_ipv4, read_ipv6};
@@ -117,22 +117,30 @@ fn push_prefix(octets: &mut Vec<u8>, word: &str) -> Result<(), TextError>
     Err(TextError::BadWord)
 }
 
-/// Appends the prefixes that words represent.
+/// Appends the prefixes that words represent. After an allocation fails, the other words are still
+/// read, since a bad one of them is the error.
 fn push_prefixes(octets: &mut Vec<u8>, words: &[&str]) -> Result<(), TextError>
-    ensures { AppendsPrefixes words.now octets.old.items octets.new.items result }
+    ensures { AppendsOctets (ArePrefixWords words.now) octets.old.items octets.new.items result }
 {
+    let mut fits = true;
     for word in words {
-        if let Err(error) = push_prefix(octets, word) {
-            return Err(error);
+        match push_prefix(octets, word) {
+            Ok(()) => {}
+            Err(TextError::OutOfMemory) => fits = false,
+            Err(TextError::BadWord) => return Err(TextError::BadWord),
         }
     }
-    Ok(())
+    if fits {
+        Ok(())
+    } else {
+        Err(TextError::OutOfMemory)
+    }
 }
 
 /// Address prefixes: for each word an optional exclamation mark, the address family, a colon, the
 /// address, a slash and the number of bits.
 pub fn read_prefixes(alloc: Global, words: &[&str]) -> Result<Vec<u8>, TextError>
-    ensures { ReadsWordsIf (BeginsWithPrefix words.now) (ArePrefixWords words.now) result }
+    ensures { ReadsWords (ArePrefixWords words.now) result }
 {
     let mut octets = Vec::new(alloc);
     match push_prefixes(&mut octets, words) {

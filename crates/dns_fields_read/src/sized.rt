@@ -43,7 +43,7 @@ fn read_none(alloc: Global, number: &str) -> Result<Vec<u8>, TextError>
 
 /// The octets of base64, if the other word is their number.
 fn read_some(alloc: Global, number: &str, word: &str) -> Result<Vec<u8>, TextError>
-    ensures { ReadsWordsIf (HasValue (IsNumberTo 65535 number.now))
+    ensures { ReadsWordsIf (HasValue (IsNumberTo 65535 number.now) × HasValue (IsBase64 word.now))
         (λ octets. IsNumber 10 number.now (length octets) × IsCountedBase64 word.now octets)
         result }
 {

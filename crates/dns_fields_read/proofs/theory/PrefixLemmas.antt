@@ -14,12 +14,12 @@ use Rattle.dns_fields_text.specs.Prefixes.{fits, has_word, is_trimmed, padded, s
 use Rattle.dns_value_text.specs.declared.text_error.TextError.{TextError}
 use Rattle.dns_value_text.specs.declared.text_error.TextError.TheVariants.{OutOfMemory}
 use Rattle.dns_fields_read.specs.Addresses.{IsIpv6Word}
-use Rattle.dns_fields_read.specs.PrefixWords.{AppendsPrefix, AppendsPrefixes, ArePrefixWords, BeginsWithPrefix, IsAddressWord, IsPrefixOf, IsPrefixWord, SplitsSign, prefix_octets}
+use Rattle.dns_fields_read.specs.PrefixWords.{AppendsPrefix, ArePrefixWords, IsAddressWord, IsPrefixOf, IsPrefixWord, SplitsSign, prefix_octets}
 use Rattle.dns_fields_read.proofs.theory.ByteLemmas.{nonzero}
 use Rattle.dns_fields_read.proofs.theory.LastSplits.{Lacks}
-use Rattle.dns_fields_read.specs.Reading.{Fails, FailsIf}
+use Rattle.dns_fields_read.specs.Reading.{AppendsOctets, Fails, HasValue}
 use Rattle.dns_fields_read.proofs.theory.OneWords.{one_ipv4, one_ipv6}
-use Rattle.dns_fields_read.proofs.theory.WordLists.{AreInOrder, appends_at_if}
+use Rattle.dns_fields_read.proofs.theory.WordLists.{AreInOrder, SameValue, appends_at, left_at, none_at}
 use Rattle.dns_fields_read.proofs.LocatorLemmas.{NoColon, same_parts}
 
 -- octets without their last zeros
@@ -258,21 +258,20 @@ prefixes_in_order = record {
 }
 
 module _ (words : List (Bor (List ℕ))) (k : ℕ) (d : Bor (List ℕ)) (within : k < length words) where
-  -- the word at an index is a prefix
+  -- what appending the prefixes from the one at an index on returns, where that one is appended
   pub prefix_more : (old middle new : List ℕ) (u : Unit {0}) (result : Result Unit TextError) → AppendsPrefix (IsPrefixWord (get_or words k d).now) old middle (Ok u)
-      → AppendsPrefixes (drop (k + 1) words) middle new result → AppendsPrefixes (drop k words) old new result
+      → AppendsOctets (ArePrefixWords (drop (k + 1) words)) middle new result → AppendsOctets (ArePrefixWords (drop k words)) old new result
   prefix_more old middle new u result a b =
-      appends_at_if IsPrefixIn ArePrefixWords prefixes_in_order BeginsWithPrefix (λ word ws own. (own.1.0, own.1.1)) words k d old middle new u result within
-      (prefix_octets a.0, (a.0, a.1, refl), a.2) b
+      appends_at IsPrefixIn ArePrefixWords prefixes_in_order words k d old middle new u result within (prefix_octets a.0, (a.0, a.1, refl), a.2) b
 
-  -- it isn't read
-  first_wrong : (word : Bor (List ℕ)) (ws : List (Bor (List ℕ))) (e : TextError) → Fails (IsPrefixWord word.now) e → FailsIf (BeginsWithPrefix (word ∷ ws)) (ArePrefixWords (word ∷ ws)) e
-  first_wrong word ws e (inl memory) = inl memory
-  first_wrong word ws e (inr bad) = inr (bad.0, λ octets is. bad.1 is.0 is.2)
+  -- whether the words are prefixes, where the one at an index is
+  pub prefix_there : HasValue (IsPrefixWord (get_or words k d).now) → SameValue (ArePrefixWords words) (ArePrefixWords (drop k words)) → SameValue (ArePrefixWords words) (ArePrefixWords (drop (k + 1) words))
+  prefix_there own left = left_at IsPrefixIn ArePrefixWords prefixes_in_order words k d within (prefix_octets own.0, (own.0, own.1, refl)) left
 
-  pub prefix_wrong : (old new : List ℕ) (e : TextError) → Fails (IsPrefixWord (get_or words k d).now) e → AppendsPrefixes (drop k words) old new (Err e)
-  prefix_wrong old new e fails =
-      subst (λ (ws : List (Bor (List ℕ))). FailsIf (BeginsWithPrefix ws) (ArePrefixWords ws) e) (sym (drop_more words k d within)) (first_wrong (get_or words k d) (drop (k + 1) words) e fails)
+  -- the word at an index is no prefix
+  pub prefix_wrong : ((item : PrefixItem) → ¬ (IsPrefixWord (get_or words k d).now item)) → SameValue (ArePrefixWords words) (ArePrefixWords (drop k words)) → (octets : List ℕ) → ¬ (ArePrefixWords words octets)
+  prefix_wrong none left octets are =
+      absurd (cc ((none_at IsPrefixIn ArePrefixWords prefixes_in_order words k d within (λ octets is. none is.0 is.1) left).1 (octets, are)))
 
 -- a word without a sign
 pub no_sign : (word : List ℕ) → ((rest : List ℕ) → word ≢ 33 ∷ rest) → get_or word 0 0 ≢ 33

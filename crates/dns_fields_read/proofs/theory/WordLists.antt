@@ -17,6 +17,15 @@ pub why : {A : Type 0} (May : Type 0) (Represents : A → Type 0) (b : Bool) (e 
 why May Represents true e is may there = inl (is, may refl)
 why May Represents false e is may there = inr (is, λ value has. absurd (cc (there (value, has))))
 
+-- what is known where bad words aren't read, and where an allocation fails
+pub bad_only : {A : Type 0} (May : Type 0) (Represents : A → Type 0) (e : TextError) → e ≡ BadWord → FailsIf May Represents e → (value : A) → ¬ (Represents value)
+bad_only May Represents e bad (inl memory) value is = absurd (cc (bad, memory.0))
+bad_only May Represents e bad (inr none) value is = none.1 value is
+
+pub full_only : {A : Type 0} (May : Type 0) (Represents : A → Type 0) (e : TextError) → e ≡ OutOfMemory → FailsIf May Represents e → May
+full_only May Represents e full (inl memory) = memory.1
+full_only May Represents e full (inr none) = absurd (cc (full, none.0))
+
 -- words represent the octets of the first one, and then those of the others
 pub record AreInOrder {W : Type 0} (Is : W → List ℕ → Type 0) (Are : List W → List ℕ → Type 0) : Type 0 where
   pub none : Are [] []
@@ -39,12 +48,12 @@ module _ {W : Type 0} (Is : W → List ℕ → Type 0) (Are : List W → List �
       inr (bad.0, λ octets is. let p = order.parts word words octets is in bad.1 p.1.0 p.1.1)
 
   -- the same, where less is known of words at which an allocation fails
-  pub more_if : (May : List W → Type 0) → ((word : W) (words : List W) → HasValue (Is word) → May (word ∷ words))
+  pub more_if : (May : List W → Type 0) → ((word : W) (words : List W) → HasValue (Is word) → May words → May (word ∷ words))
       → (word : W) (words : List W) (old middle new : List ℕ) (u : Unit {0}) (result : Result Unit TextError) → AppendsOctets (Is word) old middle (Ok u)
       → AppendsOctetsIf (May words) (Are words) middle new result → AppendsOctetsIf (May (word ∷ words)) (Are (word ∷ words)) old new result
   more_if May first word words old middle new u (Ok v) a b =
       (a.0 ++ b.0, order.both word words a.0 b.0 a.1 b.1, b.2 ∙ ap (λ (xs : List ℕ). xs ++ b.0) a.2 ∙ append_assoc old a.0 b.0)
-  more_if May first word words old middle new u (Err e) a (inl memory) = inl (memory.0, first word words (a.0, a.1))
+  more_if May first word words old middle new u (Err e) a (inl memory) = inl (memory.0, first word words (a.0, a.1) memory.1)
   more_if May first word words old middle new u (Err e) a (inr bad) =
       inr (bad.0, λ octets is. let p = order.parts word words octets is in bad.1 p.1.0 p.1.1)
 
@@ -54,7 +63,7 @@ module _ {W : Type 0} (Is : W → List ℕ → Type 0) (Are : List W → List �
   appends_at words k d old middle new u result within a b =
       subst (λ (ws : List W). AppendsOctets (Are ws) old new result) (sym (drop_more words k d within)) (more (get_or words k d) (drop (k + 1) words) old middle new u result a b)
 
-  pub appends_at_if : (May : List W → Type 0) → ((word : W) (words : List W) → HasValue (Is word) → May (word ∷ words))
+  pub appends_at_if : (May : List W → Type 0) → ((word : W) (words : List W) → HasValue (Is word) → May words → May (word ∷ words))
       → (words : List W) (k : ℕ) (d : W) (old middle new : List ℕ) (u : Unit {0}) (result : Result Unit TextError) → k < length words
       → AppendsOctets (Is (get_or words k d)) old middle (Ok u) → AppendsOctetsIf (May (drop (k + 1) words)) (Are (drop (k + 1) words)) middle new result
       → AppendsOctetsIf (May (drop k words)) (Are (drop k words)) old new result

@@ -1,7 +1,7 @@
 use Rattle.dns_fields.specs.declared.kind.Kind.TheVariants as kinds
 use Rattle.dns_parameters_read.specs.ParameterWords.{AreParameterWords}
 use Rattle.dns_data_read.proofs.AppendLemmas.{as_kinds, read_as_kind, reads_if}
-use Rattle.dns_data_read.proofs.MayBeLemmas.{gateway_may, identity_may, prefixes_may}
+use Rattle.dns_data_read.proofs.MayBeLemmas.{gateway_may, identity_may}
 use Rattle.dns_data_read.proofs.words.push_words.Goals as goal
 
 pub returns-in-Strings : goal.returns-in-Strings
@@ -30,7 +30,7 @@ returns-in-ServiceParameters c =
 
 pub returns-in-AddressPrefixes : goal.returns-in-AddressPrefixes
 returns-in-AddressPrefixes c =
-    read_as_kind c.args.kind kinds.AddressPrefixes c.args.words.now c.read_prefixes.result c.args.octets.now.items c.push_read-in-AddressPrefixes.new.octets.items c.push_read-in-AddressPrefixes.result c.in-AddressPrefixes.is (λ has. prefixes_may c.args.words.now has.0 has.1) c.read_prefixes.ensures c.push_read-in-AddressPrefixes.ensures
+    read_as_kind c.args.kind kinds.AddressPrefixes c.args.words.now c.read_prefixes.result c.args.octets.now.items c.push_read-in-AddressPrefixes.new.octets.items c.push_read-in-AddressPrefixes.result c.in-AddressPrefixes.is (λ has. has) c.read_prefixes.ensures c.push_read-in-AddressPrefixes.ensures
 
 pub returns-in-GatewayAndKey : goal.returns-in-GatewayAndKey
 returns-in-GatewayAndKey c =

@@ -1,10 +1,13 @@
-use Rattle.std.proofs.Common.{ℕ, List, drop}
+use Rattle.std.proofs.Common.{◌≡◌, ℕ, List, true, drop}
 use Rattle.std.specs.Prelude.{Result}
 use Rattle.dns_value_text.specs.declared.text_error.TextError.{TextError}
-use Rattle.dns_fields_read.specs.PrefixWords.{AppendsPrefixes}
+use Rattle.dns_fields_read.specs.PrefixWords.{ArePrefixWords}
+use Rattle.dns_fields_read.specs.Reading.{AppendsOctets}
+use Rattle.dns_fields_read.proofs.theory.WordLists.{SameValue}
 use Rattle.dns_fields_read.proofs.prefix.push_prefixes.Given as goal
 
--- what appending the prefixes that are left returns, appending all returns
+-- the words are prefixes if those that are left are; and what appending these returns, appending all returns, unless an allocation failed
 abbrev pub invariant-loop-word : goal.invariant-loop-word
 invariant-loop-word l =
-    (new : List ℕ) (result : Result Unit TextError) → AppendsPrefixes (drop l.word-index l.words) l.octets.items new result → AppendsPrefixes l.words l.fn.octets.items new result
+    SameValue (ArePrefixWords l.words) (ArePrefixWords (drop l.word-index l.words))
+    × (l.fits ≡ true → (new : List ℕ) (result : Result Unit TextError) → AppendsOctets (ArePrefixWords (drop l.word-index l.words)) l.octets.items new result → AppendsOctets (ArePrefixWords l.words) l.fn.octets.items new result)
