@@ -16,8 +16,8 @@ use Rattle.dns_item.specs.Record.{data_of}
 use Rattle.dns_item.specs.RecordReading.{GivesLaidOut}
 use Rattle.dns_item.specs.declared.record.Record.{Record}
 use Rattle.dns_lines.specs.ZoneLines.{rdata_text}
-use Rattle.dns_tool.specs.Show.{IsRead}
-use Rattle.dns_tool.proofs.theory.ShownRecords.{there, parts_there, parts_missing}
+use Rattle.dns_lines.specs.Show.{IsRead}
+use Rattle.dns_lines.proofs.theory.ShownRecords.{there, parts_there, parts_missing}
 use Rattle.dns_c.specs.Texts.{data_octets, data_text}
 
 module _ (x : EncodedRecord) (read : IsRead x) where

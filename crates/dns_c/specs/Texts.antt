@@ -9,7 +9,7 @@ use Rattle.dns_item.specs.RecordReading.{up_to_rdata_end}
 use Rattle.dns_wire.specs.Parts.{Part}
 use Rattle.dns_fields.specs.FieldData.{type_layout}
 use Rattle.dns_lines.specs.ZoneLines.{rdata_text}
-use Rattle.dns_tool.specs.Show.{data_parts}
+use Rattle.dns_lines.specs.Show.{data_parts}
 use Rattle.dns_c.specs.Codes.{ReportsFault}
 
 -- `end` is the length of the text, at most 2^64 - 1, and the buffer begins with the text if it is long enough

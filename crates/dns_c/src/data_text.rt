@@ -5,7 +5,7 @@ ghost use Rattle.dns_data.specs.Printing.{opaque_text};
 ghost use Rattle.dns_fields_text.specs.DataTexts.{data_line};
 ghost use Rattle.dns_item.specs.Items.{RecordEntry, RecordFaultAt};
 ghost use Rattle.dns_item.specs.ParsedRecord.{octets_of, parsed_entry, encoded_record};
-ghost use Rattle.dns_tool.specs.Show.{IsRead};
+ghost use Rattle.dns_lines.specs.Show.{IsRead};
 ghost use Rattle.dns_c.specs.Codes.{number_of};
 ghost use Rattle.dns_c.specs.Texts.{Holds, NoRecordAt, RecordAt, data_octets, data_text};
 

@@ -13,7 +13,7 @@ use Rattle.dns_fields.specs.Table.{definitions_of}
 use Rattle.dns_fields_text.specs.DataTexts.{data_text}
 use Rattle.dns_fields_text.specs.RecordLines.{record_text}
 use Rattle.dns_fields_text.specs.ZoneNames.{zone_name_text}
-use Rattle.dns_tool.specs.Show.{line, data_parts, section_word, sections_text}
+use Rattle.dns_lines.specs.Show.{line, data_parts, section_word, sections_text}
 
 -- RDATA: the fields of its record type if it has these parts, else its octets
 abbrev pub rdata_text : EncodedRecord → Option (List Part) → List ℕ

@@ -1,0 +1,19 @@
+//! Octets in hexadecimal digits (RFC 4648 section 8).
+ghost use Rattle.std.specs.Prelude.{◌≡◌, IfOk, option_map};
+ghost use Rattle.std.specs.Result.{result_ok};
+ghost use Rattle.hex.specs.Hex.{decode_of};
+
+use hex::FromHexError;
+use std::alloc::{AllocError, Global};
+
+/// Reads two digits for each octet, in either case. Returns `None` for any other text.
+pub(crate) fn octets(alloc: Global, digits: &[u8]) -> Result<Option<Vec<u8>>, AllocError>
+    ensures { IfOk result (λ octets. option_map (λ v. v.items) octets
+        ≡ result_ok (decode_of digits.now)) }
+{
+    match hex::decode(alloc, digits) {
+        Ok(octets) => Ok(Some(octets)),
+        Err(FromHexError::OutOfMemory) => Err(AllocError),
+        Err(_) => Ok(None),
+    }
+}
