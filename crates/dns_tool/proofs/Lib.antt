@@ -1,0 +1,2 @@
+mod HexLemmas
+mod OutputLemmas

@@ -6,8 +6,8 @@
 #![tactic(auto)]
 
 mod fault;
+mod hex;
 mod line;
-mod octet_digits;
 mod opt_line;
 mod output;
 mod program;

@@ -1,6 +1,6 @@
 //! OPT records in the lines of a script.
+use crate::hex;
 use crate::line::{number, words};
-use crate::octet_digits;
 use dns_code::{OptRcode, OptionCode};
 use dns_data::UnknownOptData;
 use dns_script::OptPlan;
@@ -66,7 +66,7 @@ fn option_of(alloc: Global, word: &str) -> Result<Option<UnknownOptData<Vec<u8>>
     let Some(code) = number(code, 0xffff) else {
         return Ok(None);
     };
-    let Some(octets) = octet_digits::octets(alloc, digits.as_bytes())? else {
+    let Some(octets) = hex::octets(alloc, digits.as_bytes())? else {
         return Ok(None);
     };
     Ok(UnknownOptData::new(OptionCode::from_int(code as u16), octets).ok())

@@ -4,10 +4,10 @@ ghost use Rattle.dns_tool.specs.ShowDigits.{Shows, IsFaultOf};
 
 use crate::fault::Fault;
 use crate::line::ScriptCall;
-use crate::{line, octet_digits, output};
+use crate::{hex, line, output};
 use arrayvec::ArrayVec;
 use dns_build::MessageBuilder;
-use dns_lines::{print_message, unspaced};
+use dns_lines::print_message;
 use dns_read::Message;
 use dns_script::{Reply, Stage, run};
 use dns_target::{HashCompressor, StaticCompressor, StreamTarget, TreeCompressor};
@@ -129,8 +129,7 @@ fn show_digits<W: Write>(alloc: Global, digits: &[u8], writer: &mut W) -> Result
         (W.contents writer.new)) }
     ensures fault { IfErr result (IsFaultOf digits.now) }
 {
-    let digits = unspaced(alloc, digits)?;
-    let Some(octets) = octet_digits::octets(alloc, &digits)? else {
+    let Some(octets) = hex::spaced_octets(alloc, digits)? else {
         return Err(Fault::BadHex);
     };
     let Ok(message) = Message::from_slice(&octets) else {

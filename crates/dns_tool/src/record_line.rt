@@ -1,6 +1,6 @@
 //! Records in the lines of a script.
+use crate::hex;
 use crate::line::{number, words};
-use crate::octet_digits;
 use crate::script_data::ScriptData;
 use dns_code::{Class, Rtype};
 use dns_data::{A, Cname, Ns, Soa, UnknownRecordData};
@@ -143,7 +143,7 @@ fn opaque(
         [digits] => digits,
         _ => return Ok(None),
     };
-    let Some(octets) = octet_digits::octets(alloc, digits.as_bytes())? else {
+    let Some(octets) = hex::octets(alloc, digits.as_bytes())? else {
         return Ok(None);
     };
     if number(len, 0xffff) != Some(octets.len()) {
