@@ -1,1 +1,6 @@
+pub mod theory
+mod KnownText
 mod LineLemmas
+mod SectionTexts
+mod ShownHeader
+mod WalkLemmas

@@ -19,9 +19,8 @@ use Rattle.dns_fields_text.specs.DataTexts.{data_text}
 use Rattle.dns_fields_text.specs.RecordLines.{record_text}
 use Rattle.dns_fields_text.specs.TypeNames.{type_word}
 use Rattle.dns_fields_text.specs.ZoneNames.{zone_name_text}
-use Rattle.dns_tool.specs.Show.{data_parts, line}
-use Rattle.dns_fields_text.specs.RdataTexts.{rdata_text}
-use Rattle.dns_lines.specs.ZoneLines.{is_of_message, line_with, record_lines}
+use Rattle.dns_lines.specs.Show.{data_parts, line}
+use Rattle.dns_lines.specs.ZoneLines.{is_of_message, line_with, rdata_text, record_lines}
 
 module _ (x : EncodedRecord) where
   -- a record of one message has no line

@@ -10,7 +10,7 @@ use Rattle.dns_fields.specs.FieldData.{type_layout}
 use Rattle.dns_fields_text.specs.RdataTexts.{rdata_text}
 use Rattle.dns_fields_text.specs.RecordLines.{record_text}
 use Rattle.dns_fields_text.specs.ZoneNames.{zone_name_text}
-use Rattle.dns_tool.specs.Show.{line, data_parts, section_word, sections_text}
+use Rattle.dns_lines.specs.Show.{line, data_parts, section_word, sections_text}
 
 -- the line of a record, by the parts of its RDATA
 abbrev pub line_with : EncodedRecord → Option (List Part) → List ℕ

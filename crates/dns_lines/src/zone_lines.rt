@@ -3,16 +3,16 @@ ghost use Rattle.std.specs.Prelude.{◌≡◌, None, Ok, OnOk};
 ghost use Rattle.std.specs.Io.KnownBytes.{Appends};
 ghost use Rattle.dns_item.specs.ParsedRecord.{encoded_record};
 ghost use Rattle.dns_read.specs.Message.{message_octets};
-ghost use Rattle.dns_tool.specs.Show.{HasShortData, IsRead};
+ghost use Rattle.dns_lines.specs.Show.{HasShortData, IsRead};
 ghost use Rattle.dns_lines.specs.ZoneLines.{covers_no_type, is_of_message, line_with, malformed_line, rdata_octets, record_lines, zone_lines};
 
+use crate::record_lines::{RecordLines, print_records, section_word};
 use dns_code::Rtype;
 use dns_data::UnknownRecordData;
 use dns_fields::FieldData;
 use dns_fields_text::{RecordText, TypeName, ZoneName};
 use dns_item::ParsedRecord;
 use dns_read::{Message, Section};
-use dns_tool::{RecordLines, print_records, section_word};
 use dns_wire::ParseError;
 use std::io;
 use std::io::Write;

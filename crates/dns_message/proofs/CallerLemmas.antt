@@ -37,8 +37,8 @@ pub use Rattle.dns_build.proofs.theory.MessageSizes.{longer_octets, one_more, oc
 -- What holds of each element of two lists holds of each of their concatenation.
 pub use Rattle.dns_build.proofs.theory.Encodings.{every_append}
 -- A text is appended after another.
-pub use Rattle.dns_tool.proofs.theory.AppendedTexts.{appends_both}
+pub use Rattle.dns_lines.proofs.theory.AppendedTexts.{appends_both}
 -- The empty text is appended if nothing changes.
-pub use Rattle.dns_tool.proofs.theory.AppendedTexts.{appends_none}
+pub use Rattle.dns_lines.proofs.theory.AppendedTexts.{appends_none}
 -- Lines are printed one after another, one for each item of a list: first none, then that of the next item, at last all.
-pub use Rattle.dns_tool.proofs.theory.PrintedLines.{Printed, none_printed, more_printed, all_printed}
+pub use Rattle.dns_lines.proofs.theory.PrintedLines.{Printed, none_printed, more_printed, all_printed}

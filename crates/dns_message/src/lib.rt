@@ -349,5 +349,5 @@ pub mod question {
     };
 }
 
-pub use dns_lines::print_zone_lines;
-pub use dns_tool::{print_message, tool};
+pub use dns_lines::{print_message, print_zone_lines};
+pub use dns_tool::tool;

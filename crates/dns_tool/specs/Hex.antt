@@ -1,7 +1,6 @@
 -- The octets that hexadecimal digits encode. RFC 4648 section 8.
-use Rattle.std.specs.Prelude.{ℕ, ◌+◌, ◌*◌, Bool, not, nat_lt, ◌&&◌, List, [], ◌∷◌, Option, Some, None, option_map, if◌then◌else◌}
-use Rattle.std.specs.Char.{digit_value, is_ascii_whitespace}
-use Rattle.std.specs.List.{filter}
+use Rattle.std.specs.Prelude.{ℕ, ◌+◌, ◌*◌, Bool, nat_lt, ◌&&◌, List, [], ◌∷◌, Option, Some, None, option_map, if◌then◌else◌}
+use Rattle.std.specs.Char.{digit_value}
 
 -- whether a character is a hexadecimal digit, in either case
 abbrev pub is_digit : ℕ → Bool
@@ -21,7 +20,3 @@ abbrev pub octets_of : List ℕ → Option (List ℕ)
 octets_of [] = Some []
 octets_of (high ∷ []) = None
 octets_of (high ∷ low ∷ text) = with_octet (octet_of high low) (octets_of text)
-
--- a text without ASCII white space: space, tab, line feed, form feed and carriage return
-abbrev pub unspaced : List ℕ → List ℕ
-unspaced text = filter (λ c. not (is_ascii_whitespace c)) text

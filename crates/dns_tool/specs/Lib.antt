@@ -1,9 +1,6 @@
 pub mod Faults
 pub mod Hex
-pub mod KnownData
 pub mod Lines
 pub mod Output
 pub mod ScriptData
-pub mod Show
 pub mod ShowDigits
-pub mod Walk

@@ -4,7 +4,7 @@ use Rattle.dns_name.specs.NameReading.{name_labels}
 use Rattle.dns_wire.specs.Parts.{Part}
 use Rattle.dns_wire.specs.Parts.Part.{Octets}
 use Rattle.dns_data.specs.UnknownData.{unknown_rtype_of, unknown_octets}
-use Rattle.dns_tool.specs.KnownData.{rtype_of, parts_of}
+use Rattle.dns_lines.specs.KnownData.{rtype_of, parts_of}
 use Rattle.dns_tool.specs.declared.script_data.ScriptData.{ScriptData}
 use Rattle.dns_tool.specs.declared.script_data.ScriptData.TheVariants.{Known, Opaque}
 

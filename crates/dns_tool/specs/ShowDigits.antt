@@ -2,8 +2,9 @@
 use Rattle.std.specs.Prelude.{◌≡◌, ℕ, ◌<◌, ◌≤◌, List, length, Option, Some, None, ⊤}
 use Rattle.std.specs.Io.KnownBytes.{Appends}
 use Rattle.dns_code.specs.HeaderSection.{header_size}
-use Rattle.dns_tool.specs.Hex.{octets_of, unspaced}
-use Rattle.dns_tool.specs.Show.{message_text}
+use Rattle.dns_lines.specs.Digits.{unspaced}
+use Rattle.dns_lines.specs.Show.{message_text}
+use Rattle.dns_tool.specs.Hex.{octets_of}
 use Rattle.dns_tool.specs.declared.fault.Fault.{Fault}
 use Rattle.dns_tool.specs.declared.fault.Fault.TheVariants.{Usage, BadLine, BadHex, ShortMessage, Failed}
 

@@ -1,7 +1,8 @@
 //! Hexadecimal digits read as octets (RFC 4648 section 8).
 ghost use Rattle.std.specs.Prelude.{◌≡◌, ◌<◌, SomeIff, IfOk, option_map};
 ghost use Rattle.std.specs.Char.{digit_value};
-ghost use Rattle.dns_tool.specs.Hex.{octet_of, octets_of, unspaced};
+ghost use Rattle.dns_lines.specs.Digits.{unspaced};
+ghost use Rattle.dns_tool.specs.Hex.{octet_of, octets_of};
 
 use std::alloc::{AllocError, Global};
 

@@ -4,10 +4,10 @@ ghost use Rattle.dns_tool.specs.ShowDigits.{Shows, IsFaultOf};
 
 use crate::fault::Fault;
 use crate::line::ScriptCall;
-use crate::print::print_message;
 use crate::{hex, line, output};
 use arrayvec::ArrayVec;
 use dns_build::MessageBuilder;
+use dns_lines::print_message;
 use dns_read::Message;
 use dns_script::{Reply, Stage, run};
 use dns_target::{HashCompressor, StaticCompressor, StreamTarget, TreeCompressor};

@@ -1,11 +1,11 @@
 //! Records in the lines of a script.
 use crate::hex;
-use crate::known_data::KnownData;
 use crate::line::{number, words};
 use crate::script_data::ScriptData;
 use dns_code::{Class, Rtype};
 use dns_data::{A, Cname, Ns, Soa, UnknownRecordData};
 use dns_item::{Record, Ttl};
+use dns_lines::KnownData;
 use dns_wire::Name;
 use dns_wire::name::FromStrError;
 use std::alloc::{AllocError, Global};

@@ -1,9 +1,9 @@
 //! The RDATA of the records of a script.
 ghost use Rattle.dns_tool.specs.ScriptData.{script_rtype_of, script_parts_of};
 
-use crate::known_data::KnownData;
 use dns_code::Rtype;
 use dns_data::{ComposeRecordData, RecordData, UnknownRecordData};
+use dns_lines::KnownData;
 use dns_wire::{AppendError, Composer, Name};
 
 /// The RDATA of a record of a script: its fields, or opaque octets for any type.

@@ -10,7 +10,7 @@ use Rattle.std.proofs.lemmas.List.Sums.{AllPass-from_list_all}
 use Rattle.hex.specs.Hex.{decode_of, is_hex_digit}
 use Rattle.hex.specs.declared.error.FromHexError.{FromHexError}
 use Rattle.hex.proofs.HexLemmas.{decode_of-digits}
-use Rattle.dns_tool.specs.Hex.{unspaced}
+use Rattle.dns_lines.specs.Digits.{unspaced}
 use Rattle.dns_rows.specs.declared.row.Row.{Row}
 use Rattle.dns_view.proofs.Appended.{on_ok}
 use Rattle.dns_view.specs.Pages.{IsPage}

@@ -5,7 +5,7 @@ use Rattle.std.specs.Io.KnownBytes.{Appends, Keeps}
 use Rattle.std.specs.List.{list_all}
 use Rattle.hex.specs.Hex.{decode_of}
 use Rattle.dns_code.specs.HeaderSection.{header_size}
-use Rattle.dns_tool.specs.Hex.{unspaced}
+use Rattle.dns_lines.specs.Digits.{unspaced}
 use Rattle.dns_lines.specs.ZoneLines.{zone_lines}
 use Rattle.dns_value_text.specs.String.{quoted}
 use Rattle.dns_rows.specs.Shown.{short_header, ShowsMessage}

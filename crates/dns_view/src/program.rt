@@ -2,7 +2,7 @@
 ghost use Rattle.std.specs.Prelude.{◌≡◌, ◌||◌, ◌⊎◌, IfOk, IfSome, MatchOption, OnOk, Some};
 ghost use Rattle.std.specs.Char.{is_ascii_hexdigit, is_ascii_whitespace};
 ghost use Rattle.std.specs.Io.KnownBytes.{Appends};
-ghost use Rattle.dns_tool.specs.Hex.{unspaced};
+ghost use Rattle.dns_lines.specs.Digits.{unspaced};
 ghost use Rattle.dns_view.specs.Requests.{asked};
 ghost use Rattle.dns_view.specs.Viewing.{is_digits, lines_text, named_text, wrong_text, CanEnd, Gives, IsOdd, IsPrinted, IsViewed, PrintsForm, Reports};
 

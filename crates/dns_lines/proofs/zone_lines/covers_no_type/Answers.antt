@@ -4,7 +4,7 @@ use Rattle.dns_data.specs.UnknownData.{unknown_rtype_of, unknown_octets}
 use Rattle.dns_wire.specs.Parts.Part.{Octets}
 use Rattle.dns_item.specs.ParsedRecord.{encoded_record}
 use Rattle.dns_item.specs.Record.{data_of}
-use Rattle.dns_tool.proofs.theory.ShownRecords.{there, opaque_is_ok}
+use Rattle.dns_lines.proofs.theory.ShownRecords.{there, opaque_is_ok}
 use Rattle.dns_lines.specs.ZoneLines.{covers_no_type}
 use Rattle.dns_lines.proofs.zone_lines.covers_no_type.Goals as goal
 

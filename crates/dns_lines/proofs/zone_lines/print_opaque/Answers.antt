@@ -6,8 +6,8 @@ use Rattle.dns_wire.specs.Parts.Part.{Octets}
 use Rattle.dns_item.specs.ParsedRecord.{encoded_record}
 use Rattle.dns_item.specs.Record.{data_of}
 use Rattle.dns_fields_text.specs.ZoneNames.{zone_name_text}
-use Rattle.dns_tool.proofs.theory.PrintedLines.{printed_as}
-use Rattle.dns_tool.proofs.theory.ShownRecords.{there, opaque_is_ok}
+use Rattle.dns_lines.proofs.theory.PrintedLines.{printed_as}
+use Rattle.dns_lines.proofs.theory.ShownRecords.{there, opaque_is_ok}
 use Rattle.dns_lines.proofs.LineLemmas.{opaque_printed}
 use Rattle.dns_lines.proofs.zone_lines.print_opaque.Goals as goal
 

@@ -5,10 +5,10 @@ use Rattle.dns_item.specs.Record.{data_of}
 use Rattle.dns_name.specs.Names.{fault_of}
 use Rattle.dns_fields.specs.Data.{parts_of}
 use Rattle.dns_fields.specs.FieldData.{type_layout}
-use Rattle.dns_tool.specs.Show.{line}
-use Rattle.dns_tool.proofs.theory.AppendedTexts.{appends_none}
-use Rattle.dns_tool.proofs.theory.PrintedLines.{printed_as}
-use Rattle.dns_tool.proofs.theory.ShownRecords.{there, parts_there, parts_missing}
+use Rattle.dns_lines.specs.Show.{line}
+use Rattle.dns_lines.proofs.theory.AppendedTexts.{appends_none}
+use Rattle.dns_lines.proofs.theory.PrintedLines.{printed_as}
+use Rattle.dns_lines.proofs.theory.ShownRecords.{there, parts_there, parts_missing}
 use Rattle.dns_lines.specs.ZoneLines.{line_with}
 use Rattle.dns_lines.proofs.LineLemmas.{of_message_has_none, others_have_one, text_of_fields}
 use Rattle.dns_lines.proofs.zone_lines.print_parsed.Goals as goal

@@ -1,5 +1,5 @@
 use Rattle.std.proofs.Common.{◌∙◌}
-use Rattle.dns_tool.proofs.theory.AppendedTexts.{prints_both}
+use Rattle.dns_lines.proofs.theory.AppendedTexts.{prints_both}
 use Rattle.dns_tool.proofs.output.print_octets.Goals as goal
 
 pub returns : goal.returns

@@ -1,6 +1,6 @@
 use Rattle.std.proofs.Common.{◌∙◌, ap, sym, inl, inr}
 use Rattle.hex.specs.Hex.{decode_of}
-use Rattle.dns_tool.specs.Hex.{unspaced}
+use Rattle.dns_lines.specs.Digits.{unspaced}
 use Rattle.dns_view.specs.Viewing.{is_digits}
 use Rattle.dns_view.proofs.Viewed.{odd_digits}
 use Rattle.dns_view.proofs.program.message_of.Goals as goal
