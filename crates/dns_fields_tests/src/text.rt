@@ -1,13 +1,13 @@
-//! Record data as text: its values, the words of a line, whole record data both ways, and records.
+//! Record data as text: the words of a line, readers of many words, and records.
 //! The expected texts and octets are examples of the RFCs, or what other DNS programs print and
 //! read.
 //!
 //! * `printed_records` and `read_records` have whole records, and `long_data` the longest RDATA.
-//! * `printed` has values and their texts, `sized` octets after their length, and `lines` lines and
-//!   their words. `readers` calls each reader of words once.
+//! * `printed` has a value that no RDATA has, and `lines` lines and their words. `readers` calls
+//!   readers of many words.
 //! * `asserts` and `reading` have assertions.
 //!
-//! The texts of each type are in the cases of `cases_rdata`.
+//! The values and texts of each type are in the cases of `cases_rdata`.
 
 mod asserts;
 mod lines;
@@ -17,4 +17,3 @@ mod printed_records;
 mod read_records;
 mod readers;
 mod reading;
-mod sized;
