@@ -1,6 +1,6 @@
 #!/usr/bin/env bash
 # Counts with valgrind the instructions that each row of the bench takes for a message. With the same compiler, C library and
-# valgrind, the counts are the same each time, whatever else the machine does. Builds crates/dns_bench as run.sh does.
+# valgrind, the counts are the same each time, whatever else the machine does. Builds crates/bench as run.sh does.
 # It needs a C compiler (CC, else cc), python3 and valgrind.
 #
 #     bench/count.sh              prints them
@@ -8,7 +8,7 @@
 #     bench/count.sh --check      compares them with bench/instructions, and fails if a row takes over 2 % more
 set -euo pipefail
 here=$(cd "$(dirname "$0")" && pwd)
-crate=$here/../crates/dns_bench
+crate=$here/../crates/bench
 kit=$(dirname "$(rt doc)")
 kept=$here/instructions
 build=$(mktemp -d)
@@ -21,12 +21,12 @@ esac
 command -v valgrind >/dev/null || { echo 'bench/count.sh needs valgrind' >&2; exit 1; }
 [ "${1:-}" != --check ] || [ -s "$kept" ] || { echo 'no bench/instructions: bench/count.sh --write makes it' >&2; exit 1; }
 
-"$here/../examples/c/library" dns_bench >"$build/proof" 2>&1 || { cat "$build/proof" >&2; exit 1; }
+"$here/../examples/c/library" bench >"$build/proof" 2>&1 || { cat "$build/proof" >&2; exit 1; }
 
 compile() {
   local to=$1
   shift
-  "${CC:-cc}" -std=gnu11 -O2 -Wall -Wextra "$@" "$crate/out/libdns_bench.a" "$kit/c/liblibc_c.a" -o "$to"
+  "${CC:-cc}" -std=gnu11 -O2 -Wall -Wextra "$@" "$crate/out/libbench.a" "$kit/c/liblibc_c.a" -o "$to"
 }
 compile "$build/names" "$here/driver.c"
 compile "$build/walk" "$here/walk.c"

@@ -1,4 +1,4 @@
-/* Times the exports of crates/dns_bench. README.md says what is measured.
+/* Times the exports of crates/bench. README.md says what is measured.
  *
  *   names                    prints a row for each compressor and workload
  *   names ROW WORKLOAD N     writes N messages of one row, for an instruction counter

@@ -1,4 +1,4 @@
-/* This library as a peer: the calls of peer.h, made with the exports of crates/dns_bench.
+/* This library as a peer: the calls of peer.h, made with the exports of crates/bench.
  *
  * An export keeps nothing between two calls. So it parses the names and creates its target once for
  * a batch of messages: of BATCH calls for one message, the first writes all messages, and the others

@@ -1,5 +1,5 @@
 #!/usr/bin/env bash
-# Builds crates/dns_bench over what `./test` has left proved. Prints times and allocations of reading and building whole
+# Builds crates/bench over what `./test` has left proved. Prints times and allocations of reading and building whole
 # messages, of writing names with the four compressors, and of reading two messages. Whole messages are timed by four
 # programs, whose code is shifted by 16 octets each (shift.c); the least time is the one that counts.
 # ROUNDS is the number of rounds, 1 by default. count.sh counts instructions.
@@ -7,17 +7,17 @@
 # It needs a C compiler (CC, else cc) and python3.
 set -eu
 here=$(cd "$(dirname "$0")" && pwd)
-crate=$here/../crates/dns_bench
+crate=$here/../crates/bench
 kit=$(dirname "$(rt doc)")
 build=$(mktemp -d)
 trap 'rm -rf "$build"' EXIT
 
-"$here/../examples/c/library" dns_bench >"$build/proof" 2>&1 || { cat "$build/proof" >&2; exit 1; }
+"$here/../examples/c/library" bench >"$build/proof" 2>&1 || { cat "$build/proof" >&2; exit 1; }
 
 compile() {
   local to=$1
   shift
-  "${CC:-cc}" -std=gnu11 -O2 -Wall -Wextra "$@" "$crate/out/libdns_bench.a" "$kit/c/liblibc_c.a" -o "$to"
+  "${CC:-cc}" -std=gnu11 -O2 -Wall -Wextra "$@" "$crate/out/libbench.a" "$kit/c/liblibc_c.a" -o "$to"
 }
 compile "$build/times" "$here/driver.c"
 compile "$build/allocations" -DCOUNT_ALLOCATIONS "$here/count.c" "$here/driver.c"

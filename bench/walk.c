@@ -1,4 +1,4 @@
-/* Times dns_bench_walk of crates/dns_bench on two messages. README.md says what is read.
+/* Times dns_bench_walk of crates/bench on two messages. README.md says what is read.
  *
  *   walk              prints a row for each message
  *   walk MESSAGE N    reads one message N times, for an instruction counter

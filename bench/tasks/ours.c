@@ -1,4 +1,4 @@
-/* The tasks with calls for users of Rattle, by the exports of crates/dns_bench. */
+/* The tasks with calls for users of Rattle, by the exports of crates/bench. */
 
 #include "tasks.h"
 

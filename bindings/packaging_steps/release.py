@@ -14,7 +14,7 @@ from .files import Problem, copy, is_program, read, read_octets, sha256, walk, w
 
 BINDINGS = os.path.dirname(os.path.dirname(os.path.abspath(__file__)))
 TOP = os.path.dirname(BINDINGS)
-HEADER = f"{TOP}/crates/dns_c/dnsm.h"
+HEADER = f"{TOP}/crates/dnsm/dnsm.h"
 LICENSE = f"{TOP}/LICENSE"
 NOTICES = f"{BINDINGS}/NOTICES"
 NAMES = f"{BINDINGS}/release.txt"
@@ -138,13 +138,13 @@ def copy_terms(folder):
 
 
 def crates_of_library():
-    """dns_c and all crates below it, by crates.txt."""
+    """dnsm and all crates below it, by crates.txt."""
     used = {}
     for line in read(f"{TOP}/crates.txt").splitlines():
         crate, _, below = line.partition("#")[0].partition(":")
         if crate.strip():
             used[crate.split()[0]] = below.split()
-    found, left = set(), ["dns_c"]
+    found, left = set(), ["dnsm"]
     while left:
         crate = left.pop()
         if crate in used and crate not in found:
@@ -155,7 +155,7 @@ def crates_of_library():
 
 def fresh_archive():
     """The archive that examples/c/library builds, if no source of its crates is newer."""
-    archive = f"{TOP}/crates/dns_c/out/libdns_c.a"
+    archive = f"{TOP}/crates/dnsm/out/libdnsm.a"
     if not os.path.exists(archive):
         raise Problem("examples/c/library hasn't built the library")
     folders = [f"{TOP}/crates/{crate}/{part}" for crate in crates_of_library() for part in ("src", "specs", "proofs")]

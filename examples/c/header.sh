@@ -1,10 +1,10 @@
 #!/usr/bin/env bash
-# Compares crates/dns_c/dnsm.h with the crate: each call and each struct by its C types and the names of its parameters and
+# Compares crates/dnsm/dnsm.h with the crate: each call and each struct by its C types and the names of its parameters and
 # fields, the numbers of the errors, and the names of the calls in the archive that `library` has built. Compiles the header alone.
 # Prints the differences, and fails if there are any, or if there is no C compiler, no `nm` or no archive.
 set -eu
 here=$(cd "$(dirname "$0")" && pwd)
-crate=$here/../../crates/dns_c
+crate=$here/../../crates/dnsm
 folder=$(mktemp -d)
 trap 'rm -rf "$folder"' EXIT
 
@@ -52,8 +52,8 @@ compare_struct walk.rt Item dnsm_item
 compare_struct build.rt NewItem dnsm_new_item
 compare_struct opts.rt Opt dnsm_opt
 compare_struct opts.rt OptOption dnsm_opt_option
-compare_struct ../../dns_put/src/draft.rt Draft dnsm_draft
-compare_struct ../../dns_put/src/draft.rt PutItem dnsm_put_item
+compare_struct ../../dnsm_put/src/draft.rt Draft dnsm_draft
+compare_struct ../../dnsm_put/src/draft.rt PutItem dnsm_put_item
 
 # the numbers in number_of and code_of, and those of dnsm_status
 {
@@ -79,10 +79,10 @@ sed -E 's/^[a-z0-9_]+ ([a-z_]+)\(.*/\1/' "$folder/prototypes" | sort >"$folder/d
 while read -r name; do
   grep -q "\b$name(" "$here/edge.c" || { echo "edge.c calls no $name"; exit 1; }
 done <"$folder/declared"
-for file in "$crate/out/libdns_c.a" "$(command -v nm || echo nm)"; do
+for file in "$crate/out/libdnsm.a" "$(command -v nm || echo nm)"; do
   [ -e "$file" ] || { echo "no $file: the names in the archive can't be compared"; exit 1; }
 done
-nm --defined-only "$crate/out/libdns_c.a" 2>/dev/null | sed -nE 's/.* T (dnsm_[a-z_]+)$/\1/p' | sort >"$folder/defined"
+nm --defined-only "$crate/out/libdnsm.a" 2>/dev/null | sed -nE 's/.* T (dnsm_[a-z_]+)$/\1/p' | sort >"$folder/defined"
 diff "$folder/defined" "$folder/declared"
 
 # the header alone, by each C compiler

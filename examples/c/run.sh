@@ -1,14 +1,14 @@
 #!/usr/bin/env bash
-# Builds the static library of crates/dns_c (library), compares dnsm.h with its exports (header.sh), and compiles and runs the
+# Builds the static library of crates/dnsm (library), compares dnsm.h with its exports (header.sh), and compiles and runs the
 # examples in C and C++, also those of bindings/c. Each compiler of gcc and clang, and of g++ and clang++, that is installed
 # compiles them, with all warnings as errors, and with the address and undefined behaviour sanitizers if it has them, which it
-# says. The sanitizers check the examples and the calls of the C library, but not the reads and writes of libdns_c.a itself,
+# says. The sanitizers check the examples and the calls of the C library, but not the reads and writes of libdnsm.a itself,
 # which are proved; show.c has a page after each message that can't be read. The packages of Debian are gcc, g++ and clang.
 # Prints 'test c::NAME ... ok' or 'test c::NAME ... FAILED' for each step, and fails if one does, or if there is no compiler for
 # C or for C++.
 set -u
 here=$(cd "$(dirname "$0")" && pwd)
-crate=$here/../../crates/dns_c
+crate=$here/../../crates/dnsm
 packages=$here/../../bindings/tests
 kit=$(dirname "$(rt doc)")
 build=$(mktemp -d)
@@ -39,7 +39,7 @@ has_sanitizers() {
 compile() {
   local compiler=$1 standard=$2 source=$3 program=${4:-$(basename "${3%.*}")} flags="-O1 -g -Wall -Wextra -Wconversion -pedantic -Werror"
   has_sanitizers "$compiler" && flags="$flags $sanitizers"
-  $compiler "-std=$standard" $flags "-I$crate" "$here/$source" "$crate/out/libdns_c.a" "$kit/c/liblibc_c.a" -o "$build/$program"
+  $compiler "-std=$standard" $flags "-I$crate" "$here/$source" "$crate/out/libdnsm.a" "$kit/c/liblibc_c.a" -o "$build/$program"
 }
 
 cat >"$build/expected" <<'EXPECTED'

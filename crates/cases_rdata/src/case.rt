@@ -2,11 +2,11 @@
 use crate::fields::write_values;
 use dns_code::Rtype;
 use dns_data::{ComposeRecordData, ParseAnyRecordData};
-use dns_data_read::from_text;
-use dns_fields::FieldData;
-use dns_fields_text::DataText;
-use dns_line_words::split_words;
 use dns_wire::{ParseError, Parser};
+use fields_octets::FieldData;
+use fields_print::DataText;
+use fields_read_records::from_text;
+use fields_read_words::split_words;
 use std::alloc::Global;
 use std::io;
 

@@ -1,7 +1,7 @@
 //! The lines of a case.
 use crate::case::Case;
-use dns_cases::{Report, key_of, octets_of};
-use dns_fields_read::read_type;
+use cases_files::{Report, key_of, octets_of};
+use fields_read::read_type;
 use std::alloc::Global;
 use std::io;
 use std::io::Write;

@@ -4,9 +4,9 @@ ghost use Rattle.std.specs.Io.KnownBytes.{Appends};
 ghost use Rattle.hex.specs.Hex.{encode_lower};
 
 use dns_data::ComposeRecordData;
-use dns_fields::{FieldData, Value};
-use dns_fields_text::DataText;
 use dns_read::Message;
+use fields_octets::{FieldData, Value};
+use fields_print::DataText;
 use std::alloc::Global;
 use std::io;
 use std::io::Write;

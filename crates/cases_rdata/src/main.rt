@@ -21,7 +21,7 @@ use crate::checks::take_line;
 use crate::fields::print_canonical;
 use crate::reading::print_read;
 use crate::rewriting::rewritten;
-use dns_cases::{Report, blocks, case_of};
+use cases_files::{Report, blocks, case_of};
 use dns_read::Message;
 use std::alloc::Global;
 use std::io;

@@ -1,10 +1,10 @@
 //! RDATA that is read from presentation format.
 use crate::fields::print_digits;
 use dns_data::ComposeRecordData;
-use dns_data_read::from_text;
-use dns_fields::OwnedFieldData;
-use dns_fields_read::read_type;
-use dns_line_words::split_words;
+use fields_octets::OwnedFieldData;
+use fields_read::read_type;
+use fields_read_records::from_text;
+use fields_read_words::split_words;
 use std::alloc::Global;
 use std::io;
 use std::io::Write;

@@ -1,9 +1,9 @@
 //! Messages written again from the fields of their records.
 use dns_build::{AnswerBuilder, CopyRecordsError, MessageBuilder, PushError, copy_records};
 use dns_code::Rcode;
-use dns_fields::FieldData;
 use dns_read::Message;
 use dns_target::TreeCompressor;
+use fields_octets::FieldData;
 use std::alloc::Global;
 
 /// The message with its header, its question and its records. Leaves out records whose RDATA is

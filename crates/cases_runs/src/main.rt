@@ -12,7 +12,7 @@ mod run;
 
 use crate::part::check_part;
 use crate::run::{Ended, Run};
-use dns_cases::{Report, blocks, case_of};
+use cases_files::{Report, blocks, case_of};
 use std::alloc::Global;
 use std::io;
 use std::io::{BufWriter, Write};

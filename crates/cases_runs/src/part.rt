@@ -1,7 +1,7 @@
 //! Parts of what is printed.
 use crate::opt::opt_line;
 use crate::run::{Ended, Run};
-use dns_cases::{Report, key_of};
+use cases_files::{Report, key_of};
 use std::alloc::{AllocError, Global};
 use std::io;
 use std::io::Write;

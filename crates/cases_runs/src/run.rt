@@ -1,5 +1,5 @@
 //! A run of a program.
-use dns_cases::{Report, key_of, octets_of, push_times};
+use cases_files::{Report, key_of, octets_of, push_times};
 use std::alloc::{AllocError, Global};
 use std::io;
 use std::io::Write;
@@ -106,8 +106,8 @@ impl<'a> Run<'a> {
         let (mut output, mut errors) = (Vec::new(alloc), Vec::new(alloc));
         let mut input = self.input.as_slice();
         let status = match program {
-            "dnsmsg" => dns_tool::tool(alloc, &words, input, &mut output),
-            "dnsview" => dns_view::tool(alloc, &words, &mut input, &mut output, &mut errors),
+            "dnsmsg" => dnsmsg_tool::tool(alloc, &words, input, &mut output),
+            "dnsview" => dnsview_tool::tool(alloc, &words, &mut input, &mut output, &mut errors),
             _ => u8::MAX,
         };
         Ok(Ended {

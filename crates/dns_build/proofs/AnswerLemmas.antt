@@ -5,11 +5,11 @@ use Rattle.std.specs.Result.{result_ok}
 use Rattle.dns_octets.specs.declared.error.ParseError.{ParseError}
 use Rattle.dns_name.specs.Names.{Fault}
 use Rattle.dns_wire.specs.Encoders.{Rule}
-use Rattle.dns_question.specs.Questions.{QuestionItem}
-use Rattle.dns_section.specs.QuestionSection.{questions_left, to_come, position, octets_of}
-use Rattle.dns_section.specs.QuestionsFrom.{questions_from}
-use Rattle.dns_section.specs.Skipping.{items_left}
-use Rattle.dns_section.specs.declared.question_section.QuestionSection.{QuestionSection}
+use Rattle.dns_item.specs.Questions.{QuestionItem}
+use Rattle.dns_read.specs.QuestionSection.{questions_left, to_come, position, octets_of}
+use Rattle.dns_read.specs.QuestionsFrom.{questions_from}
+use Rattle.dns_read.specs.Skipping.{items_left}
+use Rattle.dns_read.specs.declared.question_section.QuestionSection.{QuestionSection}
 use Rattle.dns_build.specs.Answers.{ReturnsQuestion, AreAccepted, Asks, GivesEither, IsEither}
 use Rattle.dns_build.specs.BuilderStates.{Built, Represents, MovesState, InEach}
 use Rattle.dns_build.specs.State.{State, InQuestion, with_question, with_questions}
@@ -101,7 +101,8 @@ pub readable-next : (rest left : List (Result QuestionItem Fault)) (x : Question
 readable-next rest left x is = ap (filter_map result_ok) is
 
 -- a fault is the last item
-pub readable-fault : (rest : List (Result QuestionItem Fault)) (new : QuestionSection) (f : Fault) (e : ParseError) → rest ≡ Err f ∷ questions_left new → to_come new ≡ Err e → filter_map result_ok rest ≡ []
+pub readable-fault : (rest : List (Result QuestionItem Fault)) (new : QuestionSection) (f : Fault) (e : ParseError) → rest ≡ Err f ∷ questions_left new
+    → to_come new ≡ Err e → filter_map result_ok rest ≡ []
 readable-fault rest new f e is faulted =
     ap (filter_map result_ok) is
     ∙ ap (λ (left : Result ℕ ParseError). filter_map result_ok (items_left (λ n. questions_from (octets_of new) n (position new)) left)) faulted

@@ -28,14 +28,16 @@ module _ {F R : Type 0} (call : F → ParsedRecord → Option R → F → Type 0
   pub record SoFar (xs : List (Result EncodedRecord Fault)) (f : F) (s : State) (ys : List (Result EncodedRecord Fault)) (g : F) (now : Built) : Type 0 where
     pub state : State
     pub represents : Represents stage rule state now
-    pub rest : (result : Result (Unit {0}) CopyRecordsError) (h : F) (u : State) → CopiesList call item capacity grows rule stage ys g state result h u → CopiesList call item capacity grows rule stage xs f s result h u
+    pub rest : (result : Result (Unit {0}) CopyRecordsError) (h : F) (u : State) → CopiesList call item capacity grows rule stage ys g state result h u
+        → CopiesList call item capacity grows rule stage xs f s result h u
 
   -- nothing is copied yet
   pub so_far_none : (xs : List (Result EncodedRecord Fault)) (f : F) (s : State) (now : Built) → Represents stage rule s now → SoFar xs f s xs f now
   so_far_none xs f s now represents = record { state = s; represents = represents; rest = λ result h u c. c }
 
   -- one more record is copied
-  pub so_far_more : (xs : List (Result EncodedRecord Fault)) (f : F) (s : State) (ys : List (Result EncodedRecord Fault)) (g : F) (now : Built) (x : EncodedRecord) (zs : List (Result EncodedRecord Fault)) (h : F) (new : Built)
+  pub so_far_more : (xs : List (Result EncodedRecord Fault)) (f : F) (s : State) (ys : List (Result EncodedRecord Fault)) (g : F) (now : Built)
+      (x : EncodedRecord) (zs : List (Result EncodedRecord Fault)) (h : F) (new : Built)
       → SoFar xs f s ys g now → ys ≡ Ok x ∷ zs → ((t : State) → Represents stage rule t now → CopiesRecordTo call item capacity grows rule stage x g t (Ok tt) h new) → SoFar xs f s zs h new
   so_far_more xs f s ys g now x zs h new p is step =
       let made = step p.state p.represents in
@@ -52,15 +54,25 @@ module _ {F R : Type 0} (call : F → ParsedRecord → Option R → F → Type 0
       (p.state, p.rest (Ok tt) g p.state (subst (λ (l : List (Result EncodedRecord Fault)). CopiesList call item capacity grows rule stage l g p.state (Ok tt) g p.state) (sym is) none), p.represents)
 
   -- the next item is a fault
-  pub so_far_fault : (xs : List (Result EncodedRecord Fault)) (f : F) (s : State) (ys : List (Result EncodedRecord Fault)) (g : F) (now : Built) (e : ParseError) (zs : List (Result EncodedRecord Fault))
+  pub so_far_fault : (xs : List (Result EncodedRecord Fault)) (f : F) (s : State) (ys : List (Result EncodedRecord Fault)) (g : F) (now : Built)
+      (e : ParseError) (zs : List (Result EncodedRecord Fault))
       → SoFar xs f s ys g now → ys ≡ Err (fault_of e) ∷ zs → CopiesListTo call item capacity grows rule stage xs f s (Err (Parse e)) g now
-  so_far_fault xs f s ys g now e zs p is =
-      (p.state, p.rest (Err (Parse e)) g p.state (subst (λ (l : List (Result EncodedRecord Fault)). CopiesList call item capacity grows rule stage l g p.state (Err (Parse e)) g p.state) (sym is) fault), p.represents)
+  so_far_fault xs f s ys g now e zs p is = (
+    p.state,
+    p.rest (Err (Parse e)) g p.state
+        (subst (λ (l : List (Result EncodedRecord Fault)). CopiesList call item capacity grows rule stage l g p.state (Err (Parse e)) g p.state) (sym is) fault),
+    p.represents,
+  )
 
   -- pushing the next record fails
-  pub so_far_refused : (xs : List (Result EncodedRecord Fault)) (f : F) (s : State) (ys : List (Result EncodedRecord Fault)) (g : F) (now : Built) (x : EncodedRecord) (zs : List (Result EncodedRecord Fault)) (e : PushError) (h : F) (new : Built)
+  pub so_far_refused : (xs : List (Result EncodedRecord Fault)) (f : F) (s : State) (ys : List (Result EncodedRecord Fault)) (g : F) (now : Built)
+      (x : EncodedRecord) (zs : List (Result EncodedRecord Fault)) (e : PushError) (h : F) (new : Built)
       → SoFar xs f s ys g now → ys ≡ Ok x ∷ zs → ((t : State) → Represents stage rule t now → CopiesRecordTo call item capacity grows rule stage x g t (Err e) h new)
       → CopiesListTo call item capacity grows rule stage xs f s (Err (Push e)) h new
   so_far_refused xs f s ys g now x zs e h new p is step =
-      let made = step p.state p.represents in
-      (made.0, p.rest (Err (Push e)) h made.0 (subst (λ (l : List (Result EncodedRecord Fault)). CopiesList call item capacity grows rule stage l g p.state (Err (Push e)) h made.0) (sym is) (refused made.1)), made.2)
+      let made = step p.state p.represents in (
+        made.0,
+        p.rest (Err (Push e)) h made.0
+            (subst (λ (l : List (Result EncodedRecord Fault)). CopiesList call item capacity grows rule stage l g p.state (Err (Push e)) h made.0) (sym is) (refused made.1)),
+        made.2,
+      )

@@ -7,13 +7,13 @@ use Rattle.dns_wire.specs.Encoders.{Rule}
 use Rattle.dns_item.specs.Items.{RecordItem, SkipsRecord, RecordSkipFaultAt}
 use Rattle.dns_item.specs.ParsedRecord.{EncodedRecord}
 use Rattle.dns_item.specs.declared.parsed_record.ParsedRecord.{ParsedRecord}
-use Rattle.dns_section.specs.Reading.{StopsSkipping}
-use Rattle.dns_section.specs.RecordSection.{octets_of, position, to_come, records_left, BeginsSection}
-use Rattle.dns_section.specs.Sections.{record_count, StartFault, StartsAt, section_after}
-use Rattle.dns_section.specs.Skipping.{StopsInRest}
-use Rattle.dns_section.specs.declared.record_section.RecordSection.{RecordSection}
-use Rattle.dns_section.specs.declared.section.Section.{Section}
-use Rattle.dns_section.specs.declared.section.Section.TheVariants.{Answer, Authority, Additional}
+use Rattle.dns_read.specs.Reading.{StopsSkipping}
+use Rattle.dns_read.specs.RecordSection.{octets_of, position, to_come, records_left, BeginsSection}
+use Rattle.dns_read.specs.Sections.{record_count, StartFault, StartsAt, section_after}
+use Rattle.dns_read.specs.Skipping.{StopsInRest}
+use Rattle.dns_read.specs.declared.record_section.RecordSection.{RecordSection}
+use Rattle.dns_read.specs.declared.section.Section.{Section}
+use Rattle.dns_read.specs.declared.section.Section.TheVariants.{Answer, Authority, Additional}
 use Rattle.dns_build.specs.CopyRecords.{record_sections, CopiesList, CopiesSection, CopiesSections, CopiesListTo, CopiesMessage}
 use Rattle.dns_build.specs.CopyRecords.CopiesSection.{started, unstarted}
 use Rattle.dns_build.specs.CopyRecords.CopiesSections.{none, copied, stopped}
@@ -27,7 +27,8 @@ in_answer_already : (s : State) → s.stage ≡ InAnswer → s ≡ up_to InAnswe
 in_answer_already s here last = (λ i. record s { stage = here i }) ∙ ap (λ (t : State). record t { stage = InAnswer }) last
 
 -- the fault of a record that can't be skipped is why the next section has no start
-start_fault : (which next : Section) (b : List ℕ) (p : ℕ) (f : Fault) → section_after which ≡ Some next → (StartsAt which b p) → StopsSkipping (SkipsRecord b) (RecordSkipFaultAt b) (record_count which b) p f → StartFault next b f
+start_fault : (which next : Section) (b : List ℕ) (p : ℕ) (f : Fault) → section_after which ≡ Some next → (StartsAt which b p)
+    → StopsSkipping (SkipsRecord b) (RecordSkipFaultAt b) (record_count which b) p f → StartFault next b f
 start_fault Answer next b p f after start stops = let e : Authority ≡ next = cc in subst (λ k. StartFault k b f) e (inr (p, start, stops))
 start_fault Authority next b p f after start stops = let e : Additional ≡ next = cc in subst (λ k. StartFault k b f) e (inr (p, start, stops))
 start_fault Additional next b p f after start stops = absurd (cc)
@@ -72,7 +73,8 @@ module _ {F R : Type 0} (call : F → ParsedRecord → Option R → F → Type 0
   from_start : (which : Section) (cursor : RecordSection) (f g : F) (s t : State) (result : Result (Unit {0}) CopyRecordsError) → BeginsSection which b cursor
       → CopiesList call item capacity grows rule (stage_of which) (records_left cursor) f s result g t → CopiesSection call item capacity grows rule b which f s result g t
   from_start which cursor f g s t result begins copies =
-      started (position cursor) begins.start (subst (λ (xs : List (Result EncodedRecord Fault)). CopiesList call item capacity grows rule (stage_of which) xs f s result g t) begins.fresh.records copies)
+      started (position cursor) begins.start
+      (subst (λ (xs : List (Result EncodedRecord Fault)). CopiesList call item capacity grows rule (stage_of which) xs f s result g t) begins.fresh.records copies)
 
   -- a section is copied
   pub leaves : (f : F) (s : State) (which : Section) (sections : List Section) (g h : F) (now new : Built) (cursor : RecordSection) → Entered f s which sections g now → BeginsSection which b cursor
@@ -91,8 +93,10 @@ module _ {F R : Type 0} (call : F → ParsedRecord → Option R → F → Type 0
   stops_before f s which sections g now e p faulty = (g, move_to (stage_of which) p.state, p.rest (Err (Parse e)) g _ (stopped (unstarted faulty)))
 
   -- the copy of a section stops at an error
-  pub stops_within : (f : F) (s : State) (which : Section) (sections : List Section) (g h : F) (now new : Built) (cursor : RecordSection) (e : CopyRecordsError) → Entered f s which sections g now → BeginsSection which b cursor
-      → InEach (stage_of which) rule now (λ t. CopiesListTo call item capacity grows rule (stage_of which) (records_left cursor) g t (Err e) h new) → CopiesMessage call item capacity grows rule b f s (Err e)
+  pub stops_within : (f : F) (s : State) (which : Section) (sections : List Section) (g h : F) (now new : Built) (cursor : RecordSection) (e : CopyRecordsError)
+      → Entered f s which sections g now → BeginsSection which b cursor
+      → InEach (stage_of which) rule now (λ t. CopiesListTo call item capacity grows rule (stage_of which) (records_left cursor) g t (Err e) h new)
+      → CopiesMessage call item capacity grows rule b f s (Err e)
   stops_within f s which sections g h now new cursor e p begins copies =
       let made = copies (move_to (stage_of which) p.state) p.represents in
       (h, made.0, p.rest (Err e) h made.0 (stopped (from_start which cursor g h _ made.0 (Err e) begins made.1)))

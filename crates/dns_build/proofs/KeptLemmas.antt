@@ -7,8 +7,8 @@ use Rattle.dns_wire.specs.Encoders.{Rule}
 use Rattle.dns_item.specs.Items.{RecordItem}
 use Rattle.dns_item.specs.ParsedRecord.{EncodedRecord, encoded_record}
 use Rattle.dns_item.specs.declared.parsed_record.ParsedRecord.{ParsedRecord}
-use Rattle.dns_section.specs.declared.section.Section.{Section}
-use Rattle.dns_section.specs.declared.section.Section.TheVariants.{Answer, Authority, Additional}
+use Rattle.dns_read.specs.declared.section.Section.{Section}
+use Rattle.dns_read.specs.declared.section.Section.TheVariants.{Answer, Authority, Additional}
 use Rattle.dns_build.specs.CopyRecords.{PushesKept, CopiesList, CopiesSection, CopiesSections, CopiesMessage}
 use Rattle.dns_build.specs.CopyRecords.CopiesList.{none as no_record, copied as record_copied, refused, fault}
 use Rattle.dns_build.specs.CopyRecords.CopiesSection.{started, unstarted}
@@ -54,7 +54,8 @@ module _ {F R : Type 0} (call : F → ParsedRecord → Option R → F → Type 0
     left = k.left ∙ ap (with_records stage k.items) pushed.1 ∙ one_more stage (item outcome) k.items s;
   }
 
-  keeps_list : (stage : Stage) {xs : List (Result EncodedRecord Fault)} {f g : F} {s t : State} {result : Result (Unit {0}) CopyRecordsError} → CopiesList call item capacity grows rule stage xs f s result g t → result ≡ Ok tt
+  keeps_list : (stage : Stage) {xs : List (Result EncodedRecord Fault)} {f g : F} {s t : State} {result : Result (Unit {0}) CopyRecordsError}
+      → CopiesList call item capacity grows rule stage xs f s result g t → result ≡ Ok tt
       → KeepsList stage xs f s g t
   keeps_list stage {s = s} no_record e = record { items = []; keeps = none; left = no_records stage s }
   keeps_list stage {f = f} {g = h} {s = s} {t = u} (record_copied {xs = xs} one rest) e =
@@ -69,7 +70,8 @@ module _ {F R : Type 0} (call : F → ParsedRecord → Option R → F → Type 0
     keeps : KeepsSection call item b section f items g
     left : t ≡ with_records (stage_of section) items s
 
-  keeps_section : (b : List ℕ) (section : Section) {f g : F} {s t : State} {result : Result (Unit {0}) CopyRecordsError} → CopiesSection call item capacity grows rule b section f s result g t → result ≡ Ok tt
+  keeps_section : (b : List ℕ) (section : Section) {f g : F} {s t : State} {result : Result (Unit {0}) CopyRecordsError}
+      → CopiesSection call item capacity grows rule b section f s result g t → result ≡ Ok tt
       → KeepsOf b section f s g t
   keeps_section b section (started p starts copies) e =
       let k = keeps_list (stage_of section) copies e in
@@ -77,7 +79,8 @@ module _ {F R : Type 0} (call : F → ParsedRecord → Option R → F → Type 0
   keeps_section b section (unstarted faulty) e = absurd (cc)
 
   -- copying sections copies the first, and then the others
-  first_of : (b : List ℕ) (which : Section) (sections : List Section) {f h : F} {s u : State} {result : Result (Unit {0}) CopyRecordsError} → CopiesSections call item capacity grows rule b (which ∷ sections) f s result h u → result ≡ Ok tt
+  first_of : (b : List ℕ) (which : Section) (sections : List Section) {f h : F} {s u : State} {result : Result (Unit {0}) CopyRecordsError}
+      → CopiesSections call item capacity grows rule b (which ∷ sections) f s result h u → result ≡ Ok tt
       → (g : F) × (t : State) × KeepsOf b which f (move_to (stage_of which) s) g t × CopiesSections call item capacity grows rule b sections g t result h u
   first_of b which sections (section_copied {g = g} {t = t} one rest) e = (g, t, keeps_section b which one refl, rest)
   first_of b which sections (stopped one) e = absurd (cc)

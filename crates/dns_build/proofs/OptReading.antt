@@ -11,11 +11,11 @@ use Rattle.dns_wire.specs.Parts.{Part, PartsAt}
 use Rattle.dns_wire.specs.Parts.Part.{Octets}
 use Rattle.dns_code.specs.Header.{HeaderFields}
 use Rattle.dns_code.proofs.theory.HeaderOctets.{fields_in-take}
-use Rattle.dns_opt.specs.OptHeader.{OptFields, ttl_in, fields_in as opt_fields_in}
-use Rattle.dns_opt.specs.Options.{OptionItem, encode_options}
-use Rattle.dns_opt.specs.OptionsOf.{options_of}
-use Rattle.dns_opt.proofs.theory.OptionsLemmas.{options_of-is}
-use Rattle.dns_opt_builder.specs.Gathered.{Gathered, IsGathered}
+use Rattle.dns_edns.specs.OptHeader.{OptFields, ttl_in, fields_in as opt_fields_in}
+use Rattle.dns_edns.specs.Options.{OptionItem, encode_options}
+use Rattle.dns_edns.specs.OptionsOf.{options_of}
+use Rattle.dns_edns.proofs.theory.OptionsLemmas.{options_of-is}
+use Rattle.dns_edns_builder.specs.Gathered.{Gathered, IsGathered}
 use Rattle.dns_data.specs.Opt.{is_opt_data, opt_layout}
 use Rattle.dns_data.specs.RecordData.{only}
 use Rattle.dns_item.specs.Items.{RecordItem, RecordEntry, ReadsRecord, ReportsRecord}
@@ -25,12 +25,12 @@ use Rattle.dns_item.specs.ParsedRecord.{EncodedRecord}
 use Rattle.dns_item.specs.RecordReading.{item_of, HasData}
 use Rattle.dns_item.specs.TypedRecords.{with_parts, laid_out, parsed_as}
 use Rattle.dns_item.proofs.theory.TypedLemmas.{data_is_parsed}
-use Rattle.dns_section.specs.Limited.{limited}
-use Rattle.dns_section.specs.Reading.Reading.{entry}
-use Rattle.dns_section.specs.RecordsFrom.{in_octets, records_in}
-use Rattle.dns_section.specs.Sections.{additional_count, ReadingRecords}
-use Rattle.dns_section.specs.declared.section.Section.TheVariants.{Additional}
-use Rattle.dns_section.proofs.theory.RecordsFromLemmas.{records_from_are_read}
+use Rattle.dns_read.specs.Limited.{limited}
+use Rattle.dns_read.specs.Reading.Reading.{entry}
+use Rattle.dns_read.specs.RecordsFrom.{in_octets, records_in}
+use Rattle.dns_read.specs.Sections.{additional_count, ReadingRecords}
+use Rattle.dns_read.specs.declared.section.Section.TheVariants.{Additional}
+use Rattle.dns_read.proofs.theory.RecordsFromLemmas.{records_from_are_read}
 use Rattle.dns_read.specs.OptSearches.{first_opt_in, opt_said, opt_of, extended_rcode}
 use Rattle.dns_read.specs.Searches.{first_value}
 use Rattle.dns_read.specs.SectionStarts.{records_of}

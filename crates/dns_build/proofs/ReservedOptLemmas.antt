@@ -7,8 +7,8 @@ use Rattle.dns_wire.specs.Encoders.{CompressionTable, Rule, Plain, Static, Tree,
 use Rattle.dns_wire.specs.Targets.{Written}
 use Rattle.dns_wire.specs.Parts.{encode_parts}
 use Rattle.dns_item.specs.Items.{encode_record}
-use Rattle.dns_opt_builder.specs.Gathered.{Gathered, opt_size}
-use Rattle.dns_section.specs.declared.section.Section.TheVariants.{Additional}
+use Rattle.dns_edns_builder.specs.Gathered.{Gathered, opt_size}
+use Rattle.dns_read.specs.declared.section.Section.TheVariants.{Additional}
 use Rattle.dns_build.specs.State.{State, InAdditional, encode, no_limit, with_limit, with_record}
 use Rattle.dns_build.specs.BuilderStates.{Built, InEach, PushReturns, RepresentsSome, size_after}
 use Rattle.dns_build.specs.Opt.{opt_record, PushesOptRecord}

@@ -5,13 +5,13 @@ use Rattle.dns_wire.specs.Encoders.{IsGrowing, Rule, Encoder}
 use Rattle.dns_wire.specs.Targets.{Written, append}
 use Rattle.dns_code.specs.Header.{octets_of_fields}
 use Rattle.dns_code.proofs.theory.HeaderOctets.{length-octets_of_fields}
-use Rattle.dns_question.specs.Questions.{QuestionItem, IsQuestion, encode_question}
+use Rattle.dns_item.specs.Questions.{QuestionItem, IsQuestion, encode_question}
 use Rattle.dns_item.specs.Items.{RecordItem, IsRecord, encode_record}
-use Rattle.dns_question.proofs.theory.QuestionItemLemmas.{questions_grow}
+use Rattle.dns_item.proofs.theory.QuestionItemLemmas.{questions_grow}
 use Rattle.dns_item.proofs.theory.ItemLemmas.{records_grow}
 use Rattle.dns_build.specs.BuilderStates.{count_at, counted, emptied_from}
-use Rattle.dns_section.specs.declared.section.Section.{Section}
-use Rattle.dns_section.specs.declared.section.Section.TheVariants.{Answer, Authority, Additional}
+use Rattle.dns_read.specs.declared.section.Section.{Section}
+use Rattle.dns_read.specs.declared.section.Section.TheVariants.{Answer, Authority, Additional}
 use Rattle.dns_build.specs.State.{encode, stage_of, Stage, InBuilder, InQuestion, InAnswer, InAuthority, State, Every, with_question, with_record, records_at, up_to}
 use Rattle.dns_build.proofs.theory.Encodings.{encoders, message, sections_of, encode-message, sections_grow, between, every_map, count-message, size-more, message-more, message-less}
 
@@ -96,13 +96,45 @@ record Splits (k : Kind) (rule : Rule) (s : State) : Type 0 where
   front : Every IsGrowing (encoders (sections k rule s []))
 
 splits : (k : Kind) (rule : Rule) (s : State) → Splits k rule s
-splits Questions rule s = record { all = refl; number = refl; last = refl; whole = encode-message rule _; less = encode-message rule _; grow = sections_grow rule (up_to InQuestion s); front = sections_grow rule (up_to InBuilder s) }
-splits (Records Answer) rule s = record { all = refl; number = refl; last = refl; whole = encode-message rule _; less = encode-message rule _; grow = sections_grow rule (up_to InAnswer s); front = sections_grow rule (up_to InQuestion s) }
-splits (Records Authority) rule s = record { all = refl; number = refl; last = refl; whole = encode-message rule _; less = encode-message rule _; grow = sections_grow rule (up_to InAuthority s); front = sections_grow rule (up_to InAnswer s) }
-splits (Records Additional) rule s = record { all = refl; number = refl; last = refl; whole = encode-message rule _; less = encode-message rule _; grow = sections_grow rule s; front = sections_grow rule (up_to InAuthority s) }
+splits Questions rule s =
+    record {
+      all = refl;
+      number = refl;
+      last = refl;
+      whole = encode-message rule _;
+      less = encode-message rule _;
+      grow = sections_grow rule
+          (up_to InQuestion s);
+      front = sections_grow rule (up_to InBuilder s);
+    }
+splits (Records Answer) rule s =
+    record {
+      all = refl;
+      number = refl;
+      last = refl;
+      whole = encode-message rule _;
+      less = encode-message rule _;
+      grow = sections_grow rule
+          (up_to InAnswer s);
+      front = sections_grow rule (up_to InQuestion s);
+    }
+splits (Records Authority) rule s =
+    record {
+      all = refl;
+      number = refl;
+      last = refl;
+      whole = encode-message rule _;
+      less = encode-message rule _;
+      grow = sections_grow rule
+          (up_to InAuthority s);
+      front = sections_grow rule (up_to InAnswer s);
+    }
+splits (Records Additional) rule s =
+    record { all = refl; number = refl; last = refl; whole = encode-message rule _; less = encode-message rule _; grow = sections_grow rule s; front = sections_grow rule (up_to InAuthority s) }
 
 -- the encoding of a state with one more item, without the sections after this one
-splits_more : (k : Kind) (rule : Rule) (s : State) (x : Item k) → encode rule (with_item k x (up_to (at k) s)) ≡ message (octets_of_fields s.header) (sections k rule s (map (encode_item k rule) (items k s ++ x ∷ [])))
+splits_more : (k : Kind) (rule : Rule) (s : State) (x : Item k) → encode rule (with_item k x (up_to (at k) s)) ≡ message (octets_of_fields s.header)
+    (sections k rule s (map (encode_item k rule) (items k s ++ x ∷ [])))
 splits_more Questions rule s x = encode-message rule _
 splits_more (Records Answer) rule s x = encode-message rule _
 splits_more (Records Authority) rule s x = encode-message rule _
@@ -142,7 +174,8 @@ module _ (k : Kind) (rule : Rule) (s : State) (last : s ≡ up_to (at k) s) wher
       let is = splits k rule s in
       let size = length-map (items k s) (encode_item k rule) in
       (λ i. counted (sym offset i) (append (encode_item k rule x) (whole i)))
-      ∙ message-more (octets_of_fields s.header) (length-octets_of_fields s.header) (before k rule s) (empty k) is.all is.last (map (encode_item k rule) (items k s)) is.grow (encode_item k rule x) (omega arith)
+      ∙ message-more (octets_of_fields s.header) (length-octets_of_fields s.header) (before k rule s) (empty k) is.all is.last
+      (map (encode_item k rule) (items k s)) is.grow (encode_item k rule x) (omega arith)
       ∙ sym (more x)
 
   -- the encoding of a state without the section's items
@@ -150,5 +183,6 @@ module _ (k : Kind) (rule : Rule) (s : State) (last : s ≡ up_to (at k) s) wher
   encode-less =
       let is = splits k rule s in
       (λ i. emptied_from (length (is.less i).octets) (sym offset i) (whole i))
-      ∙ message-less (octets_of_fields s.header) (length-octets_of_fields s.header) (before k rule s) (empty k) is.all is.last (map (encode_item k rule) (items k s)) is.grow is.front (every_map IsGrowing (encode_item k rule) (items_grow k rule) (items k s))
+      ∙ message-less (octets_of_fields s.header) (length-octets_of_fields s.header) (before k rule s) (empty k) is.all is.last
+      (map (encode_item k rule) (items k s)) is.grow is.front (every_map IsGrowing (encode_item k rule) (items_grow k rule) (items k s))
       ∙ sym is.less

@@ -21,17 +21,18 @@ use Rattle.dns_item.specs.RecordReading.{item_of}
 use Rattle.dns_item.specs.declared.record.Record.{Record}
 use Rattle.dns_item.specs.TypedRecords.{with_parts, laid_out, parsed_as, typed_result}
 use Rattle.dns_item.proofs.theory.TypedLemmas.{data_is_parsed, laid_out-returned, parsed_as-returned}
-use Rattle.dns_section.specs.AnyRecordIter.{every}
-use Rattle.dns_section.specs.Limited.{in_class_in, limited}
-use Rattle.dns_section.specs.RecordsFrom.{records_in}
-use Rattle.dns_section.specs.Sections.{record_count, StartsAt, ReadingRecords}
-use Rattle.dns_section.specs.declared.section.Section.{Section}
-use Rattle.dns_section.specs.declared.section.Section.TheVariants.{Answer, Authority, Additional}
+use Rattle.dns_read.specs.AnyRecordIter.{every}
+use Rattle.dns_read.specs.Limited.{in_class_in, limited}
+use Rattle.dns_read.specs.RecordsFrom.{records_in}
+use Rattle.dns_read.specs.Sections.{record_count, StartsAt, ReadingRecords}
+use Rattle.dns_read.specs.declared.section.Section.{Section}
+use Rattle.dns_read.specs.declared.section.Section.TheVariants.{Answer, Authority, Additional}
 use Rattle.dns_read.specs.SectionStarts.{records_of}
 use Rattle.dns_read.proofs.theory.SectionStartLemmas.{start_found}
 use Rattle.dns_build.specs.MessageOf.{AllReported, GivesRecords, ReadsBack}
 use Rattle.dns_build.specs.State.{State}
-use Rattle.dns_build.specs.TypedReading.{pushed, IsLaidOutBy, IsTakenBy, taken, TypedRecordsReadBack, AnyRecordsReadBack, EncodedAs, AllEncodedAs, PushedRecordsAreEncoded, of_class_in, TypedRecordsInReadBack, ToRecordReadsBack, ToAnyRecordReadsBack}
+use Rattle.dns_build.specs.TypedReading.{pushed, IsLaidOutBy, IsTakenBy, taken, TypedRecordsReadBack, AnyRecordsReadBack, EncodedAs, AllEncodedAs}
+use Rattle.dns_build.specs.TypedReading.{PushedRecordsAreEncoded, of_class_in, TypedRecordsInReadBack, ToRecordReadsBack, ToAnyRecordReadsBack}
 use Rattle.dns_build.proofs.OptReading.{items_of, records_in-entries, first_read}
 
 -- the start of a section, and its records from there
@@ -153,7 +154,8 @@ in_class_encoded b (x ∷ xs) (Ok encoded ∷ items) h =
 -- The same if records of classes other than IN are skipped.
 pub typed_records_in_read_back : TypedRecordsInReadBack
 typed_records_in_read_back s b h which layouts fits_layout =
-    all_parsed layouts b (of_class_in (pushed which s)) (in_class_in (records_of which b)) (in_class_encoded b (pushed which s) (records_of which b) (pushed_records_are_encoded s b h which)) fits_layout
+    all_parsed layouts b (of_class_in (pushed which s)) (in_class_in (records_of which b))
+    (in_class_encoded b (pushed which s) (records_of which b) (pushed_records_are_encoded s b h which)) fits_layout
 
 module _ {D : Type 0} (rtype_of : D → ℕ) (parts_of : D → List Part) where
   -- a result that says the record `x` is a record that says it

@@ -5,9 +5,9 @@ use Rattle.std.specs.Result.{result_ok}
 use Rattle.dns_wire.specs.Encoders.{Rule}
 use Rattle.dns_code.specs.Header.{HeaderFields, fields_in}
 use Rattle.dns_code.specs.HeaderSection.{header_size}
-use Rattle.dns_question.specs.Questions.{QuestionItem}
-use Rattle.dns_section.specs.QuestionsFrom.{questions_from}
-use Rattle.dns_section.specs.Sections.{question_count}
+use Rattle.dns_item.specs.Questions.{QuestionItem}
+use Rattle.dns_read.specs.QuestionsFrom.{questions_from}
+use Rattle.dns_read.specs.Sections.{question_count}
 use Rattle.dns_build.specs.Opt.{with_rcode}
 use Rattle.dns_build.specs.BuilderStates.{Built, PushReturns, Represents, size_after}
 use Rattle.dns_build.specs.State.{State, InQuestion, InAnswer, move_to, with_header, with_question, with_questions}

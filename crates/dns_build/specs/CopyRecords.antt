@@ -6,10 +6,10 @@ use Rattle.dns_wire.specs.Encoders.{Rule}
 use Rattle.dns_item.specs.Items.{RecordItem}
 use Rattle.dns_item.specs.ParsedRecord.{EncodedRecord, encoded_record}
 use Rattle.dns_item.specs.declared.parsed_record.ParsedRecord.{ParsedRecord}
-use Rattle.dns_section.specs.RecordsFrom.{records_in}
-use Rattle.dns_section.specs.Sections.{StartFault, StartsAt, record_count}
-use Rattle.dns_section.specs.declared.section.Section.{Section}
-use Rattle.dns_section.specs.declared.section.Section.TheVariants.{Answer, Authority, Additional}
+use Rattle.dns_read.specs.RecordsFrom.{records_in}
+use Rattle.dns_read.specs.Sections.{StartFault, StartsAt, record_count}
+use Rattle.dns_read.specs.declared.section.Section.{Section}
+use Rattle.dns_read.specs.declared.section.Section.TheVariants.{Answer, Authority, Additional}
 use Rattle.dns_build.specs.State.{Stage, InAdditional, stage_of, State, with_record, records_at, move_to}
 use Rattle.dns_build.specs.BuilderStates.{Built, Represents, PushReturns, size_after}
 use Rattle.dns_build.specs.declared.push_error.PushError.{PushError}
@@ -32,7 +32,8 @@ PushesKept capacity grows rule stage None s result after = (result ≡ Ok tt) ×
 abbrev pub record_sections : List Section
 record_sections = Answer ∷ Authority ∷ Additional ∷ []
 
--- `call f x r g` says that the closure in state `f`, called on the record `x`, returns `r` and is then in state `g`. `item r` is the record to push for `r`. The target has capacity `capacity`, allocates if `grows`, and compresses by `rule`.
+-- `call f x r g` says that the closure in state `f`, called on the record `x`, returns `r` and is then in state `g`. `item r` is the record to push for `r`.
+-- The target has capacity `capacity`, allocates if `grows`, and compresses by `rule`.
 module _ {F R : Type 0} (call : F → ParsedRecord → Option R → F → Type 0) (item : R → RecordItem) (capacity : Option ℕ) (grows : Bool) (rule : Rule) where
   -- The closure is called on the record `x`. The record that it returns, if any, is pushed.
   pub record CopiesRecord (stage : Stage) (x : EncodedRecord) (f : F) (s : State) (result : Result (Unit {0}) PushError) (f' : F) (s' : State) : Type 0 where

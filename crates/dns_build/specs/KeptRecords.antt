@@ -5,10 +5,10 @@ use Rattle.dns_wire.specs.Encoders.{Rule}
 use Rattle.dns_item.specs.Items.{RecordItem}
 use Rattle.dns_item.specs.ParsedRecord.{EncodedRecord, encoded_record}
 use Rattle.dns_item.specs.declared.parsed_record.ParsedRecord.{ParsedRecord}
-use Rattle.dns_section.specs.RecordsFrom.{records_in}
-use Rattle.dns_section.specs.Sections.{StartsAt, record_count}
-use Rattle.dns_section.specs.declared.section.Section.{Section}
-use Rattle.dns_section.specs.declared.section.Section.TheVariants.{Answer, Authority, Additional}
+use Rattle.dns_read.specs.RecordsFrom.{records_in}
+use Rattle.dns_read.specs.Sections.{StartsAt, record_count}
+use Rattle.dns_read.specs.declared.section.Section.{Section}
+use Rattle.dns_read.specs.declared.section.Section.TheVariants.{Answer, Authority, Additional}
 use Rattle.dns_build.specs.State.{InAdditional, State}
 use Rattle.dns_build.specs.BuilderStates.{Built, Represents}
 

@@ -8,11 +8,11 @@ use Rattle.dns_wire.specs.Encoders.{Rule, IsAtOrAfter}
 use Rattle.dns_wire.specs.Targets.{IsTarget}
 use Rattle.dns_code.specs.Header.{fields_in}
 use Rattle.dns_code.specs.HeaderSection.{header_size}
-use Rattle.dns_question.specs.Questions.{QuestionItem, question_fields}
+use Rattle.dns_item.specs.Questions.{QuestionItem, question_fields}
 use Rattle.dns_item.specs.Items.{SkipsRecord, RecordEntry, ReportsRecord, RecordItem, record_fields}
-use Rattle.dns_section.specs.QuestionsFrom.{questions_from}
-use Rattle.dns_section.specs.Reading.{Skipped}
-use Rattle.dns_section.specs.Sections.{question_count, answer_count, authority_count, additional_count, AnswersStart, AuthoritiesStart, AdditionalsStart, ReadingRecords}
+use Rattle.dns_read.specs.QuestionsFrom.{questions_from}
+use Rattle.dns_read.specs.Reading.{Skipped}
+use Rattle.dns_read.specs.Sections.{question_count, answer_count, authority_count, additional_count, AnswersStart, AuthoritiesStart, AdditionalsStart, ReadingRecords}
 use Rattle.dns_build.specs.State.{State, encode, IsState}
 
 -- Reading the octets of a state gives back the state. RFC 1035 section 4.1.
@@ -30,7 +30,8 @@ pub record GivesRecords (b : List ℕ) (n p : ℕ) (xs : List RecordItem) : Type
   pub reading : ReadingRecords b n p (map Ok entries)
   pub report : AllReported b entries xs
 
--- The header section has the state's header and the lengths of its lists as counts. Each section has a start, and reading it yields its list without a fault. The last section ends where the octets end.
+-- The header section has the state's header and the lengths of its lists as counts. Each section has a start, and reading it yields its list without a fault.
+-- The last section ends where the octets end.
 pub record ReadsBack (s : State) (b : List ℕ) : Type 0 where
   pub header : fields_in b ≡ s.header
   pub questions_counted : question_count b ≡ length s.questions
@@ -81,7 +82,9 @@ HasLabelsInPointerRange s b = PartsInPointerRange b (length b) header_size (part
 abbrev pub IsShortestOf : State → List ℕ → Type 0
 IsShortestOf s b = (n : ℕ) × (length b ≡ header_size + n) × IsShortest (parts_of s) n
 
--- The octets are the encoding of the state and read back as it. Each pointer of a name leads to an earlier label below offset 16,384. No compression of the names is shorter, while all labels of names that may be compressed begin below 16,384. This holds under the tree and the hash rule, and under the static rule while the table has fewer than 24 suffixes.
+-- The octets are the encoding of the state and read back as it. Each pointer of a name leads to an earlier label below offset 16,384. No compression of the
+-- names is shorter, while all labels of names that may be compressed begin below 16,384. This holds under the tree and the hash rule, and under the static rule
+-- while the table has fewer than 24 suffixes.
 pub record IsMessageOf (rule : Rule) (s : State) (b : List ℕ) : Type 0 where
   pub octets : b ≡ (encode rule s).octets
   pub reads_back : ReadsBack s b

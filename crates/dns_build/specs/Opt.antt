@@ -4,10 +4,10 @@ use Rattle.dns_octets.specs.declared.error.AppendError.{AppendError}
 use Rattle.dns_wire.specs.Parts.Part.{Octets}
 use Rattle.dns_wire.specs.Encoders.{Rule}
 use Rattle.dns_code.specs.Header.{HeaderFields}
-use Rattle.dns_opt.specs.OptHeader.{ttl_in}
-use Rattle.dns_opt.specs.Options.{encode_options}
-use Rattle.dns_opt_builder.specs.Gathered.{Gathered, IsGathered, gathered, nothing_gathered}
-use Rattle.dns_opt_builder.specs.declared.builder.OptBuilder.{OptBuilder}
+use Rattle.dns_edns.specs.OptHeader.{ttl_in}
+use Rattle.dns_edns.specs.Options.{encode_options}
+use Rattle.dns_edns_builder.specs.Gathered.{Gathered, IsGathered, gathered, nothing_gathered}
+use Rattle.dns_edns_builder.specs.declared.builder.OptBuilder.{OptBuilder}
 use Rattle.dns_item.specs.Items.{RecordItem}
 use Rattle.dns_build.specs.State.{State, InAdditional, with_record, with_header}
 use Rattle.dns_build.specs.BuilderStates.{Built, Represents, PushReturns, push_error, size_after}
@@ -51,7 +51,8 @@ OptReturns capacity grows limit n count (Err e) result = result ≡ Err (push_er
 OptReturns capacity grows limit n count (Ok _) result = PushReturns capacity grows limit n count result
 
 -- The fields and options that a closure sets are pushed as an OPT record. On success the builder represents the state with the record and the rcode.
-pub record PushesOpt (capacity : Option ℕ) (grows : Bool) (rule : Rule) (call : OptBuilder → Result (Unit {0}) AppendError → OptBuilder → Type 0) (s : State) (new : Built) (result : Result (Unit {0}) PushError) : Type 0 where
+pub record PushesOpt (capacity : Option ℕ) (grows : Bool) (rule : Rule) (call : OptBuilder → Result (Unit {0}) AppendError → OptBuilder → Type 0) (s : State)
+    (new : Built) (result : Result (Unit {0}) PushError) : Type 0 where
   pub g : Gathered
   pub outcome : Result (Unit {0}) AppendError
   pub gathers : Gathers call s.header outcome g

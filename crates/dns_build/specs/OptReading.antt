@@ -1,7 +1,7 @@
 -- A pushed OPT record reads back from the octets of the message. RFC 6891 section 6.1.
 use Rattle.std.specs.Prelude.{◌≡◌, ◌+◌, ◌*◌, ℕ, List, ◌∷◌, ◌++◌, Some}
 use Rattle.std.specs.List.{All}
-use Rattle.dns_opt_builder.specs.Gathered.{Gathered, IsGathered}
+use Rattle.dns_edns_builder.specs.Gathered.{Gathered, IsGathered}
 use Rattle.dns_item.specs.Items.{RecordItem}
 use Rattle.dns_item.specs.OptRecord.{OptItem}
 use Rattle.dns_read.specs.OptSearches.{opt_of, opt_rcode_of}

@@ -1,7 +1,7 @@
 -- How a builder reserves the octets of an OPT record: other pushes are refused these octets. RFC 6891 section 6.1.
 use Rattle.std.specs.Prelude.{◌≡◌, ℕ, ◌+◌, ◌-◌, ◌==◌, if◌then◌else◌}
 use Rattle.dns_wire.specs.Encoders.{Rule}
-use Rattle.dns_opt_builder.specs.Gathered.{Gathered, gathered, opt_size}
+use Rattle.dns_edns_builder.specs.Gathered.{Gathered, gathered, opt_size}
 use Rattle.dns_build.specs.State.{State, InAdditional, no_limit, with_record}
 use Rattle.dns_build.specs.BuilderStates.{size_after}
 use Rattle.dns_build.specs.Opt.{opt_record}

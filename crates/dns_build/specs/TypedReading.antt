@@ -15,9 +15,9 @@ use Rattle.dns_item.specs.RecordReading.{item_of, ReturnsLaidOut, ReturnsTaken}
 use Rattle.dns_item.specs.TypedRecords.{laid_out}
 use Rattle.dns_item.specs.declared.record.Record.{Record}
 use Rattle.dns_read.specs.SectionStarts.{records_of}
-use Rattle.dns_section.specs.AnyRecordIter.{every}
-use Rattle.dns_section.specs.Limited.{in_class_in, limited}
-use Rattle.dns_section.specs.declared.section.Section.{Section}
+use Rattle.dns_read.specs.AnyRecordIter.{every}
+use Rattle.dns_read.specs.Limited.{in_class_in, limited}
+use Rattle.dns_read.specs.declared.section.Section.{Section}
 use Rattle.dns_build.specs.MessageOf.{ReadsBack}
 use Rattle.dns_build.specs.State.{State, records_at, stage_of}
 

@@ -10,9 +10,11 @@ use crate::builder::{AnswerBuilder, Builder, QuestionBuilder};
 use crate::opt::with_rcode;
 use crate::push_error::PushError;
 use crate::stage::AtBuilder;
-use dns_code::{Header, Rcode};
+use dns_code::Header;
+use dns_iana::Rcode;
+use dns_octets::Octets;
 use dns_read::Message;
-use dns_wire::{Composer, Octets};
+use dns_wire::Composer;
 
 impl<T: Composer> Builder<T, AtBuilder> {
     /// Starts an answer to the given message.

@@ -1,5 +1,5 @@
 use crate::push_error::PushError;
-use dns_wire::ParseError;
+use dns_octets::ParseError;
 use thiserror::Error;
 
 /// Why the records of a message can't be copied.

@@ -2,7 +2,7 @@
 ghost use Rattle.std.specs.Prelude.{ℕ, List, IfOk};
 ghost use Rattle.dns_item.specs.ParsedRecord.{encoded_record};
 ghost use Rattle.dns_read.specs.Message.{message_octets};
-ghost use Rattle.dns_section.specs.RecordSection.{records_left};
+ghost use Rattle.dns_read.specs.RecordSection.{records_left};
 ghost use Rattle.dns_build.specs.State.{InAnswer};
 ghost use Rattle.dns_build.specs.BuilderStates.{InEach};
 ghost use Rattle.dns_build.specs.CopyRecords.{CopiesRecordTo, CopiesListTo, CopiesMessage};
@@ -13,9 +13,9 @@ use crate::copy_records_error::CopyRecordsError;
 use crate::push_error::PushError;
 use crate::stage::RecordStage;
 use dns_item::{ComposeRecord, ParsedRecord};
-use dns_read::Message;
-use dns_section::{RecordSection, following};
-use dns_wire::{Composer, Octets};
+use dns_octets::Octets;
+use dns_read::{Message, RecordSection, following};
+use dns_wire::Composer;
 
 /// A message whose records can be copied.
 pub trait CopyRecords {

@@ -1,6 +1,6 @@
 //! Reserving the octets of an OPT record before other records are pushed (RFC 6891 section 6.1).
 ghost use Rattle.std.specs.Prelude.{◌≡◌, ◌≢◌, ◌+◌, ◌≤◌, ◌<◌, IfOk, IfErr, OnOk, OnErr, length};
-ghost use Rattle.dns_opt_builder.specs.Gathered.{gathered, opt_size, with_extended_rcode};
+ghost use Rattle.dns_edns_builder.specs.Gathered.{gathered, opt_size, with_extended_rcode};
 ghost use Rattle.dns_build.specs.State.{InAdditional, with_limit};
 ghost use Rattle.dns_build.specs.BuilderStates.{InEach, MovesState};
 ghost use Rattle.dns_build.specs.Opt.{PushesOptRecord};
@@ -9,8 +9,8 @@ ghost use Rattle.dns_build.specs.ReservedOpt.{limit_left, reservation};
 use crate::builder::Builder;
 use crate::push_error::PushError;
 use crate::stage::{AtAdditional, BuilderStage};
-use dns_code::OptRcode;
-use dns_opt_builder::OptBuilder;
+use dns_edns_builder::OptBuilder;
+use dns_iana::OptRcode;
 use dns_wire::Composer;
 
 /// An OPT record whose octets `Builder::reserve_opt` has reserved.

@@ -4,3 +4,4 @@ pub mod Flags
 pub mod Header
 pub mod Bits
 pub mod Laws
+pub mod Ttl

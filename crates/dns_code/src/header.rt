@@ -6,7 +6,7 @@ pub use crate::counts::HeaderCounts;
 pub use crate::error::{CountOverflow, FlagsFromStrError};
 pub use crate::flags::Flags;
 pub use crate::section::HeaderSection;
-use dns_number::{Opcode, Rcode};
+use dns_iana::{Opcode, Rcode};
 
 /// The first four octets of a message: ID, opcode, flags and rcode (RFC 1035 section 4.1.1; RFC
 /// 4035 section 3).

@@ -11,7 +11,7 @@ use crate::counts::HeaderCounts;
 use crate::flags::Flags;
 use crate::header::Header;
 use crate::section::HeaderSection;
-pub use dns_number::laws::{
+pub use dns_iana::laws::{
     class_constants, code_numbers, named_classes, named_types, number_clones,
     number_clones_never_fail, number_equality, number_hashes, number_orders, number_partial_orders,
     opcode_constants, opt_rcode_constants, option_constants, printed_numbers_read_back,

@@ -2,7 +2,9 @@ ghost use Rattle.std.specs.Prelude.{◌≡◌, ◌≤◌, ◌+◌, length, take,
 
 use crate::counts::HeaderCounts;
 use crate::header::Header;
-use dns_wire::{AppendError, Composer, ParseError, Parser};
+use dns_name::Parser;
+use dns_octets::{AppendError, ParseError};
+use dns_wire::Composer;
 
 /// The first twelve octets of a message: the header, then the counts (RFC 1035 section 4.1.1).
 #[derive(Clone, Copy, Debug, PartialEq, Eq)]

@@ -7,7 +7,8 @@ use Rattle.std.specs.Prelude.{Option, Some, None, option_map}
 -- two names and five numbers, one after another
 pub printed_soa : (m r : Option (List ℕ)) (serial refresh retry expire minimum : List ℕ)
     → (m ++? (Some (codes ". ") ++? (r ++? Some (codes ". " ++ (serial ++ (codes " " ++ (refresh ++ (codes " " ++ (retry ++ (codes " " ++ (expire ++ codes " "))))))))))) ++? Some minimum
-    ≡ option_and_then (λ mname. option_map (λ rname. mname ++ codes ". " ++ rname ++ codes ". " ++ (serial ++ codes " " ++ refresh ++ codes " " ++ retry ++ codes " " ++ expire ++ codes " " ++ minimum)) r) m
+    ≡ option_and_then (λ mname. option_map
+    (λ rname. mname ++ codes ". " ++ rname ++ codes ". " ++ (serial ++ codes " " ++ refresh ++ codes " " ++ retry ++ codes " " ++ expire ++ codes " " ++ minimum)) r) m
 printed_soa None r serial refresh retry expire minimum = refl
 printed_soa (Some m) None serial refresh retry expire minimum = refl
 printed_soa (Some m) (Some r) serial refresh retry expire minimum = ap Some (simp append_assoc)

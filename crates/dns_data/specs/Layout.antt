@@ -24,7 +24,9 @@ pub data Layout : Type 0 where
   SizedOctets : Layout → Layout
   -- a name, perhaps with a pointer, and then the remaining fields
   DomainName : Layout → Layout
-  -- a name that is never compressed when it is written (RFC 3597 section 4), and then the remaining fields. If the first flag is set, the name may have a pointer when it is read, as section 4 asks for SRV and NAPTR. If the second is set, its canonical form is lowercased (RFC 4034 section 6.2), as that of SRV is, but not that of NSEC (RFC 6840 section 5.1).
+  -- a name that is never compressed when it is written (RFC 3597 section 4), and then the remaining fields. If the first flag is set, the name may have a
+  -- pointer when it is read, as section 4 asks for SRV and NAPTR. If the second is set, its canonical form is lowercased (RFC 4034 section 6.2), as that of SRV
+  -- is, but not that of NSEC (RFC 6840 section 5.1).
   UncompressedDomainName : Bool → Bool → Layout → Layout
 
 -- the number of octets of a character string at offset p, its length octet included

@@ -1,8 +1,8 @@
 -- The RDATA of an OPT record. RFC 6891 section 6.1.2.
 use Rattle.std.specs.Prelude.{ℕ, Bool, nat_le, ◌&&◌, List, length}
 use Rattle.dns_octets.specs.declared.octets.Octets.{Ghosts}
-use Rattle.dns_opt.specs.Options.{OptionItem}
-use Rattle.dns_opt.specs.OptionsOf.{are_options, options_in}
+use Rattle.dns_edns.specs.Options.{OptionItem}
+use Rattle.dns_edns.specs.OptionsOf.{are_options, options_in}
 use Rattle.dns_data.specs.Layout.{Layout}
 use Rattle.dns_data.specs.Layout.Layout.{Rest}
 use Rattle.dns_data.specs.declared.opt.Opt.{Opt}

@@ -6,8 +6,10 @@ ghost use Rattle.dns_data.specs.RecordData.{only};
 
 use crate::octets::take_octets;
 use crate::record_data::{ComposeRecordData, ParseRecordData, RecordData};
-use dns_code::Rtype;
-use dns_wire::{AppendError, Composer, ParseError, Parser};
+use dns_iana::Rtype;
+use dns_name::Parser;
+use dns_octets::{AppendError, ParseError};
+use dns_wire::Composer;
 
 /// The RDATA of an A record: an IPv4 address (RFC 1035 section 3.4.1).
 #[derive(Clone, Copy, Debug, PartialEq, Eq, PartialOrd, Ord, Hash)]

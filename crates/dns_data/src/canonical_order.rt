@@ -9,7 +9,9 @@ use crate::name_data::{Cname, Ns};
 use crate::opt::Opt;
 use crate::soa::Soa;
 use crate::unknown::UnknownRecordData;
-use dns_wire::{CanonicalOrd, Octets, ToName, ToNameExt};
+use dns_name::ToName;
+use dns_octets::Octets;
+use dns_wire::{CanonicalOrd, ToNameExt};
 use std::cmp::Ordering;
 
 /// By the four octets.

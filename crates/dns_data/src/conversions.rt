@@ -13,8 +13,8 @@ use crate::name_data::{Cname, Ns};
 use crate::opt::Opt;
 use crate::soa::Soa;
 use crate::unknown::UnknownRecordData;
-use dns_octets::join_conversions;
-use dns_wire::{AppendError, BufferFrom, FlattenInto, Octets, OctetsFrom};
+use dns_name::FlattenInto;
+use dns_octets::{AppendError, BufferFrom, Octets, OctetsFrom, join_conversions};
 use std::alloc::Global;
 
 impl OctetsFrom<A> for A {

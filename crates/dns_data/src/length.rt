@@ -7,7 +7,8 @@ ghost use Rattle.dns_wire.specs.Targets.{Composes, overwrite};
 ghost use Rattle.dns_data.specs.RecordData.{IsData, canonical};
 
 use crate::record_data::ComposeRecordData;
-use dns_wire::{AppendError, Composer};
+use dns_octets::AppendError;
+use dns_wire::Composer;
 
 /// Appends RDLENGTH, the number of octets of the RDATA as written, and then the RDATA.
 ///

@@ -27,7 +27,7 @@ mod soa;
 mod unknown;
 
 pub use a::A;
-pub use dns_opt::{
+pub use dns_edns::{
     BadOptData, ClientSubnet, ComposeOptData, Cookie, Expire, ExtendedError, KnownOptData,
     LongOptData, OptHeader, OptionIter, SubnetAddr, TcpKeepalive, UnknownOptData,
 };

@@ -8,8 +8,10 @@ ghost use Rattle.dns_data.specs.NameData.{nsdname_of, cname_of};
 ghost use Rattle.dns_data.specs.RecordData.{IsData, only};
 
 use crate::record_data::{ComposeRecordData, ParseRecordData, RecordData};
-use dns_code::Rtype;
-use dns_wire::{AppendError, Composer, ParseError, ParsedName, Parser, ToName, ToNameExt};
+use dns_iana::Rtype;
+use dns_name::{ParsedName, Parser, ToName};
+use dns_octets::{AppendError, ParseError};
+use dns_wire::{Composer, ToNameExt};
 
 fn compose_name<N: ToName, T: Composer>(name: &N, target: &mut T) -> Result<(), AppendError>
     ensures composes { Composes T.capacity T.grows

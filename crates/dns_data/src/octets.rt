@@ -2,7 +2,8 @@
 ghost use Rattle.std.specs.Prelude.{◌≡◌, ◌+◌, slice_range};
 ghost use Rattle.dns_name.specs.Parsers.{seen, offset, Takes};
 
-use dns_wire::{ParseError, Parser};
+use dns_name::Parser;
+use dns_octets::ParseError;
 
 /// Reads the next `n` octets and advances past them. Returns `ShortInput` if fewer remain.
 pub(crate) fn take_octets<'a>(parser: &mut Parser<'a>, n: usize) -> Result<&'a [u8], ParseError>

@@ -7,7 +7,7 @@ ghost use Rattle.dns_data.specs.DataOrders.{unknown_equal, unknown_order, unknow
 use crate::opt::Opt;
 use crate::record_data::RecordData;
 use crate::unknown::UnknownRecordData;
-use dns_wire::Octets;
+use dns_octets::Octets;
 use std::cmp::Ordering;
 use std::hash::{Hash, Hasher};
 

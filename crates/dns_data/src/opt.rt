@@ -1,15 +1,17 @@
 //! The RDATA of an OPT record: its options (RFC 6891 section 6.1.2).
 ghost use Rattle.std.proofs.Common.{rules};
 ghost use Rattle.std.specs.Prelude.{◌≤◌, IsTrue, length, refl};
-ghost use Rattle.dns_opt.specs.OptionsOf.{are_options};
+ghost use Rattle.dns_edns.specs.OptionsOf.{are_options};
 
 use crate::record_data::{ComposeRecordData, ParseRecordData, RecordData};
-use dns_code::{OptionCode, Rtype};
-use dns_opt::{
+use dns_edns::{
     BadOptData, ClientSubnet, Cookie, Expire, ExtendedError, OptionIter, TcpKeepalive, are_options,
     known_options,
 };
-use dns_wire::{AppendError, Composer, MAX_OCTETS, Octets, ParseError, Parser};
+use dns_iana::{OptionCode, Rtype};
+use dns_name::Parser;
+use dns_octets::{AppendError, Octets, ParseError};
+use dns_wire::{Composer, MAX_OCTETS};
 use std::alloc::AllocError;
 
 /// The options of an OPT record in wire format, at most 65,535 octets (RFC 6891 section 6.1.2).
@@ -24,10 +26,10 @@ impl<Octs: Octets> Opt<Octs> {
     ghost use Rattle.std.specs.Prelude.{◌≡◌, ◌↔◌, IfOk, IfErr, IsOk, option_copied};
     ghost use Rattle.dns_name.specs.Names.{fault_of};
     ghost use Rattle.dns_name.specs.Names.Fault.{ShortInput};
-    ghost use Rattle.dns_opt.specs.OptionIter.{options_left};
-    ghost use Rattle.dns_opt.specs.ReadKinds.{ReadsFirst, first_octets};
-    ghost use Rattle.dns_opt.specs.ReadOptions.{ReadsClientSubnet, ReadsCookie, ReadsExpire};
-    ghost use Rattle.dns_opt.specs.ReadOptions.{ReadsExtendedError, ReadsTcpKeepalive};
+    ghost use Rattle.dns_edns.specs.OptionIter.{options_left};
+    ghost use Rattle.dns_edns.specs.ReadKinds.{ReadsFirst, first_octets};
+    ghost use Rattle.dns_edns.specs.ReadOptions.{ReadsClientSubnet, ReadsCookie, ReadsExpire};
+    ghost use Rattle.dns_edns.specs.ReadOptions.{ReadsExtendedError, ReadsTcpKeepalive};
     ghost use Rattle.dns_data.specs.Opt.{opt_buffer, opt_options, is_opt_data};
 
     /// Takes octets as the RDATA. Returns `ShortInput` if they aren't a list of options or are more

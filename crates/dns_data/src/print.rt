@@ -11,8 +11,8 @@ use crate::a::A;
 use crate::name_data::{Cname, Ns};
 use crate::soa::Soa;
 use crate::unknown::UnknownRecordData;
+use dns_octets::Octets;
 use dns_print::{TextWriter, write_number, write_value};
-use dns_wire::Octets;
 use std::fmt;
 
 /// Prints four decimal numbers separated by dots.

@@ -5,8 +5,10 @@ ghost use Rattle.dns_wire.specs.Targets.{Composes};
 ghost use Rattle.dns_data.specs.Layout.{Layout, IsLaidOut};
 ghost use Rattle.dns_data.specs.RecordData.{IsData, canonical, ParsesLaidOut, ParsesTaken};
 
-use dns_code::Rtype;
-use dns_wire::{AppendError, Composer, ParseError, Parser};
+use dns_iana::Rtype;
+use dns_name::Parser;
+use dns_octets::{AppendError, ParseError};
+use dns_wire::Composer;
 
 /// The RDATA of a record: a record type and a list of parts, each octets or a name.
 pub trait RecordData {

@@ -7,8 +7,10 @@ ghost use Rattle.dns_data.specs.Soa.{mname_of, rname_of, serial_of, refresh_of, 
 
 use crate::octets::take_octets;
 use crate::record_data::{ComposeRecordData, ParseRecordData, RecordData};
-use dns_code::Rtype;
-use dns_wire::{AppendError, Composer, ParseError, ParsedName, Parser, ToName, ToNameExt};
+use dns_iana::Rtype;
+use dns_name::{ParsedName, Parser, ToName};
+use dns_octets::{AppendError, ParseError};
+use dns_wire::{Composer, ToNameExt};
 
 /// The RDATA of an SOA record: the start of a zone of authority (RFC 1035 section 3.3.13).
 #[derive(Clone, Copy, Debug, PartialEq, Eq, PartialOrd, Ord, Hash, Drop)]

@@ -4,8 +4,10 @@ ghost use Rattle.std.specs.Prelude.{◌≤◌, length, refl};
 
 use crate::error::LongRecordData;
 use crate::record_data::{ComposeRecordData, ParseAnyRecordData, ParseRecordData, RecordData};
-use dns_code::Rtype;
-use dns_wire::{AppendError, Composer, MAX_OCTETS, Octets, ParseError, Parser};
+use dns_iana::Rtype;
+use dns_name::Parser;
+use dns_octets::{AppendError, Octets, ParseError};
+use dns_wire::{Composer, MAX_OCTETS};
 use std::alloc::AllocError;
 
 /// The RDATA of a record of any type as octets without structure, at most 65,535 (RFC 3597 section

@@ -4,8 +4,8 @@ use Rattle.dns_name.specs.Names.{NameContinues, NameEndsAt}
 use Rattle.dns_name.proofs.theory.ExtentLaws.{ends_after}
 use Rattle.dns_name.proofs.theory.Names.{one_end}
 use Rattle.dns_item.specs.Items.{SkipsRecord}
-use Rattle.dns_question.specs.Questions.{SkipsQuestion}
-use Rattle.dns_section.specs.Reading.{Skipped}
+use Rattle.dns_item.specs.Questions.{SkipsQuestion}
+use Rattle.dns_read.specs.Reading.{Skipped}
 use Rattle.dns_edit.specs.declared.error.EditError.{EditError}
 use Rattle.dns_edit.specs.Acceptance.{AcceptsData, AcceptsFrom, AcceptsQuestion, AcceptsRecord, AllAccepted, OneRefused}
 use Rattle.dns_edit.specs.Acceptance.AllAccepted.{none, more}

@@ -11,8 +11,8 @@ use Rattle.dns_name.specs.Parsers.{number_at}
 use Rattle.dns_name.proofs.theory.HeadLemmas.{same_head}
 use Rattle.dns_wire.proofs.theory.Stability.{get_dropped}
 use Rattle.dns_item.specs.Items.{SkipsRecord}
-use Rattle.dns_section.specs.Reading.{Skipped}
-use Rattle.dns_section.specs.Reading.Skipped.{none, more}
+use Rattle.dns_read.specs.Reading.{Skipped}
+use Rattle.dns_read.specs.Reading.Skipped.{none, more}
 use Rattle.dns_edit.specs.Ttls.{TtlFields, holds_ttl}
 use Rattle.dns_edit.proofs.EntryLemmas.{long_record}
 

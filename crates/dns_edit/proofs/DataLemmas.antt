@@ -13,8 +13,8 @@ use Rattle.dns_name.proofs.theory.Names.{one_end}
 use Rattle.dns_wire.proofs.theory.Stability.{get_take}
 use Rattle.dns_item.specs.Items.{SkipsRecord}
 use Rattle.dns_item.proofs.theory.EntryLemmas.{record_end_or_fault}
-use Rattle.dns_section.specs.Reading.{Skipped}
-use Rattle.dns_section.specs.Reading.Skipped.{none, more}
+use Rattle.dns_read.specs.Reading.{Skipped}
+use Rattle.dns_read.specs.Reading.Skipped.{none, more}
 use Rattle.dns_edit.specs.Uses.{Apart, NameApart}
 use Rattle.dns_edit.specs.Rdata.{DataApart}
 use Rattle.dns_edit.specs.Edits.{RecordApart}

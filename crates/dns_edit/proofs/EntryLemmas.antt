@@ -8,9 +8,9 @@ use Rattle.dns_name.specs.Parsers.{number_at}
 use Rattle.dns_name.proofs.theory.ExtentLaws.{ends_after}
 use Rattle.dns_item.specs.Items.{SkipsRecord}
 use Rattle.dns_item.proofs.theory.EntryLemmas.{record_end_or_fault}
-use Rattle.dns_section.specs.Reading.{Skipped, StopsSkipping}
-use Rattle.dns_section.specs.Reading.StopsSkipping.{here, after}
-use Rattle.dns_section.specs.Reading.Skipped.{none, more}
+use Rattle.dns_read.specs.Reading.{Skipped, StopsSkipping}
+use Rattle.dns_read.specs.Reading.StopsSkipping.{here, after}
+use Rattle.dns_read.specs.Reading.Skipped.{none, more}
 use Rattle.dns_edit.specs.Ttls.{TtlFields, holds_ttl}
 use Rattle.dns_edit.specs.Uses.{Apart}
 
@@ -151,7 +151,11 @@ module _ (b : List ℕ) where
           skips = s;
           owner = All-append (λ f. (f + 4 ≤ p) ⊎ (r + 4 ≤ f)) done _ (apart_before done p p (r + 4) (omega arith) before) (apart_after left q p (r + 4) (omega arith) after);
           rdata = All-append (λ f. (f + 4 ≤ r + 8) ⊎ (q ≤ f)) done _ (apart_before done p (r + 8) q (omega arith) before) (apart_after left q (r + 8) q (omega arith) after);
-          ttl = inr (h, All-append (λ f. (f + 4 ≤ r + 4) ⊎ (r + 4 + 4 ≤ f)) done _ (apart_before done p (r + 4) (r + 4 + 4) (omega arith) before) (apart_after left q (r + 4) (r + 4 + 4) (omega arith) after));
+          ttl = inr (
+            h,
+            All-append (λ f. (f + 4 ≤ r + 4) ⊎ (r + 4 + 4 ≤ f)) done _ (apart_before done p (r + 4) (r + 4 + 4) (omega arith) before)
+                (apart_after left q (r + 4) (r + 4 + 4) (omega arith) after),
+          );
           next = record {
             done = done;
             left = left;

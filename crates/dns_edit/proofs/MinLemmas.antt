@@ -11,7 +11,7 @@ use Rattle.dns_edit.specs.Spans.{Spans}
 use Rattle.dns_edit.specs.Ttls.{TtlFields, holds_ttl}
 use Rattle.dns_edit.proofs.EntryLemmas.{skipped_last}
 use Rattle.dns_edit.proofs.SpanLemmas.{skips_of}
-use Rattle.dns_section.specs.Reading.{Skipped}
+use Rattle.dns_read.specs.Reading.{Skipped}
 
 min_swap : (x n m : ℕ) → min x (min n m) ≡ min n (min x m)
 min_swap x n m = omega arith

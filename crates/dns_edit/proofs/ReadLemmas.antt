@@ -9,20 +9,20 @@ use Rattle.dns_name.specs.Parsers.{number_at}
 use Rattle.dns_name.proofs.theory.ExtentLaws.{ends_after}
 use Rattle.dns_name.proofs.theory.Names.{one_end}
 use Rattle.dns_code.specs.HeaderSection.{header_size}
-use Rattle.dns_question.specs.AfterNames.{FieldsFaultAt, FieldsSkipFaultAt}
-use Rattle.dns_question.specs.Questions.{QuestionItem, ReadsQuestion, QuestionFaultAt, SkipsQuestion}
-use Rattle.dns_question.proofs.theory.QuestionEntryLemmas.{question_or_fault, question_end_or_fault}
+use Rattle.dns_item.specs.AfterNames.{FieldsFaultAt, FieldsSkipFaultAt}
+use Rattle.dns_item.specs.Questions.{QuestionItem, ReadsQuestion, QuestionFaultAt, SkipsQuestion}
+use Rattle.dns_item.proofs.theory.QuestionEntryLemmas.{question_or_fault, question_end_or_fault}
 use Rattle.dns_item.specs.Items.{SkipsRecord, ReadsRecord, RecordEntry, RecordFaultAt}
 use Rattle.dns_item.proofs.theory.EntryLemmas.{record_or_fault, record_end_or_fault}
-use Rattle.dns_section.specs.Reading.{Skipped}
-use Rattle.dns_section.specs.Reading.Skipped.{none, more}
-use Rattle.dns_section.specs.Sections.{answer_count, authority_count, additional_count, AnswersStart, AuthoritiesStart, AdditionalsStart}
-use Rattle.dns_section.specs.declared.section.Section.{Section}
-use Rattle.dns_section.specs.declared.section.Section.TheVariants.{Answer, Authority, Additional}
-use Rattle.dns_section.specs.QuestionsFrom.{questions_from}
-use Rattle.dns_section.specs.RecordsFrom.{records_from}
-use Rattle.dns_section.proofs.theory.QuestionsFromLemmas.{questions_from_are_read}
-use Rattle.dns_section.proofs.theory.RecordsFromLemmas.{records_from_are_read}
+use Rattle.dns_read.specs.Reading.{Skipped}
+use Rattle.dns_read.specs.Reading.Skipped.{none, more}
+use Rattle.dns_read.specs.Sections.{answer_count, authority_count, additional_count, AnswersStart, AuthoritiesStart, AdditionalsStart}
+use Rattle.dns_read.specs.declared.section.Section.{Section}
+use Rattle.dns_read.specs.declared.section.Section.TheVariants.{Answer, Authority, Additional}
+use Rattle.dns_read.specs.QuestionsFrom.{questions_from}
+use Rattle.dns_read.specs.RecordsFrom.{records_from}
+use Rattle.dns_read.proofs.theory.QuestionsFromLemmas.{questions_from_are_read}
+use Rattle.dns_read.proofs.theory.RecordsFromLemmas.{records_from_are_read}
 use Rattle.dns_edit.specs.declared.change.TtlChange.{TtlChange}
 use Rattle.dns_edit.specs.declared.change.TtlChange.TheVariants.{Age, Cap}
 use Rattle.dns_edit.specs.Ttls.{changed, holds_ttl, record_total, with_ttl, with_ttls}

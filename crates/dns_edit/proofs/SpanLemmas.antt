@@ -7,7 +7,7 @@ use Rattle.dns_name.specs.Names.{NameEndsAt, SkipFaultAt, fault_of}
 use Rattle.dns_name.specs.ParsedName.{MovesPastName}
 use Rattle.dns_name.specs.Parsers.{seen, offset, number_at, MovesTo}
 use Rattle.dns_name.specs.declared.parser.Parser.{Parser}
-use Rattle.dns_question.specs.AfterNames.FieldsSkipFaultAt.{name, short}
+use Rattle.dns_item.specs.AfterNames.FieldsSkipFaultAt.{name, short}
 use Rattle.dns_item.specs.Items.{LacksRecord, RecordSkipFaultAt, SkipsRecord}
 use Rattle.dns_item.specs.Items.LacksRecord.{rdata}
 use Rattle.dns_edit.specs.declared.span.Span.{Span}

@@ -55,19 +55,6 @@ pub record Walking (b : List ℕ) (start pos : ℕ) (old new : List Bool) : Type
   pub set : (t : ℕ) → get_or new t false ≡ true → (get_or old t false ≡ true) ⊎ ((start ≤ t) × LabelOf b start t)
   pub labels : (t : ℕ) → LabelOf b start t → t < length old → (get_or new t false ≡ true) ⊎ LabelOf b pos t
 
--- A walk that has skipped nothing has marked nothing.
-pub walking_none : (b : List ℕ) (start : ℕ) (old : List Bool) → Walking b start start old old
-walking_none b start old = record {
-  from = omega arith;
-  long = refl;
-  points = λ t x. x;
-  points_back = λ t x. x;
-  labels_back = λ t x. x;
-  kept = λ t m. m;
-  set = λ t m. inl m;
-  labels = λ t x l. inr x;
-}
-
 -- a mark that is set stays set
 still : (xs : List Bool) (k t : ℕ) → get_or xs t false ≡ true → get_or (slice_set xs k true) t false ≡ true
 still xs k t m = elim (cases_eq t k) [

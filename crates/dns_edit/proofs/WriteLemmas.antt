@@ -11,8 +11,8 @@ use Rattle.dns_octets.specs.Octets.{overwritten}
 use Rattle.dns_edit.specs.Spans.{Spans}
 use Rattle.dns_edit.specs.declared.span.Span.{Span}
 use Rattle.dns_item.proofs.theory.EntryLemmas.{record_end_or_fault}
-use Rattle.dns_section.specs.Reading.{Skipped}
-use Rattle.dns_section.specs.Reading.Skipped.{more}
+use Rattle.dns_read.specs.Reading.{Skipped}
+use Rattle.dns_read.specs.Reading.Skipped.{more}
 use Rattle.dns_edit.specs.declared.change.TtlChange.{TtlChange}
 use Rattle.dns_edit.specs.Ttls.{TtlFields, WritesTtl, changed, holds_ttl, with_ttl, with_ttls}
 use Rattle.dns_edit.specs.Marks.{MarksLabels}

@@ -9,7 +9,7 @@ use Rattle.dns_name.specs.Names.{fault_of}
 use Rattle.dns_name.specs.Parsers.{number_at}
 use Rattle.dns_code.specs.HeaderSection.{header_size}
 use Rattle.dns_item.specs.Items.{SkipsRecord, RecordSkipFaultAt}
-use Rattle.dns_section.specs.Sections.{question_count}
+use Rattle.dns_read.specs.Sections.{question_count}
 use Rattle.dns_edit.specs.declared.error.EditError.{EditError}
 use Rattle.dns_edit.specs.declared.error.EditError.TheVariants.{Parse}
 use Rattle.dns_edit.specs.Pointers.{AcceptsName, RefusesName}

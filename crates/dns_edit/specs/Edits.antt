@@ -3,11 +3,11 @@ use Rattle.std.specs.Prelude.{◌≡◌, ℕ, ◌+◌, ◌⊎◌, List, Option, 
 use Rattle.std.specs.Int.{w16, w32}
 use Rattle.dns_name.specs.Parsers.{number_at}
 use Rattle.dns_code.specs.HeaderSection.{header_size}
-use Rattle.dns_question.specs.Questions.{SkipsQuestion}
+use Rattle.dns_item.specs.Questions.{SkipsQuestion}
 use Rattle.dns_item.specs.Items.{SkipsRecord, RecordSkipFaultAt}
 use Rattle.dns_name.specs.Names.{Fault}
-use Rattle.dns_section.specs.Reading.{Skipped, StopsSkipping}
-use Rattle.dns_section.specs.Sections.{question_count, AnswersStart, AnswersFault}
+use Rattle.dns_read.specs.Reading.{Skipped, StopsSkipping}
+use Rattle.dns_read.specs.Sections.{question_count, AnswersStart, AnswersFault}
 use Rattle.dns_edit.specs.declared.change.TtlChange.{TtlChange}
 use Rattle.dns_edit.specs.Ttls.{TtlFields, record_total, with_ttls}
 use Rattle.dns_edit.specs.Uses.{NameApart}

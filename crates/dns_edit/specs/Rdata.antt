@@ -1,7 +1,8 @@
--- Where the names in RDATA are, by the record type: in each type of `dns_fields` with names at known offsets. A server may point to them, also in types whose own names are never compressed, as in RRSIG.
+-- Where the names in RDATA are, by the record type: in each type of `fields_octets` with names at known offsets. A server may point to them, also in types whose
+-- own names are never compressed, as in RRSIG.
 use Rattle.std.specs.Prelude.{◌≡◌, ℕ, ◌+◌, ◌≤◌, ◌⊎◌, List, [], ◌∷◌, Bool, true, false, cond, nat_eq, get_or}
 use Rattle.dns_name.specs.Names.{NameEndsAt}
-use Rattle.dns_section.specs.Reading.{Skipped}
+use Rattle.dns_read.specs.Reading.{Skipped}
 use Rattle.dns_edit.specs.Uses.{NameApart}
 
 -- Whether a number is in a list.
@@ -21,7 +22,8 @@ string_end b p = p + 1 + get_or b p 0
 abbrev pub names_start : List ℕ → ℕ → ℕ → ℕ
 names_start b rtype start = cond (nat_eq rtype 35) (string_end b (string_end b (string_end b (start + 4)))) (start + octets_before rtype)
 
--- The number of names that follow: 1 in NS (2), MD, MF, CNAME (5), MB (7), MG, MR (9), PTR (12), MX, AFSDB, RT, SIG, NXT (30), SRV, NAPTR (35), KX, DNAME (39), RRSIG (46), NSEC (47), SVCB, HTTPS, LP, TKEY (249) and TSIG (250); 2 in SOA (6), MINFO (14), RP (17), PX and TALINK (58).
+-- The number of names that follow: 1 in NS (2), MD, MF, CNAME (5), MB (7), MG, MR (9), PTR (12), MX, AFSDB, RT, SIG, NXT (30), SRV, NAPTR (35), KX, DNAME (39),
+-- RRSIG (46), NSEC (47), SVCB, HTTPS, LP, TKEY (249) and TSIG (250); 2 in SOA (6), MINFO (14), RP (17), PX and TALINK (58).
 abbrev pub name_count : ℕ → ℕ
 name_count rtype =
     cond (is_among rtype (2 ∷ 3 ∷ 4 ∷ 5 ∷ 7 ∷ 8 ∷ 9 ∷ 12 ∷ 15 ∷ 18 ∷ 21 ∷ 24 ∷ 30 ∷ 33 ∷ 35 ∷ 36 ∷ 39 ∷ 46 ∷ 47 ∷ 64 ∷ 65 ∷ 107 ∷ 249 ∷ 250 ∷ [])) 1

@@ -2,14 +2,14 @@
 use Rattle.std.specs.Prelude.{◌≡◌, ◌↔◌, ◌<◌, ℕ, ◌+◌, List, length, get_or, take, slice_range, map, cond, Result, Ok, Err}
 use Rattle.dns_code.specs.HeaderSection.{header_size}
 use Rattle.dns_item.specs.Items.{RecordEntry, SkipsRecord}
-use Rattle.dns_section.specs.Reading.{Skipped}
+use Rattle.dns_read.specs.Reading.{Skipped}
 use Rattle.std.specs.Int.{w16}
 use Rattle.dns_name.specs.Parsers.{number_at}
 use Rattle.dns_edit.specs.Rdata.{DataApart}
-use Rattle.dns_section.specs.QuestionsFrom.{questions_from}
-use Rattle.dns_section.specs.RecordsFrom.{records_from}
-use Rattle.dns_section.specs.Sections.{question_count, record_count, StartsAt}
-use Rattle.dns_section.specs.declared.section.Section.{Section}
+use Rattle.dns_read.specs.QuestionsFrom.{questions_from}
+use Rattle.dns_read.specs.RecordsFrom.{records_from}
+use Rattle.dns_read.specs.Sections.{question_count, record_count, StartsAt}
+use Rattle.dns_read.specs.declared.section.Section.{Section}
 use Rattle.dns_name.specs.Names.{Labels, NameAt, Fault, FaultAt}
 use Rattle.dns_edit.specs.declared.change.TtlChange.{TtlChange}
 use Rattle.dns_edit.specs.Ttls.{changed, holds_ttl, record_total, with_ttls}

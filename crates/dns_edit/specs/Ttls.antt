@@ -4,7 +4,7 @@ use Rattle.std.specs.Int.{w16, w32, to_be_bytes}
 use Rattle.dns_octets.specs.Octets.{overwritten}
 use Rattle.dns_name.specs.Parsers.{number_at}
 use Rattle.dns_item.specs.Items.{SkipsRecord}
-use Rattle.dns_section.specs.Sections.{answer_count, authority_count, additional_count}
+use Rattle.dns_read.specs.Sections.{answer_count, authority_count, additional_count}
 use Rattle.dns_edit.specs.declared.change.TtlChange.{TtlChange}
 use Rattle.dns_edit.specs.declared.change.TtlChange.TheVariants.{Age, Cap}
 
@@ -13,7 +13,8 @@ abbrev pub changed : TtlChange → ℕ → ℕ
 changed (Age by) ttl = ttl - by
 changed (Cap most) ttl = min ttl most
 
--- Whether the TTL field of a record of this type holds a TTL for caches. It doesn't in OPT (41, RFC 6891 section 6.1.3) and TKEY (249, RFC 2930 section 2), nor in TSIG (250, RFC 8945 section 4.2) and SIG (24), which only SIG(0) still uses (RFC 2931, RFC 3755 section 3): these are of one message and are never cached.
+-- Whether the TTL field of a record of this type holds a TTL for caches. It doesn't in OPT (41, RFC 6891 section 6.1.3) and TKEY (249, RFC 2930 section 2), nor
+-- in TSIG (250, RFC 8945 section 4.2) and SIG (24), which only SIG(0) still uses (RFC 2931, RFC 3755 section 3): these are of one message and are never cached.
 abbrev pub holds_ttl : ℕ → Bool
 holds_ttl rtype = cond (nat_eq rtype 41) false (cond (nat_eq rtype 24) false (cond (nat_eq rtype 249) false (cond (nat_eq rtype 250) false true)))
 

@@ -1,7 +1,7 @@
 ghost use Rattle.std.specs.Prelude.{◌≡◌};
 ghost use Rattle.dns_edit.specs.Ttls.{changed, holds_ttl};
 
-use dns_item::Ttl;
+use dns_code::Ttl;
 
 /// What becomes of each TTL.
 #[derive(Clone, Copy, Debug, PartialEq, Eq)]

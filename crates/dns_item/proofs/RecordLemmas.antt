@@ -8,8 +8,8 @@ use Rattle.dns_name.specs.ParsedName.{MovesPastName}
 use Rattle.dns_name.specs.Parsers.{seen, offset, MovesTo, number_at}
 use Rattle.dns_name.specs.declared.parsed_name.ParsedName.{ParsedName}
 use Rattle.dns_name.specs.declared.parser.Parser.{Parser}
-use Rattle.dns_question.specs.AfterNames.FieldsFaultAt.{name, short as short_fields}
-use Rattle.dns_question.specs.AfterNames.FieldsSkipFaultAt.{short as unended_record}
+use Rattle.dns_item.specs.AfterNames.FieldsFaultAt.{name, short as short_fields}
+use Rattle.dns_item.specs.AfterNames.FieldsSkipFaultAt.{short as unended_record}
 use Rattle.dns_item.specs.Items.{HeaderFaultAt, ReadsRecord, RecordFaultAt, RecordEntry, RecordSkipFaultAt}
 use Rattle.dns_item.specs.Items.LacksRecord.{fields, rdata}
 use Rattle.dns_item.specs.RecordHeader.{rdlen_of, record_at, ParsesHeader}
@@ -72,7 +72,8 @@ without_fields old mid n e moves l long is =
 
 -- the ten octets are there, but not all of the RDATA
 pub lacks_data : (old mid after last : Parser) (n : ℕ) (e : ParseError) → MovesPastName old mid → MovesTo mid after (offset mid + 8) → MovesTo after last (offset after + 2)
-    → offset after + 2 ≤ length (seen after) → n ≡ number_at w16 (seen after) (offset after) → length (seen last) < offset last + n → e ≡ ShortInput → RecordSkipFaultAt (seen old) (offset old) (fault_of e)
+    → offset after + 2 ≤ length (seen after) → n ≡ number_at w16 (seen after) (offset after) → length (seen last) < offset last + n → e ≡ ShortInput
+    → RecordSkipFaultAt (seen old) (offset old) (fault_of e)
 lacks_data old mid after last n e moves first second long is l short_input =
     let there : seen after ≡ seen old = first.seen ∙ moves.1.seen in
     let k : length (seen after) ≡ length (seen old) = ap length there in

@@ -16,7 +16,8 @@ use Rattle.dns_item.specs.ParsedData.{HasSpan, one_data, no_data_fault}
 use Rattle.dns_item.specs.Items.{RecordEntry}
 use Rattle.dns_item.specs.Record.{data_of}
 use Rattle.dns_item.specs.declared.record.Record.{Record}
-use Rattle.dns_item.specs.RecordReading.{WholeDataFaultAt, item_of, IsThere, HasData, HasDataFault, IsRecordOf, GivesLaidOut, GivesTaken, ReturnsLaidOut, ReturnsTaken, GivesBack, GivesBackTaken, GivesValueBack, GivesValueBackTaken, IsWhole, IsWholeTaken}
+use Rattle.dns_item.specs.RecordReading.{WholeDataFaultAt, item_of, IsThere, HasData, HasDataFault, IsRecordOf, GivesLaidOut, GivesTaken, ReturnsLaidOut}
+use Rattle.dns_item.specs.RecordReading.{ReturnsTaken, GivesBack, GivesBackTaken, GivesValueBack, GivesValueBackTaken, IsWhole, IsWholeTaken}
 use Rattle.dns_item.specs.RecordReading.WholeDataFaultAt.{first, left_over}
 
 module _ {D : Type 0} (rtype_of : D → ℕ) (parts_of : D → List Part) (rtype : ℕ) (old new : Parser) where

@@ -2,3 +2,7 @@
 pub mod EntryLemmas
 pub mod ItemLemmas
 pub mod TypedLemmas
+pub mod FieldsAfterNames
+pub mod QuestionEntryLemmas
+pub mod QuestionItemLemmas
+pub mod OneResult

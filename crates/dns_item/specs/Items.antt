@@ -6,7 +6,7 @@ use Rattle.dns_name.specs.Parsers.{number_at}
 use Rattle.dns_wire.specs.Parts.{Part, AreParts, encode_parts, parts_size, PartsAt}
 use Rattle.dns_wire.specs.Encoders.{Rule, Encoder, encode_octets, both, with_length, encode_name, IsGrowing}
 use Rattle.dns_wire.specs.Targets.{Written, IsTarget, append}
-use Rattle.dns_question.specs.AfterNames.{SkipsFields, FieldsFaultAt, FieldsSkipFaultAt}
+use Rattle.dns_item.specs.AfterNames.{SkipsFields, FieldsFaultAt, FieldsSkipFaultAt}
 
 -- a record, with its RDATA as a list of parts
 pub record RecordItem : Type 0 where

@@ -1,4 +1,4 @@
-pub use Rattle.dns_ttl.specs.Ttl
+pub use Rattle.dns_code.specs.Ttl
 pub mod Items
 pub mod RecordHeader
 pub mod HeaderOrders
@@ -14,3 +14,9 @@ pub mod TypedRecords
 pub mod RecordPrinting
 pub mod ParsedRecordOrders
 pub mod RecordConversions
+pub mod AfterNames
+pub mod Questions
+pub mod Question
+pub mod QuestionTexts
+pub mod QuestionOrders
+pub mod QuestionConversions

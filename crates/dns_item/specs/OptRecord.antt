@@ -1,10 +1,10 @@
 -- An OPT record and its fields. RFC 6891 sections 6.1.2 and 6.1.3.
 use Rattle.std.specs.Prelude.{◌≡◌, ℕ, List}
 use Rattle.dns_octets.specs.declared.octets.Octets.{Ghosts}
-use Rattle.dns_opt.specs.OptHeader.{OptFields, fields_in}
-use Rattle.dns_opt.specs.OptHeader as header
-use Rattle.dns_opt.specs.Options.{OptionItem}
-use Rattle.dns_opt.specs.OptionsOf.{options_in}
+use Rattle.dns_edns.specs.OptHeader.{OptFields, fields_in}
+use Rattle.dns_edns.specs.OptHeader as header
+use Rattle.dns_edns.specs.Options.{OptionItem}
+use Rattle.dns_edns.specs.OptionsOf.{options_in}
 use Rattle.dns_data.specs.Opt.{opt_octets}
 use Rattle.dns_data.specs.declared.opt.Opt.{Opt}
 use Rattle.dns_item.specs.declared.opt_record.OptRecord.{OptRecord}

@@ -2,8 +2,8 @@
 use Rattle.std.specs.Prelude.{ℕ, List, ◌++◌, Option, Some, option_map, codes}
 use Rattle.std.specs.Fmt.{decimal}
 use Rattle.std.specs.Option.{option_and_then}
-use Rattle.dns_number.specs.Classes.{class_text}
-use Rattle.dns_number.specs.Types.{type_text}
+use Rattle.dns_iana.specs.Classes.{class_text}
+use Rattle.dns_iana.specs.Types.{type_text}
 use Rattle.dns_item.specs.Record.{owner_of, class_of, ttl_of, data_of}
 use Rattle.dns_item.specs.declared.record.Record.{Record}
 use Rattle.dns_item.specs.declared.record_error.RecordParseError.{RecordParseError}

@@ -7,7 +7,9 @@ ghost use Rattle.dns_item.specs.RecordHeader.{header_item};
 use crate::record::{Record, field_octets};
 use crate::record_header::RecordHeader;
 use dns_data::{ComposeRecordData, compose_canonical_len_rdata};
-use dns_wire::{AppendError, Composer, ToName, ToNameExt};
+use dns_name::ToName;
+use dns_octets::AppendError;
+use dns_wire::{Composer, ToNameExt};
 
 impl<N: ToName, D: ComposeRecordData> Record<N, D> {
     /// Appends the record in canonical form (RFC 4034 section 6.2). The owner and the names in the

@@ -5,7 +5,8 @@ ghost use Rattle.dns_item.specs.RecordOrders.{canonical_record_order};
 
 use crate::record::Record;
 use dns_data::RecordData;
-use dns_wire::{CanonicalOrd, ToName, ToNameExt};
+use dns_name::ToName;
+use dns_wire::{CanonicalOrd, ToNameExt};
 use std::cmp::Ordering;
 
 /// By class, then by owner, then by type, then by RDATA (RFC 4034 sections 6.1 and 6.3). Owners

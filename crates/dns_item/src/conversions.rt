@@ -4,10 +4,10 @@ ghost use Rattle.dns_item.specs.Record.{owner_of, data_of};
 ghost use Rattle.dns_item.specs.RecordConversions.{KeepsRecord, joined_record};
 
 use crate::record::Record;
-use dns_code::Class;
-use dns_octets::join_conversions;
-use dns_ttl::Ttl;
-use dns_wire::{AppendError, FlattenInto, OctetsFrom};
+use dns_code::Ttl;
+use dns_iana::Class;
+use dns_name::FlattenInto;
+use dns_octets::{AppendError, OctetsFrom, join_conversions};
 use std::alloc::Global;
 
 /// Converts the owner and the RDATA. The class and the TTL stay.

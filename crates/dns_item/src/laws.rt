@@ -3,7 +3,7 @@
 //! offsets, items, texts or values.
 ghost use Rattle.std.specs.Prelude.{◌≡◌};
 ghost use Rattle.std.specs.Ordering.{as_partial_cmp};
-ghost use Rattle.dns_question.specs.Questions.{QuestionOrFault, QuestionEndOrFault, QuestionSkipAgrees, QuestionsGrow, QuestionsReadBack};
+ghost use Rattle.dns_item.specs.Questions.{QuestionOrFault, QuestionEndOrFault, QuestionSkipAgrees, QuestionsGrow, QuestionsReadBack};
 ghost use Rattle.dns_item.specs.Items.{HeaderOrFault, RecordOrFault, RecordEndOrFault, RecordSkipAgrees, RecordsGrow, RecordsReadBack};
 ghost use Rattle.dns_octets.specs.Octets.{ClonesSurely};
 ghost use Rattle.dns_data.specs.Opt.{opt_buffer};
@@ -14,19 +14,21 @@ ghost use Rattle.dns_item.specs.Record.{owner_of, data_of};
 ghost use Rattle.dns_item.specs.RecordHeader as header;
 ghost use Rattle.dns_item.specs.HeaderOrders.{headers_equal, header_order, header_hash_input};
 ghost use Rattle.dns_item.specs.TypedRecords.{DataIsParsed};
-ghost use Rattle.dns_question.specs.QuestionTexts.{EachTextRead, OneTextResult, EachWordsRead, OneWordsResult};
+ghost use Rattle.dns_item.specs.QuestionTexts.{EachTextRead, OneTextResult, EachWordsRead, OneWordsResult};
 
 use crate::opt_record::OptRecord;
 use crate::parsed_record::ParsedRecord;
-use crate::record::Record;
-use crate::record_error::RecordParseError;
-use crate::record_header::RecordHeader;
-pub use dns_question::laws::{
+pub use crate::question_laws::{
     question_clones, question_equality, question_hash, question_orders, text_error_clones,
     text_error_equality,
 };
-pub use dns_ttl::laws::{ttl_clone, ttl_default, ttl_equality, ttl_hash, ttl_order, ttl_units};
-use dns_wire::Octets;
+use crate::record::Record;
+use crate::record_error::RecordParseError;
+use crate::record_header::RecordHeader;
+pub use dns_code::ttl_laws::{
+    ttl_clone, ttl_default, ttl_equality, ttl_hash, ttl_order, ttl_units,
+};
+use dns_octets::Octets;
 use std::hash::Hash;
 
 /// At each offset either exactly one question can be read, or there is exactly one fault. The same

@@ -6,10 +6,12 @@ ghost use Rattle.dns_item.specs.OptRecord.{opt_class, opt_ttl, opt_data, opt_ite
 ghost use Rattle.dns_item.specs.Record.{owner_of, class_of, ttl_of, data_of};
 
 use crate::record::Record;
-use dns_code::{Header, OptRcode};
-use dns_data::{Opt, OptHeader};
-use dns_ttl::Ttl;
-use dns_wire::{Name, Octets};
+use dns_code::{Header, Ttl};
+use dns_data::Opt;
+use dns_edns::OptHeader;
+use dns_iana::OptRcode;
+use dns_name::Name;
+use dns_octets::Octets;
 
 /// An OPT record: the fields in its class and TTL, and its options (RFC 6891 section 6.1).
 #[derive(Clone, Copy, Debug, Drop)]

@@ -6,10 +6,10 @@ ghost use Rattle.dns_item.specs.RecordHeader.{owner_of, rtype_of, class_of, ttl_
 ghost use Rattle.dns_item.specs.ParsedRecord.{header_of, data_parser, ParsesRecord, SkipsOverRecord};
 
 use crate::record_header::RecordHeader;
-use dns_code::{Class, Rtype};
-use dns_name::CachedName;
-use dns_ttl::Ttl;
-use dns_wire::{ParseError, ParsedName, Parser};
+use dns_code::Ttl;
+use dns_iana::{Class, Rtype};
+use dns_name::{CachedName, ParsedName, Parser};
+use dns_octets::ParseError;
 
 /// A record in a message: its header, and the offset of its RDATA, which isn't parsed yet (RFC 1035
 /// section 4.1.3). It borrows the message.

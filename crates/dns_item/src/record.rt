@@ -10,10 +10,12 @@ pub use crate::opt_record::OptRecord;
 pub use crate::parsed_record::ParsedRecord;
 pub use crate::record_error::RecordParseError;
 pub use crate::record_header::RecordHeader;
-use dns_code::{Class, Rtype};
+pub use dns_code::Ttl;
 use dns_data::{ComposeRecordData, RecordData, compose_len_rdata};
-pub use dns_ttl::Ttl;
-use dns_wire::{AppendError, Composer, ToName};
+use dns_iana::{Class, Rtype};
+use dns_name::ToName;
+use dns_octets::AppendError;
+use dns_wire::Composer;
 
 /// The most octets of RDATA that are appended at once with the fields before them.
 const MOST_AT_ONCE: usize = 16;

@@ -1,6 +1,6 @@
 //! Errors of parsing a record.
+use dns_octets::ShortBuf;
 use dns_print::{TextWriter, write_value};
-use dns_wire::ShortBuf;
 use std::error::Error;
 use std::fmt;
 

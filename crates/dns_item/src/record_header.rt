@@ -7,10 +7,11 @@ ghost use Rattle.dns_item.specs.Record.{HasFields};
 ghost use Rattle.dns_item.specs.RecordHeader.{owner_of, rtype_of, class_of, ttl_of, rdlen_of, AreFieldsAt, header_fields, header_item, encode_header, ParsesHeader, ReadsAhead, ParsesAndSkips};
 
 use crate::record::Record;
-use dns_code::{Class, Rtype};
-use dns_name::{CachedName, parse_cached};
-use dns_ttl::Ttl;
-use dns_wire::{AppendError, Composer, ParseError, ParsedName, Parser, ToName};
+use dns_code::Ttl;
+use dns_iana::{Class, Rtype};
+use dns_name::{CachedName, ParsedName, Parser, ToName, parse_cached};
+use dns_octets::{AppendError, ParseError};
+use dns_wire::Composer;
 
 /// The fields of a record before its RDATA: owner, type, class, TTL and RDLENGTH (RFC 1035 section
 /// 4.1.3).

@@ -10,9 +10,10 @@ ghost use Rattle.dns_item.specs.RecordReading.{MovesPastRdata, ReturnsLaidOut, R
 use crate::parsed_record::ParsedRecord;
 use crate::record::Record;
 use crate::record_header::RecordHeader;
-use dns_code::Rtype;
 use dns_data::{ParseAnyRecordData, ParseRecordData};
-use dns_wire::{FormError, ParseError, ParsedName, Parser};
+use dns_iana::Rtype;
+use dns_name::{ParsedName, Parser};
+use dns_octets::{FormError, ParseError};
 
 /// Reads RDATA that takes all octets from the parser's offset to its end.
 fn read_data<'a, D: ParseRecordData<'a> + Drop>(

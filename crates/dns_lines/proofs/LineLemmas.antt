@@ -2,7 +2,7 @@
 use Rattle.std.proofs.Common.{◌≡◌, ◌∙◌, ℕ, List, [], ◌∷◌, ap, true, false, append_assoc, drop, codes, None}
 use Rattle.std.specs.Fmt.{◌++?◌, decimal}
 use Rattle.std.specs.Prelude.{if◌then◌else◌, Some}
-use Rattle.dns_number.specs.Classes.{class_text}
+use Rattle.dns_iana.specs.Classes.{class_text}
 use Rattle.dns_data.specs.Printing.{opaque_text}
 use Rattle.dns_name.specs.ParsedName.{labels}
 use Rattle.dns_name.specs.declared.parsed_name.ParsedName.{ParsedName}
@@ -10,15 +10,15 @@ use Rattle.dns_item.specs.ParsedRecord.{EncodedRecord}
 use Rattle.dns_item.specs.Record.{owner_of, class_of, ttl_of, data_of}
 use Rattle.dns_item.specs.RecordReading.{up_to_rdata_end, IsRecordOf}
 use Rattle.dns_item.specs.declared.record.Record.{Record}
-use Rattle.dns_fields.specs.Data.{rtype_of, parts_of}
-use Rattle.dns_fields.specs.FieldData.{type_layout}
-use Rattle.dns_fields.specs.FieldParts.{named_parts}
-use Rattle.dns_fields.specs.Table.{definitions_of}
-use Rattle.dns_fields.specs.declared.field_data.FieldData.{FieldData}
-use Rattle.dns_fields_text.specs.DataTexts.{data_text}
-use Rattle.dns_fields_text.specs.RecordLines.{record_text}
-use Rattle.dns_fields_text.specs.TypeNames.{type_word}
-use Rattle.dns_fields_text.specs.ZoneNames.{zone_name_text}
+use Rattle.fields_octets.specs.Data.{rtype_of, parts_of}
+use Rattle.fields_octets.specs.FieldData.{type_layout}
+use Rattle.fields_octets.specs.FieldParts.{named_parts}
+use Rattle.fields_octets.specs.Table.{definitions_of}
+use Rattle.fields_octets.specs.declared.field_data.FieldData.{FieldData}
+use Rattle.fields_print.specs.DataTexts.{data_text}
+use Rattle.fields_print.specs.RecordLines.{record_text}
+use Rattle.fields_print.specs.TypeNames.{type_word}
+use Rattle.fields_print.specs.ZoneNames.{zone_name_text}
 use Rattle.dns_lines.specs.Show.{data_parts, line}
 use Rattle.dns_lines.specs.ZoneLines.{is_of_message, line_with, rdata_text, record_lines}
 
@@ -40,7 +40,9 @@ module _ (x : EncodedRecord) where
   -- what is printed of a record with its RDATA as octets
   pub opaque_printed : (owner : List ℕ) (ttl class rtype : ℕ) (octets : List ℕ) → owner ≡ zone_name_text x.entry.owner → ttl ≡ x.entry.ttl → class ≡ x.entry.class → rtype ≡ x.entry.rtype
       → octets ≡ drop x.entry.rdata_start (up_to_rdata_end x.octets x.entry)
-      → Some owner ++? (Some (codes " ") ++? (Some (decimal ttl) ++? (Some (codes " ") ++? (Some (class_text class) ++? (Some (codes " ") ++? (Some (type_word rtype) ++? (Some (codes " ") ++? (Some (opaque_text octets) ++? Some (10 ∷ [])))))))))
+      → Some owner ++? (Some (codes " ") ++?
+      (Some (decimal ttl) ++?
+      (Some (codes " ") ++? (Some (class_text class) ++? (Some (codes " ") ++? (Some (type_word rtype) ++? (Some (codes " ") ++? (Some (opaque_text octets) ++? Some (10 ∷ [])))))))))
       ≡ Some (line_with x None)
   opaque_printed owner ttl class rtype octets o t c y d =
       ap Some (simp append_assoc) ∙ λ i. Some (line (record_text (o i) (t i) (c i) (y i) (opaque_text (d i))))

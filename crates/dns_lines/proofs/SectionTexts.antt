@@ -6,12 +6,12 @@ use Rattle.std.specs.List.{flat_map}
 use Rattle.dns_name.specs.Names.{Fault}
 use Rattle.dns_item.specs.ParsedRecord.{EncodedRecord}
 use Rattle.dns_read.specs.SectionStarts.{start_of}
-use Rattle.dns_section.specs.RecordSection.{BeginsSection, position, records_left}
-use Rattle.dns_section.specs.RecordsFrom.{records_in}
-use Rattle.dns_section.specs.Sections.{record_count}
-use Rattle.dns_section.specs.declared.record_section.RecordSection.{RecordSection}
-use Rattle.dns_section.specs.declared.section.Section.{Section}
-use Rattle.dns_section.specs.declared.section.Section.TheVariants.{Answer, Authority, Additional}
+use Rattle.dns_read.specs.RecordSection.{BeginsSection, position, records_left}
+use Rattle.dns_read.specs.RecordsFrom.{records_in}
+use Rattle.dns_read.specs.Sections.{record_count}
+use Rattle.dns_read.specs.declared.record_section.RecordSection.{RecordSection}
+use Rattle.dns_read.specs.declared.section.Section.{Section}
+use Rattle.dns_read.specs.declared.section.Section.TheVariants.{Answer, Authority, Additional}
 use Rattle.dns_lines.specs.Show.{section_text, sections_text}
 use Rattle.dns_lines.proofs.theory.AppendedTexts.{prints_both}
 
@@ -36,7 +36,8 @@ module _ (item_text : Section → Result EncodedRecord Fault → List ℕ) (miss
   -- the sections of records are printed, by where they start
   pub sections_printed : {E X : Type 0} (old new : Option (List ℕ)) (r : Result X E) (answers authorities additionals : Option ℕ)
       → start_of Answer b ≡ answers → start_of Authority b ≡ authorities → start_of Additional b ≡ additionals
-      → OnOk r (Appends old new (section_text item_text missing_text b Answer answers (section_text item_text missing_text b Authority authorities (section_text item_text missing_text b Additional additionals []))))
+      → OnOk r (Appends old new
+      (section_text item_text missing_text b Answer answers (section_text item_text missing_text b Authority authorities (section_text item_text missing_text b Additional additionals []))))
       → OnOk r (Appends old new (sections_text item_text missing_text b))
   sections_printed old new r answers authorities additionals a c d h =
       subst (λ (text : List ℕ). OnOk r (Appends old new text))

@@ -4,23 +4,23 @@ use Rattle.std.specs.Prelude.{Some, Result, Ok, Err, is_ok}
 use Rattle.dns_name.specs.Names.{Fault, fault_of}
 use Rattle.dns_octets.specs.declared.error.ParseError.{ParseError}
 use Rattle.dns_name.specs.declared.parsed_name.ParsedName.{ParsedName}
-use Rattle.dns_question.specs.Questions.{SkipsQuestion, QuestionSkipFaultAt}
-use Rattle.dns_question.specs.declared.question.Question.{Question}
+use Rattle.dns_item.specs.Questions.{SkipsQuestion, QuestionSkipFaultAt}
+use Rattle.dns_item.specs.declared.question.Question.{Question}
 use Rattle.dns_item.specs.Items.{SkipsRecord, RecordSkipFaultAt}
 use Rattle.dns_item.specs.declared.parsed_record.ParsedRecord.{ParsedRecord}
-use Rattle.dns_section.specs.Reading.{StopsSkipping}
-use Rattle.dns_section.specs.Reading.Skipped.{more}
-use Rattle.dns_section.specs.Reading.StopsSkipping.{after}
-use Rattle.dns_section.specs.QuestionSection as questions
-use Rattle.dns_section.specs.QuestionSection.{BeginsQuestions, MovesPastQuestion}
-use Rattle.dns_section.specs.RecordSection.{octets_of, position, section_of, to_come, BeginsSection, IsFresh, MovesPastRecord, MovesToAnswers, MovesToNext}
-use Rattle.dns_section.specs.Sections.{question_count, record_count, section_after, AnswersFault, AuthoritiesFault, AdditionalsFault}
-use Rattle.dns_section.proofs.theory.SectionLemmas.{begins_answers, begins_next}
-use Rattle.dns_section.specs.Skipping.{CountsDown, SkipsRest, StopsInRest}
-use Rattle.dns_section.specs.declared.question_section.QuestionSection.{QuestionSection}
-use Rattle.dns_section.specs.declared.record_section.RecordSection.{RecordSection}
-use Rattle.dns_section.specs.declared.section.Section.{Section}
-use Rattle.dns_section.specs.declared.section.Section.TheVariants.{Answer, Authority, Additional}
+use Rattle.dns_read.specs.Reading.{StopsSkipping}
+use Rattle.dns_read.specs.Reading.Skipped.{more}
+use Rattle.dns_read.specs.Reading.StopsSkipping.{after}
+use Rattle.dns_read.specs.QuestionSection as questions
+use Rattle.dns_read.specs.QuestionSection.{BeginsQuestions, MovesPastQuestion}
+use Rattle.dns_read.specs.RecordSection.{octets_of, position, section_of, to_come, BeginsSection, IsFresh, MovesPastRecord, MovesToAnswers, MovesToNext}
+use Rattle.dns_read.specs.Sections.{question_count, record_count, section_after, AnswersFault, AuthoritiesFault, AdditionalsFault}
+use Rattle.dns_read.proofs.theory.SectionLemmas.{begins_answers, begins_next}
+use Rattle.dns_read.specs.Skipping.{CountsDown, SkipsRest, StopsInRest}
+use Rattle.dns_read.specs.declared.question_section.QuestionSection.{QuestionSection}
+use Rattle.dns_read.specs.declared.record_section.RecordSection.{RecordSection}
+use Rattle.dns_read.specs.declared.section.Section.{Section}
+use Rattle.dns_read.specs.declared.section.Section.TheVariants.{Answer, Authority, Additional}
 use Rattle.dns_lines.specs.Walk.{SameAnswersFollow, SameNextFollows}
 
 module _ (Skips : ℕ → ℕ → Type 0) where
@@ -30,12 +30,14 @@ module _ (Skips : ℕ → ℕ → Type 0) where
       subst (λ (left : Result ℕ ParseError). SkipsRest Skips left p r) (sym was) (more one (subst (λ (left : Result ℕ ParseError). SkipsRest Skips left q r) is rest))
 
   -- one entry more is skipped, and then another can't be
-  stops_more : (FaultOf : ℕ → Fault → Type 0) (old new : Result ℕ ParseError) (n p q : ℕ) (e : ParseError) → old ≡ Ok (suc n) → new ≡ Ok n → Skips p q → StopsInRest Skips FaultOf new q e → StopsInRest Skips FaultOf old p e
+  stops_more : (FaultOf : ℕ → Fault → Type 0) (old new : Result ℕ ParseError) (n p q : ℕ) (e : ParseError) → old ≡ Ok (suc n) → new ≡ Ok n → Skips p q
+      → StopsInRest Skips FaultOf new q e → StopsInRest Skips FaultOf old p e
   stops_more FaultOf old new n p q e was is one rest =
       subst (λ (left : Result ℕ ParseError). StopsInRest Skips FaultOf left p e) (sym was) (after one (subst (λ (left : Result ℕ ParseError). StopsInRest Skips FaultOf left q e) is rest))
 
 -- a question is read, and the answer section that follows stays the same
-answers_after : (old new : QuestionSection) (question : Question ParsedName) → MovesPastQuestion old new (Some (Ok question)) → CountsDown (questions.to_come old) (questions.to_come new) (Some (Ok question))
+answers_after : (old new : QuestionSection) (question : Question ParsedName) → MovesPastQuestion old new (Some (Ok question))
+    → CountsDown (questions.to_come old) (questions.to_come new) (Some (Ok question))
     → questions.octets_of new ≡ questions.octets_of old → SameAnswersFollow old new
 answers_after old new question reads counts octets (Ok section) moves = record {
   fresh = subst (λ (b : List ℕ). IsFresh Answer b section) octets moves.fresh;
@@ -47,7 +49,8 @@ answers_after old new question reads counts octets (Err e) moves =
     (subst (λ (b : List ℕ). StopsInRest (SkipsQuestion b) (QuestionSkipFaultAt b) (questions.to_come new) (questions.position new) e) octets moves)
 
 -- a record is read, and the section that follows stays the same
-next_after : (old new : RecordSection) (r : ParsedRecord) → MovesPastRecord old new (Some (Ok r)) → CountsDown (to_come old) (to_come new) (Some (Ok r)) → octets_of new ≡ octets_of old → section_of new ≡ section_of old
+next_after : (old new : RecordSection) (r : ParsedRecord) → MovesPastRecord old new (Some (Ok r)) → CountsDown (to_come old) (to_come new) (Some (Ok r))
+    → octets_of new ≡ octets_of old → section_of new ≡ section_of old
     → (outcome : Result RecordSection ParseError) → MovesToNext new outcome → MovesToNext old outcome
 next_after old new r reads counts octets same (Ok section) moves = record {
   next = subst (λ (which : Section). section_after which ≡ Some (section_of section)) same moves.next;
@@ -69,7 +72,8 @@ pub no_question_read : (first : QuestionSection) → QuestionsRead first first f
 no_question_read first = record { follows = λ outcome moves. moves; last = λ n is. refl }
 
 -- one question more, or an error
-pub question_read : (first readable readable' old new : QuestionSection) (outcome : Result (Question ParsedName) ParseError) → (is_ok outcome ≡ true → readable' ≡ new) → (is_ok outcome ≡ false → readable' ≡ readable)
+pub question_read : (first readable readable' old new : QuestionSection) (outcome : Result (Question ParsedName) ParseError)
+    → (is_ok outcome ≡ true → readable' ≡ new) → (is_ok outcome ≡ false → readable' ≡ readable)
     → MovesPastQuestion old new (Some outcome) → CountsDown (questions.to_come old) (questions.to_come new) (Some outcome) → questions.octets_of new ≡ questions.octets_of old
     → QuestionsRead first readable old → QuestionsRead first readable' new
 question_read first readable readable' old new (Ok question) is_new is_kept reads counts octets before =
@@ -89,7 +93,8 @@ pub no_record_read : (first : RecordSection) → RecordsRead first first first
 no_record_read first = record { follows = record { section = refl; next = λ outcome moves. moves }; last = λ n is. refl }
 
 -- A walk goes on after a record that was read, and stops where one can't be.
-pub record_read : (first readable readable' old new : RecordSection) (outcome : Result ParsedRecord ParseError) → (is_ok outcome ≡ true → readable' ≡ new) → (is_ok outcome ≡ false → readable' ≡ readable)
+pub record_read : (first readable readable' old new : RecordSection) (outcome : Result ParsedRecord ParseError) → (is_ok outcome ≡ true → readable' ≡ new)
+    → (is_ok outcome ≡ false → readable' ≡ readable)
     → MovesPastRecord old new (Some outcome) → CountsDown (to_come old) (to_come new) (Some outcome) → octets_of new ≡ octets_of old → section_of new ≡ section_of old
     → RecordsRead first readable old → RecordsRead first readable' new
 record_read first readable readable' old new (Ok r) is_new is_kept reads counts octets same before =
@@ -100,7 +105,8 @@ record_read first readable readable' old new (Err e) is_new is_kept reads counts
     record { follows = subst (λ (cursor : RecordSection). SameNextFollows first cursor) (sym (is_kept refl)) before.follows; last = λ n is. absurd (cc (counts, is)) }
 
 -- the answer section begins after the questions
-pub answers_begin : (b : List ℕ) (first last : QuestionSection) (answer : RecordSection) → BeginsQuestions b first → SameAnswersFollow first last → MovesToAnswers last (Ok answer) → BeginsSection Answer b answer
+pub answers_begin : (b : List ℕ) (first last : QuestionSection) (answer : RecordSection) → BeginsQuestions b first → SameAnswersFollow first last
+    → MovesToAnswers last (Ok answer) → BeginsSection Answer b answer
 answers_begin b first last answer begins same moves = begins_answers b first answer begins (same (Ok answer) moves)
 
 -- or a question can't be skipped
@@ -126,9 +132,11 @@ module _ (which : Section) (b : List ℕ) (first last : RecordSection) (begins :
   isnt_last other is = other (sym begins.fresh.section ∙ sym same.section ∙ is)
 
 -- The walk ends where the authority section has no start.
-pub authorities_stop : (b : List ℕ) (first last : RecordSection) (e : ParseError) → BeginsSection Answer b first → SameNextFollows first last → MovesToNext last (Err e) → AuthoritiesFault b (fault_of e)
+pub authorities_stop : (b : List ℕ) (first last : RecordSection) (e : ParseError) → BeginsSection Answer b first → SameNextFollows first last
+    → MovesToNext last (Err e) → AuthoritiesFault b (fault_of e)
 authorities_stop b first last e begins same moves = inr (position first, begins.start, next_stops Answer b first last begins same e moves)
 
 -- The walk ends where the additional section has no start.
-pub additionals_stop : (b : List ℕ) (first last : RecordSection) (e : ParseError) → BeginsSection Authority b first → SameNextFollows first last → MovesToNext last (Err e) → AdditionalsFault b (fault_of e)
+pub additionals_stop : (b : List ℕ) (first last : RecordSection) (e : ParseError) → BeginsSection Authority b first → SameNextFollows first last
+    → MovesToNext last (Err e) → AdditionalsFault b (fault_of e)
 additionals_stop b first last e begins same moves = inr (position first, begins.start, next_stops Authority b first last begins same e moves)

@@ -16,19 +16,19 @@ use Rattle.dns_code.specs.Header.{HeaderFields, fields_in, flags_in}
 use Rattle.dns_code.specs.HeaderCounts.{Counts}
 use Rattle.dns_data.specs.Layout.{Layout}
 use Rattle.dns_data.specs.Printing.{opaque_text}
-use Rattle.dns_question.specs.Question.{fields_text}
-use Rattle.dns_question.specs.Questions.{QuestionItem}
+use Rattle.dns_item.specs.Question.{fields_text}
+use Rattle.dns_item.specs.Questions.{QuestionItem}
 use Rattle.dns_item.specs.Items.{ReadsRecord}
 use Rattle.dns_item.specs.ParsedRecord.{EncodedRecord}
 use Rattle.dns_item.specs.RecordPrinting.{record_fields_text}
 use Rattle.dns_item.specs.RecordReading.{up_to_rdata_end}
 use Rattle.dns_item.specs.TypedRecords.{data_in}
-use Rattle.dns_section.specs.RecordsFrom.{records_in}
+use Rattle.dns_read.specs.RecordsFrom.{records_in}
 use Rattle.dns_read.specs.SectionStarts.{start_of}
 use Rattle.dns_read.specs.Searches.{questions_of}
-use Rattle.dns_section.specs.Sections.{question_count, answer_count, authority_count, additional_count, record_count}
-use Rattle.dns_section.specs.declared.section.Section.{Section}
-use Rattle.dns_section.specs.declared.section.Section.TheVariants.{Answer, Authority, Additional}
+use Rattle.dns_read.specs.Sections.{question_count, answer_count, authority_count, additional_count, record_count}
+use Rattle.dns_read.specs.declared.section.Section.{Section}
+use Rattle.dns_read.specs.declared.section.Section.TheVariants.{Answer, Authority, Additional}
 use Rattle.dns_lines.specs.KnownData.{known_layout}
 
 -- a text and a line feed

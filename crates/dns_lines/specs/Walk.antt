@@ -1,9 +1,9 @@
 -- Cursors from which the same section follows. RFC 1035 section 4.1.
 use Rattle.std.specs.Prelude.{◌≡◌, Result}
 use Rattle.dns_octets.specs.declared.error.ParseError.{ParseError}
-use Rattle.dns_section.specs.RecordSection.{section_of, MovesToAnswers, MovesToNext}
-use Rattle.dns_section.specs.declared.question_section.QuestionSection.{QuestionSection}
-use Rattle.dns_section.specs.declared.record_section.RecordSection.{RecordSection}
+use Rattle.dns_read.specs.RecordSection.{section_of, MovesToAnswers, MovesToNext}
+use Rattle.dns_read.specs.declared.question_section.QuestionSection.{QuestionSection}
+use Rattle.dns_read.specs.declared.record_section.RecordSection.{RecordSection}
 
 -- moving on from `new` to the answer section gives what it gives from `old`
 abbrev pub SameAnswersFollow : QuestionSection → QuestionSection → Type 0

@@ -2,9 +2,11 @@
 ghost use Rattle.dns_name.specs.ParsedName.{labels};
 ghost use Rattle.dns_lines.specs.KnownData.{rtype_of, parts_of, known_layout, known_laid_out, known_text};
 
-use dns_code::Rtype;
 use dns_data::{A, Cname, ComposeRecordData, Ns, ParseRecordData, RecordData, Soa};
-use dns_wire::{AppendError, Composer, ParseError, ParsedName, Parser, ToName};
+use dns_iana::Rtype;
+use dns_name::{ParsedName, Parser, ToName};
+use dns_octets::{AppendError, ParseError};
+use dns_wire::Composer;
 use std::fmt;
 
 /// RDATA of a type whose fields are known, with names of type `N`.

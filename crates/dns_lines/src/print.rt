@@ -6,7 +6,7 @@ ghost use Rattle.dns_code.specs.Header.{fields};
 ghost use Rattle.dns_code.specs.HeaderCounts.{counts as count_fields};
 ghost use Rattle.dns_item.specs.ParsedRecord.{encoded_record};
 ghost use Rattle.dns_read.specs.Message.{message_octets};
-ghost use Rattle.dns_section.specs.QuestionSection.{question_result, questions_left};
+ghost use Rattle.dns_read.specs.QuestionSection.{question_result, questions_left};
 ghost use Rattle.dns_lines.specs.Show.{header_line, counts_line, line, question_line, record_line, section_word, IsRead, HasShortData, text_with, message_text};
 ghost use Rattle.dns_lines.specs.Walk.{SameAnswersFollow};
 
@@ -15,8 +15,9 @@ use crate::record_lines::{RecordLines, print_sections, section_word};
 use dns_code::{Header, HeaderCounts};
 use dns_data::UnknownRecordData;
 use dns_item::{ParsedRecord, Question};
+use dns_name::ParsedName;
+use dns_octets::ParseError;
 use dns_read::{Message, QuestionSection, Section};
-use dns_wire::{ParseError, ParsedName};
 use std::io;
 use std::io::Write;
 

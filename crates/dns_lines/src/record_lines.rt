@@ -3,15 +3,14 @@ ghost use Rattle.std.specs.Prelude.{◌≡◌, OnOk, IfOk};
 ghost use Rattle.std.specs.Io.KnownBytes.{Appends};
 ghost use Rattle.std.specs.List.{flat_map};
 ghost use Rattle.dns_read.specs.Message.{message_octets};
-ghost use Rattle.dns_section.specs.RecordSection.{octets_of, records_left, BeginsSection};
-ghost use Rattle.dns_section.specs.declared.section.Section.TheVariants.{Answer};
+ghost use Rattle.dns_read.specs.RecordSection.{octets_of, records_left, BeginsSection};
+ghost use Rattle.dns_read.specs.declared.section.Section.TheVariants.{Answer};
 ghost use Rattle.dns_lines.specs.Show.{section_word, sections_text};
 ghost use Rattle.dns_lines.specs.Walk.{SameNextFollows};
 
 use dns_item::ParsedRecord;
-use dns_read::{Message, RecordSection, Section};
-use dns_section::following;
-use dns_wire::ParseError;
+use dns_octets::ParseError;
+use dns_read::{Message, RecordSection, Section, following};
 use std::io;
 use std::io::Write;
 
@@ -22,8 +21,8 @@ pub trait RecordLines {
     ghost use Rattle.std.specs.Io.KnownBytes.{Appends};
     ghost use Rattle.dns_name.specs.Names.{Fault};
     ghost use Rattle.dns_item.specs.ParsedRecord.{EncodedRecord, encoded_record};
-    ghost use Rattle.dns_section.specs.RecordSection.{record_result};
-    ghost use Rattle.dns_section.specs.declared.section.Section.{Section};
+    ghost use Rattle.dns_read.specs.RecordSection.{record_result};
+    ghost use Rattle.dns_read.specs.declared.section.Section.{Section};
     ghost use Rattle.dns_lines.specs.Show.{IsRead, HasShortData};
 
     /// The text of a record of a section, or of its error.

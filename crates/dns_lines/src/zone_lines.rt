@@ -7,13 +7,13 @@ ghost use Rattle.dns_lines.specs.Show.{HasShortData, IsRead};
 ghost use Rattle.dns_lines.specs.ZoneLines.{covers_no_type, is_of_message, line_with, malformed_line, rdata_octets, record_lines, zone_lines};
 
 use crate::record_lines::{RecordLines, print_records, section_word};
-use dns_code::Rtype;
 use dns_data::UnknownRecordData;
-use dns_fields::FieldData;
-use dns_fields_text::{RecordText, TypeName, ZoneName};
+use dns_iana::Rtype;
 use dns_item::ParsedRecord;
+use dns_octets::ParseError;
 use dns_read::{Message, Section};
-use dns_wire::ParseError;
+use fields_octets::FieldData;
+use fields_print::{RecordText, TypeName, ZoneName};
 use std::io;
 use std::io::Write;
 

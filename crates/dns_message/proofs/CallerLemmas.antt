@@ -17,23 +17,24 @@ pub use Rattle.dns_item.proofs.theory.TypedLemmas.{data_is_parsed}
 -- Reading a record by a layout returns what `laid_out` says, if the RDATA is all there; the second also if it isn't.
 pub use Rattle.dns_item.proofs.theory.TypedLemmas.{laid_out-returned, laid_out-read}
 -- A section of records has one start, or one error, of an entry before it.
-pub use Rattle.dns_section.proofs.theory.StartLemmas.{start_or_fault}
+pub use Rattle.dns_read.proofs.theory.StartLemmas.{start_or_fault}
 -- What a cursor at the start of a section has left is the section's reading.
 pub use Rattle.dns_read.proofs.theory.SectionStartLemmas.{begins_reading}
 -- The answer section starts where `start_of` says; without a start, the error is that of an entry before it.
 pub use Rattle.dns_read.proofs.theory.SectionStartLemmas.{start_found, no_answers}
 -- `questions_from` is the reading of questions from an offset, and there is no other.
-pub use Rattle.dns_section.proofs.theory.QuestionsFromLemmas.{questions_from_are_read}
+pub use Rattle.dns_read.proofs.theory.QuestionsFromLemmas.{questions_from_are_read}
 -- `records_from` is that of records.
-pub use Rattle.dns_section.proofs.theory.RecordsFromLemmas.{records_from_are_read}
+pub use Rattle.dns_read.proofs.theory.RecordsFromLemmas.{records_from_are_read}
 -- A reading has at most as many items as the count, and an error only as its last item.
-pub use Rattle.dns_section.proofs.theory.ReadingLemmas.{readings_of_questions_end, readings_of_records_end}
+pub use Rattle.dns_read.proofs.theory.ReadingLemmas.{readings_of_questions_end, readings_of_records_end}
 -- A message within its limit stays so when accepted questions are pushed.
 pub use Rattle.dns_build.proofs.theory.Asking.{accepted_within}
 -- The encoding of a state is a message with its items.
 pub use Rattle.dns_build.proofs.theory.EncodingReading.{encodings_are_messages}
 -- The octets of a state's message, and what lengthens it: encodings, questions and answers do, moving and rewinding with TC don't.
-pub use Rattle.dns_build.proofs.theory.MessageSizes.{longer_octets, one_more, octets_after, message_size, tc_rewound_is_shorter, moving_adds_nothing, longer_with_questions, longer_with_answers, items_are_few}
+pub use Rattle.dns_build.proofs.theory.MessageSizes.{longer_octets, one_more, octets_after, message_size, tc_rewound_is_shorter, moving_adds_nothing}
+pub use Rattle.dns_build.proofs.theory.MessageSizes.{longer_with_questions, longer_with_answers, items_are_few}
 -- What holds of each element of two lists holds of each of their concatenation.
 pub use Rattle.dns_build.proofs.theory.Encodings.{every_append}
 -- A text is appended after another.

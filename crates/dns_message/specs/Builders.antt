@@ -1,8 +1,11 @@
 -- Builders: the states that they represent, what a call makes of a state, and the message of a state.
 unfoldable pub use Rattle.dns_build.specs.State.{encode}
-pub use Rattle.dns_build.specs.State.{Stage, State, IsState, stage_of, depth_of, no_limit, Every, most_entries, up_to, move_to, rewound, with_question, with_questions, with_record, with_records, records_at, with_tc, with_header, with_limit, limit_shown, tc_rewound, item_counts, counts_of, all_of, encoders_of, head_of}
+pub use Rattle.dns_build.specs.State.{Stage, State, IsState, stage_of, depth_of, no_limit, Every, most_entries, up_to, move_to, rewound, with_question}
+pub use Rattle.dns_build.specs.State.{with_questions, with_record, with_records, records_at, with_tc, with_header, with_limit, limit_shown, tc_rewound, item_counts}
+pub use Rattle.dns_build.specs.State.{counts_of, all_of, encoders_of, head_of}
 pub use Rattle.dns_build.specs.State.Stage.{InBuilder, InQuestion, InAnswer, InAuthority, InAdditional}
-pub use Rattle.dns_build.specs.BuilderStates.{Built, built_code, push_error, IsMessage, Represents, RepresentsSome, fresh, MovesState, InEach, PushReturns, PushReturnsInEach, Pushes, starts_of, size_after}
+pub use Rattle.dns_build.specs.BuilderStates.{Built, built_code, push_error, IsMessage, Represents, RepresentsSome, fresh, MovesState, InEach, PushReturns}
+pub use Rattle.dns_build.specs.BuilderStates.{PushReturnsInEach, Pushes, starts_of, size_after}
 -- the message of a state: it reads back, its pointers lead to earlier labels, no compression of its names is shorter
 pub use Rattle.dns_build.specs.MessageOf.{IsMessageOf, ReadsBack, GivesRecords, AllReported, PointsToLabels, HasLabelsInPointerRange, IsShortestOf}
 pub use Rattle.dns_build.specs.TypedReading.{pushed, taken, IsLaidOutBy, IsTakenBy, EncodedAs, AllEncodedAs}
@@ -19,9 +22,10 @@ pub use Rattle.dns_build.specs.KeptRecords.Keeps.{none, dropped, kept}
 pub use Rattle.dns_build.specs.Opt.{opt_record, with_opt, with_rcode, PushesOptRecord, Gathers, OptReturns, PushesOpt}
 pub use Rattle.dns_build.specs.ReservedOpt.{Reservation, reservation, limit_without, limit_left}
 pub use Rattle.dns_build.specs.OptReading.{said, HasNoOpt}
-pub use Rattle.dns_opt_builder.specs.Gathered.{Gathered, gathered, nothing_gathered, option_octets, opt_size, with_extended_rcode}
-pub use Rattle.dns_opt_builder.specs.Additions.{Adds}
-pub use Rattle.dns_opt.specs.KnownOptions.{nsid_option, dau_option, dhu_option, n3u_option, client_subnet_option, expire_option, cookie_option, IsServerCookie, tcp_keepalive_option, padding_option, chain_option, key_tag_option, extended_error_option}
+pub use Rattle.dns_edns_builder.specs.Gathered.{Gathered, gathered, nothing_gathered, option_octets, opt_size, with_extended_rcode}
+pub use Rattle.dns_edns_builder.specs.Additions.{Adds}
+pub use Rattle.dns_edns.specs.KnownOptions.{nsid_option, dau_option, dhu_option, n3u_option, client_subnet_option, expire_option, cookie_option, IsServerCookie}
+pub use Rattle.dns_edns.specs.KnownOptions.{tcp_keepalive_option, padding_option, chain_option, key_tag_option, extended_error_option}
 -- the statements of the theorems on builders
 pub use Rattle.dns_build.specs.MessageOf.{EncodingsReadBack, EncodingsAreTargets, EncodingsAreMessages}
 pub use Rattle.dns_build.specs.KnownByState.{BuildersAreKnown, RewindsLeaveNothing}

@@ -15,15 +15,16 @@ pub use Rattle.dns_data.specs.Soa.{mname_of, rname_of, serial_of, refresh_of, re
 pub use Rattle.dns_data.specs.UnknownData.{unknown_rtype_of, unknown_octets, unknown_buffer, opaque_layout}
 -- OPT data, and lists of options
 pub use Rattle.dns_data.specs.Opt.{is_opt_data, opt_layout, opt_octets, opt_buffer, opt_options}
-unfoldable pub use Rattle.dns_opt.specs.OptionsOf.{options_of}
-pub use Rattle.dns_opt.specs.OptionsOf.{options_in, are_options}
-pub use Rattle.dns_opt.specs.Options.{OptionItem, AreOptions, encode_option, encode_options}
-pub use Rattle.dns_opt.specs.OptionIter.{option_item, options_left}
-pub use Rattle.dns_opt.specs.OptHeader
+unfoldable pub use Rattle.dns_edns.specs.OptionsOf.{options_of}
+pub use Rattle.dns_edns.specs.OptionsOf.{options_in, are_options}
+pub use Rattle.dns_edns.specs.Options.{OptionItem, AreOptions, encode_option, encode_options}
+pub use Rattle.dns_edns.specs.OptionIter.{option_item, options_left}
+pub use Rattle.dns_edns.specs.OptHeader
 -- options of known kinds, as they are read
-pub use Rattle.dns_opt.specs.ReadOptions.{ReadsExactly, HasOnlyBits, EncodesClientSubnet, EncodesExpire, EncodesCookie, EncodesTcpKeepalive, EncodesError, CookieOctets, cookie_octets, ErrorOctets, error_octets}
-pub use Rattle.dns_opt.specs.ReadOptions.{ReadsClientSubnet, ReadsExpire, ReadsCookie, ReadsTcpKeepalive, ReadsExtendedError}
-pub use Rattle.dns_opt.specs.ReadKinds.{IsKnownCode, ReadsKnown, ReadsFirst, first_octets}
+pub use Rattle.dns_edns.specs.ReadOptions.{ReadsExactly, HasOnlyBits, EncodesClientSubnet, EncodesExpire, EncodesCookie, EncodesTcpKeepalive, EncodesError}
+pub use Rattle.dns_edns.specs.ReadOptions.{CookieOctets, cookie_octets, ErrorOctets, error_octets}
+pub use Rattle.dns_edns.specs.ReadOptions.{ReadsClientSubnet, ReadsExpire, ReadsCookie, ReadsTcpKeepalive, ReadsExtendedError}
+pub use Rattle.dns_edns.specs.ReadKinds.{IsKnownCode, ReadsKnown, ReadsFirst, first_octets}
 -- canonical order (RFC 4034 section 6.3) and texts
 pub use Rattle.dns_data.specs.CanonicalOrders.{a_canonical_order, ns_canonical_order, cname_canonical_order, soa_canonical_order, unknown_canonical_order, opt_canonical_order}
 pub use Rattle.dns_data.specs.Printing.{address_text, absolute_text, soa_text, opaque_text}

@@ -1,6 +1,7 @@
 -- Names: their labels, how octets and texts represent them, and how they compare.
 unfoldable pub use Rattle.dns_name.specs.Names.{head_at}
-pub use Rattle.dns_name.specs.Names.{Labels, IsName, name_size, max_size, with_root, uncompressed, lowered_label, lowered, head_of, NameAt, NameEndsAt, NameContinues, Reads, Fault, fault_of, FaultAt, Faulty}
+pub use Rattle.dns_name.specs.Names.{Labels, IsName, name_size, max_size, with_root, uncompressed, lowered_label, lowered, head_of, NameAt, NameEndsAt}
+pub use Rattle.dns_name.specs.Names.{NameContinues, Reads, Fault, fault_of, FaultAt, Faulty}
 pub use Rattle.dns_name.specs.Names.Fault.{ShortInput, Form}
 -- the causes of `Form`
 pub use Rattle.dns_octets.specs.declared.error.TheConstants.FormError.{BAD_LABEL, BAD_POINTER, LONG_NAME, TRAILING_DATA, NO_QUESTION, MULTIPLE_QUESTIONS}

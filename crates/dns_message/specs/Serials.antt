@@ -1,2 +1,2 @@
 -- Serial numbers of zones. RFC 1982.
-pub use Rattle.dns_serial.specs.Serials.{serial_sum, IsLess, IsGreater}
+pub use Rattle.dns_iana.specs.Serials.{serial_sum, IsLess, IsGreater}

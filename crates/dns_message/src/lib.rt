@@ -123,7 +123,7 @@ pub mod record {
 /// `fields`. A type whose values are made needs more, as this one for PTR records. `parts` says which
 /// parts a value has, `layout` how RDATA is laid out, and `laid_out` proves that they agree. The two
 /// laws that are called do nothing: they are lemmas. The proofs of the two `compose` calls are in
-/// `dns_message_tests/proofs/ptr`.
+/// `tests_message/proofs/ptr`.
 ///
 /// ```rust
 /// #[derive(Clone, Copy, Debug, Drop)]
@@ -172,7 +172,7 @@ pub mod data {
         ParseAnyRecordData, ParseRecordData, RecordData, Soa, SubnetAddr, TcpKeepalive,
         UnknownOptData, UnknownRecordData, compose_canonical_len_rdata, compose_len_rdata, laws,
     };
-    pub use dns_opt::laws as option_laws;
+    pub use dns_edns::laws as option_laws;
 }
 
 /// Record types as a table, and RDATA of every type as named fields. `RecordText` prints a record as
@@ -245,18 +245,18 @@ pub mod data {
 /// from_values(alloc, Rtype::NSEC, &values)
 /// ```
 pub mod fields {
-    pub use dns_data_read::{from_text, read_record};
-    pub use dns_fields::{
+    pub use fields_octets::{
         DataOf, Encoded, Field, FieldData, Fields, Kind, OPAQUE, OwnedFieldData, RecordFields,
         Shape, TABLE, Value, fields_of, laws, layout_type,
     };
-    pub use dns_fields_text::{
+    pub use fields_print::{
         AddressPrefix, AddressPrefixes, DataText, Parameter, Parameters, RecordText, Strings,
         TypeMap, TypeName, Types, ZoneName,
     };
-    pub use dns_line_words::split_words;
-    pub use dns_value_text::{TextError, laws as word_laws};
-    pub use dns_values::{NewValue, ValueError, from_values, laws as value_laws};
+    pub use fields_read_records::{from_text, read_record};
+    pub use fields_read_words::split_words;
+    pub use fields_text::{TextError, laws as word_laws};
+    pub use fields_values::{NewValue, ValueError, from_values, laws as value_laws};
 }
 
 /// RDATA of one record type, from native values. `fields::from_values` makes RDATA of any type.
@@ -268,7 +268,7 @@ pub mod fields {
 /// response.push((owner, 3600u32, mail.as_field_data())).ok()?;
 /// ```
 pub mod make {
-    pub use dns_values::{aaaa, caa, ds, https, mx, srv, text, txt};
+    pub use fields_values::{aaaa, caa, ds, https, mx, srv, text, txt};
 }
 
 /// Serial numbers of zones, compared and added by RFC 1982.
@@ -279,7 +279,7 @@ pub mod make {
 /// held.serial_cmp(offered) == Some(Ordering::Less)
 /// ```
 pub mod serial {
-    pub use dns_serial::{Serial, laws};
+    pub use dns_iana::{Serial, serial_laws as laws};
 }
 
 /// Calls on the builders of a message, one or a list, and the replies to them.
@@ -344,10 +344,10 @@ pub mod wire {
 /// question.qclass() == Class::IN && (qtype == Rtype::A || qtype == Rtype::AAAA)
 /// ```
 pub mod question {
-    pub use dns_question::question::{
+    pub use dns_item::question::{
         ComposeQuestion, FromStrError, PresentationError, PresentationErrorEnum, Question,
     };
 }
 
 pub use dns_lines::{print_message, print_zone_lines};
-pub use dns_tool::tool;
+pub use dnsmsg_tool::tool;

@@ -82,9 +82,6 @@ module _ (b : List ℕ) where
 abbrev pub NameOfSize : List ℕ → ℕ → ℕ → Type 0
 NameOfSize b p size = (name : EncodedName b p) × (name_size name.0 ≡ size)
 
-pub NameOfSize-prop : (b : List ℕ) (p size : ℕ) → IsProp (NameOfSize b p size)
-NameOfSize-prop b p size = hlevel (props, EncodedName-prop b {p = p})
-
 -- A name of this size, with `count` labels besides the root label, is encoded at offset p.
 abbrev pub NameOfSizeAndCount : List ℕ → ℕ → ℕ → ℕ → Type 0
 NameOfSizeAndCount b p size count = (name : EncodedName b p) × (name_size name.0 ≡ size) × (length name.0 ≡ count)

@@ -4,11 +4,11 @@ use Rattle.std.specs.Prelude.{IfSome, Option, Some, None, option_and_then, Resul
 use Rattle.dns_octets.specs.declared.error.ParseError.{ParseError}
 use Rattle.dns_item.specs.Items.{SkipsRecord, RecordSkipFaultAt}
 use Rattle.dns_item.specs.declared.parsed_record.ParsedRecord.{ParsedRecord}
-use Rattle.dns_section.specs.RecordSection.{octets_of, position, section_of, to_come, MovesOn, GivesNext as CursorGivesNext}
-use Rattle.dns_section.specs.Skipping.{SkipsRest, StopsInRest}
-use Rattle.dns_section.specs.declared.record_section.RecordSection.{RecordSection}
-use Rattle.dns_section.specs.declared.section.Section.{Section}
-use Rattle.dns_section.specs.declared.section.Section.TheVariants.{Answer, Authority, Additional}
+use Rattle.dns_read.specs.RecordSection.{octets_of, position, section_of, to_come, MovesOn, GivesNext as CursorGivesNext}
+use Rattle.dns_read.specs.Skipping.{SkipsRest, StopsInRest}
+use Rattle.dns_read.specs.declared.record_section.RecordSection.{RecordSection}
+use Rattle.dns_read.specs.declared.section.Section.{Section}
+use Rattle.dns_read.specs.declared.section.Section.TheVariants.{Answer, Authority, Additional}
 use Rattle.dns_read.specs.MessageIter.{error_again, cursor_error, SecondErrorIsFirst}
 
 -- an error that is yielded again ended its section, which isn't the additional section

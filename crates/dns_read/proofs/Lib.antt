@@ -6,3 +6,6 @@ mod PositionLemmas
 mod RecordSearchLemmas
 mod NthNameLemmas
 mod ReadingItems
+mod CursorLemmas
+mod SkipLemmas
+mod LimitedLemmas

@@ -7,21 +7,21 @@ use Rattle.dns_name.specs.Names.{Fault, fault_of}
 use Rattle.dns_octets.specs.declared.error.ParseError.{ParseError}
 use Rattle.dns_item.specs.Items.{SkipsRecord, ReadsRecord, RecordEntry, RecordFaultAt, RecordSkipFaultAt}
 use Rattle.dns_item.specs.ParsedRecord.{EncodedRecord}
-use Rattle.dns_section.specs.Reading.{Skipped, StopsSkipping, Reading}
-use Rattle.dns_section.specs.Reading.Skipped.{none as no_more, more}
-use Rattle.dns_section.specs.Reading.StopsSkipping.{here, after as stops_after}
-use Rattle.dns_section.specs.Reading.Reading.{none as no_entry, entry, stop}
-use Rattle.dns_section.specs.RecordsFrom.{records_from, in_octets, records_in}
-use Rattle.dns_section.specs.Sections.{AnswersFault, answer_count, authority_count, additional_count, record_count, section_after}
-use Rattle.dns_section.specs.Skipping.{items_left as records_to_come, SkipsRest, StopsInRest}
-use Rattle.dns_section.specs.RecordSection.{octets_of, position, section_of, to_come, records_left, IsFresh, BeginsSection, MovesOn}
-use Rattle.dns_section.specs.declared.record_section.RecordSection.{RecordSection}
-use Rattle.dns_section.specs.declared.section.Section.{Section}
-use Rattle.dns_section.specs.declared.section.Section.TheVariants.{Answer, Authority, Additional}
+use Rattle.dns_read.specs.Reading.{Skipped, StopsSkipping, Reading}
+use Rattle.dns_read.specs.Reading.Skipped.{none as no_more, more}
+use Rattle.dns_read.specs.Reading.StopsSkipping.{here, after as stops_after}
+use Rattle.dns_read.specs.Reading.Reading.{none as no_entry, entry, stop}
+use Rattle.dns_read.specs.RecordsFrom.{records_from, in_octets, records_in}
+use Rattle.dns_read.specs.Sections.{AnswersFault, answer_count, authority_count, additional_count, record_count, section_after}
+use Rattle.dns_read.specs.Skipping.{items_left as records_to_come, SkipsRest, StopsInRest}
+use Rattle.dns_read.specs.RecordSection.{octets_of, position, section_of, to_come, records_left, IsFresh, BeginsSection, MovesOn}
+use Rattle.dns_read.specs.declared.record_section.RecordSection.{RecordSection}
+use Rattle.dns_read.specs.declared.section.Section.{Section}
+use Rattle.dns_read.specs.declared.section.Section.TheVariants.{Answer, Authority, Additional}
 use Rattle.std.proofs.lemmas.List.{length-map}
-use Rattle.dns_section.proofs.theory.ReadingLemmas.{readings_of_records_end}
-use Rattle.dns_section.proofs.theory.RecordsFromLemmas.{records_from_are_read}
-use Rattle.dns_section.proofs.theory.SectionLemmas.{starts_after}
+use Rattle.dns_read.proofs.theory.ReadingLemmas.{readings_of_records_end}
+use Rattle.dns_read.proofs.theory.RecordsFromLemmas.{records_from_are_read}
+use Rattle.dns_read.proofs.theory.SectionLemmas.{starts_after}
 use Rattle.dns_read.specs.MessageIter.{Item, once_more, in_section, records_end, items_after, items_in, items_from, rest_of, cursor_items, message_items, HasNoFault, SectionsFollow}
 use Rattle.dns_read.specs.SectionStarts.{start_of}
 use Rattle.dns_read.proofs.ReadingItems.{has_item}
@@ -139,18 +139,13 @@ abbrev pub sections_left : Option RecordSection → ℕ
 sections_left None = 0
 sections_left (Some cursor) = sections_from (section_of cursor)
 
--- Fewer sections are left after the next one.
-pub fewer_sections : (which next : Section) → section_after which ≡ Some next → sections_from next < sections_from which
-fewer_sections Answer next e = let same : Authority ≡ next = cc in subst (λ k. sections_from k < 3) same (omega arith)
-fewer_sections Authority next e = let same : Additional ≡ next = cc in subst (λ k. sections_from k < 2) same (omega arith)
-fewer_sections Additional next e = absurd (cc)
-
 -- a cursor over a whole section has all of its items left, and those of the sections after it
 pub fresh_items : (which : Section) (b : List ℕ) (cursor : RecordSection) → IsFresh which b cursor → cursor_items cursor ≡ items_from which b (position cursor)
 fresh_items which b cursor fresh = λ i. rest_of (fresh.section i) (fresh.octets i) (fresh.count i) (position cursor)
 
 -- a cursor that yielded nothing has the same left
-pub gave_nothing : (old new : RecordSection) → position new ≡ position old → to_come new ≡ to_come old → octets_of new ≡ octets_of old → section_of new ≡ section_of old → cursor_items new ≡ cursor_items old
+pub gave_nothing : (old new : RecordSection) → position new ≡ position old → to_come new ≡ to_come old → octets_of new ≡ octets_of old
+    → section_of new ≡ section_of old → cursor_items new ≡ cursor_items old
 gave_nothing old new position left octets section = λ i. rest_of (section i) (octets i) (left i) (position i)
 
 -- if a section has nothing left, the items of the next are yielded

@@ -5,11 +5,11 @@ use Rattle.std.specs.Prelude.{Option, Some, None, option_map, option_and_then}
 use Rattle.dns_name.specs.Names.{Labels}
 use Rattle.dns_name.specs.ParsedName.{labels}
 use Rattle.dns_name.specs.declared.parsed_name.ParsedName.{ParsedName}
-use Rattle.dns_question.specs.Question.{qname_of, parsed_question}
-use Rattle.dns_question.specs.Questions.{QuestionItem}
-use Rattle.dns_question.specs.declared.question.Question.{Question}
-use Rattle.dns_section.specs.Limited.{limited}
-use Rattle.dns_section.specs.declared.section.Section.TheVariants.{Answer}
+use Rattle.dns_item.specs.Question.{qname_of, parsed_question}
+use Rattle.dns_item.specs.Questions.{QuestionItem}
+use Rattle.dns_item.specs.declared.question.Question.{Question}
+use Rattle.dns_read.specs.Limited.{limited}
+use Rattle.dns_read.specs.declared.section.Section.TheVariants.{Answer}
 use Rattle.dns_read.specs.Searches.{asked_first}
 use Rattle.dns_read.specs.SectionStarts.{start_of, records_of}
 use Rattle.dns_read.specs.RecordSearches.{cname_layout, alias_of, nth_name, CanonicalName, OneCanonicalName}

@@ -5,13 +5,13 @@ use Rattle.std.specs.Result.{result_ok}
 use Rattle.dns_name.specs.Names.{fault_of}
 use Rattle.dns_octets.specs.declared.error.ParseError.{ParseError}
 use Rattle.dns_item.specs.Items.{SkipsRecord, RecordSkipFaultAt}
-use Rattle.dns_section.specs.RecordSection.{octets_of, position, section_of, to_come, records_left, BeginsSection, MovesOn, GivesNext as CursorGivesNext}
-use Rattle.dns_section.specs.RecordsFrom.{records_in}
-use Rattle.dns_section.specs.Sections.{AnswersFault}
-use Rattle.dns_section.specs.Skipping.{items_left as records_to_come, SkipsRest, StopsInRest}
-use Rattle.dns_section.specs.declared.record_section.RecordSection.{RecordSection}
-use Rattle.dns_section.specs.declared.section.Section.{Section}
-use Rattle.dns_section.specs.declared.section.Section.TheVariants.{Answer, Authority, Additional}
+use Rattle.dns_read.specs.RecordSection.{octets_of, position, section_of, to_come, records_left, BeginsSection, MovesOn, GivesNext as CursorGivesNext}
+use Rattle.dns_read.specs.RecordsFrom.{records_in}
+use Rattle.dns_read.specs.Sections.{AnswersFault}
+use Rattle.dns_read.specs.Skipping.{items_left as records_to_come, SkipsRest, StopsInRest}
+use Rattle.dns_read.specs.declared.record_section.RecordSection.{RecordSection}
+use Rattle.dns_read.specs.declared.section.Section.{Section}
+use Rattle.dns_read.specs.declared.section.Section.TheVariants.{Answer, Authority, Additional}
 use Rattle.dns_read.specs.MessageIter.{cursor_error, error_again, kept_error, position_in, MovesPastItem}
 use Rattle.dns_read.specs.SectionStarts.{start_of}
 use Rattle.dns_read.specs.declared.message_iter.MessageIter.{MessageIter}
@@ -55,12 +55,14 @@ ends_again b Authority (Err given) p e none other stops = (given, refl)
 ends_again b Additional (Err given) p e none other stops = absurd (other refl)
 
 -- An error at the end of a section is kept.
-pub kept_at_end : (it : MessageIter) (cursor : RecordSection) (e : ParseError) → StaysAt it (Some cursor) → records_left cursor ≡ [] → MovesOn cursor (Err e) → (given : ParseError) × (kept_error it ≡ Some given)
+pub kept_at_end : (it : MessageIter) (cursor : RecordSection) (e : ParseError) → StaysAt it (Some cursor) → records_left cursor ≡ [] → MovesOn cursor (Err e)
+    → (given : ParseError) × (kept_error it ≡ Some given)
 kept_at_end it cursor e here empty moves =
     let again = ends_again (octets_of cursor) (section_of cursor) (to_come cursor) (position cursor) e empty moves.0 moves.1 in (again.0, here.1 ∙ again.1)
 
 -- an iterator over a whole message is at the start of the answer section
-pub iterated_from : (b : List ℕ) (r : Result RecordSection ParseError) → IfOk r (BeginsSection Answer b) → IfErr r (λ e. AnswersFault b (fault_of e)) → option_map position (result_ok r) ≡ start_of Answer b
+pub iterated_from : (b : List ℕ) (r : Result RecordSection ParseError) → IfOk r (BeginsSection Answer b) → IfErr r (λ e. AnswersFault b (fault_of e))
+    → option_map position (result_ok r) ≡ start_of Answer b
 iterated_from b (Ok cursor) begins fault = sym (start_found Answer b (position cursor) begins.start)
 iterated_from b (Err e) begins fault = sym (no_answers b (fault_of e) fault)
 

@@ -17,10 +17,10 @@ use Rattle.dns_item.proofs.theory.TypedLemmas.{parsed_as-returned}
 use Rattle.dns_item.specs.Record.{record_item}
 use Rattle.dns_item.specs.TypedRecords.{parsed_as, typed_result}
 use Rattle.dns_item.specs.declared.record.Record.{Record}
-use Rattle.dns_section.specs.RecordSection.{records_left, BeginsSection}
-use Rattle.dns_section.specs.Sections.{AdditionalsFault}
-use Rattle.dns_section.specs.declared.record_section.RecordSection.{RecordSection}
-use Rattle.dns_section.specs.declared.section.Section.TheVariants.{Additional}
+use Rattle.dns_read.specs.RecordSection.{records_left, BeginsSection}
+use Rattle.dns_read.specs.Sections.{AdditionalsFault}
+use Rattle.dns_read.specs.declared.record_section.RecordSection.{RecordSection}
+use Rattle.dns_read.specs.declared.section.Section.TheVariants.{Additional}
 use Rattle.dns_read.specs.SectionStarts.{records_of}
 use Rattle.dns_read.specs.RecordSearches.{last_from, last_item, last_record, last_additional}
 use Rattle.dns_read.proofs.theory.SectionStartLemmas.{begins_reading, no_reading, no_additionals, begun, not_begun}

@@ -11,8 +11,8 @@ use Rattle.dns_data.specs.RecordData.{only}
 use Rattle.dns_item.specs.Items.{RecordItem}
 use Rattle.dns_item.specs.OptRecord.{OptItem, opt_item_in}
 use Rattle.dns_item.specs.ParsedRecord.{EncodedRecord}
-use Rattle.dns_section.specs.Limited.{limited}
-use Rattle.dns_section.specs.declared.section.Section.TheVariants.{Additional}
+use Rattle.dns_read.specs.Limited.{limited}
+use Rattle.dns_read.specs.declared.section.Section.TheVariants.{Additional}
 use Rattle.dns_read.specs.Searches.{first_value}
 use Rattle.dns_read.specs.SectionStarts.{records_of}
 

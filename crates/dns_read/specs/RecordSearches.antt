@@ -11,12 +11,12 @@ use Rattle.dns_wire.specs.Parts.Part.{Octets, CompressibleName, UncompressedName
 use Rattle.dns_data.specs.Layout.{Layout}
 use Rattle.dns_data.specs.Layout.Layout.{DomainName, End}
 use Rattle.dns_data.specs.RecordData.{only}
-use Rattle.dns_question.specs.Questions.{QuestionItem}
+use Rattle.dns_item.specs.Questions.{QuestionItem}
 use Rattle.dns_item.specs.Items.{RecordItem}
 use Rattle.dns_item.specs.ParsedRecord.{EncodedRecord}
 use Rattle.dns_item.specs.TypedRecords.{parsed_as}
-use Rattle.dns_section.specs.Limited.{limited}
-use Rattle.dns_section.specs.declared.section.Section.TheVariants.{Answer, Additional}
+use Rattle.dns_read.specs.Limited.{limited}
+use Rattle.dns_read.specs.declared.section.Section.TheVariants.{Answer, Additional}
 use Rattle.dns_read.specs.Searches.{asked_first}
 use Rattle.dns_read.specs.SectionStarts.{start_of, records_of}
 

@@ -5,10 +5,10 @@ use Rattle.std.specs.Prelude.{◌≡◌, ℕ, ◌⊎◌, Bool, ◌&&◌, ◌==�
 use Rattle.dns_name.specs.Names.{Fault}
 use Rattle.dns_code.specs.Header.{fields_in}
 use Rattle.dns_code.specs.HeaderSection.{header_size}
-use Rattle.dns_question.specs.Questions.{QuestionItem}
-use Rattle.dns_section.specs.QuestionsFrom.{questions_from}
-use Rattle.dns_section.specs.SameQuestions.{same_readings}
-use Rattle.dns_section.specs.Sections.{question_count}
+use Rattle.dns_item.specs.Questions.{QuestionItem}
+use Rattle.dns_read.specs.QuestionsFrom.{questions_from}
+use Rattle.dns_read.specs.SameQuestions.{same_readings}
+use Rattle.dns_read.specs.Sections.{question_count}
 
 -- the reading of the question section
 abbrev pub questions_of : List ℕ → List (Result QuestionItem Fault)

@@ -6,11 +6,11 @@ use Rattle.std.specs.Prelude.{◌≡◌, ◌↔◌, ◌⊎◌, ℕ, List, [], Op
 use Rattle.std.specs.Option.{option_map_or}
 use Rattle.dns_name.specs.Names.{Fault}
 use Rattle.dns_item.specs.ParsedRecord.{EncodedRecord}
-use Rattle.dns_section.specs.RecordsFrom.{records_in}
-use Rattle.dns_section.specs.Sections.{record_count, StartsAt}
-use Rattle.dns_section.specs.declared.section.Section.{Section}
-use Rattle.dns_section.specs.declared.section.Section.TheVariants.{Answer, Authority, Additional}
-use Rattle.dns_section.proofs.theory.StartLemmas.{start_or_fault}
+use Rattle.dns_read.specs.RecordsFrom.{records_in}
+use Rattle.dns_read.specs.Sections.{record_count, StartsAt}
+use Rattle.dns_read.specs.declared.section.Section.{Section}
+use Rattle.dns_read.specs.declared.section.Section.TheVariants.{Answer, Authority, Additional}
+use Rattle.dns_read.proofs.theory.StartLemmas.{start_or_fault}
 
 -- the start, of a start or a fault
 abbrev pub found : {Start : ℕ → Type 0} {FaultOf : Fault → Type 0} → ((p : ℕ) × Start p) ⊎ ((f : Fault) × FaultOf f) → Option ℕ

@@ -5,7 +5,7 @@ ghost use Rattle.dns_read.specs.Message.{message_octets};
 
 use crate::message::Message;
 use arrayvec::ArrayVec;
-use dns_wire::{AppendError, Octets, OctetsFrom};
+use dns_octets::{AppendError, Octets, OctetsFrom};
 use std::alloc::Global;
 
 fn vec_message<S: Octets>(

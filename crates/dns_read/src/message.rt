@@ -2,12 +2,17 @@
 ghost use Rattle.std.specs.Prelude.{◌≡◌, ◌≢◌, ◌↔◌, ◌<◌, ◌≤◌, ◌+◌, ◌-◌, length, take, drop, slice_range, IsTrue, Ok, IfOk, IfErr, IsErr};
 ghost use Rattle.dns_code.specs.HeaderSection.{header_size};
 
+pub use crate::any_record_iter::AnyRecordIter;
 pub use crate::error::ShortMessage;
 pub use crate::message_iter::MessageIter;
-use dns_code::{Header, HeaderCounts, HeaderSection, Rcode};
-pub use dns_section::{AnyRecordIter, QuestionSection, RecordIter, RecordSection, Section};
-use dns_section::{first_section, following};
-use dns_wire::{Octets, OctetsMut, ParseError};
+pub use crate::question_section::QuestionSection;
+pub use crate::record_iter::RecordIter;
+pub use crate::record_section::RecordSection;
+pub use crate::section::Section;
+use crate::starts::{first_section, following};
+use dns_code::{Header, HeaderCounts, HeaderSection};
+use dns_iana::Rcode;
+use dns_octets::{Octets, OctetsMut, ParseError};
 use std::alloc::AllocError;
 use std::convert::AsSlice;
 
@@ -38,11 +43,11 @@ impl<Octs: Octets> Message<Octs> {
     ghost use Rattle.dns_code.specs.HeaderCounts.{counts, counts_octets};
     ghost use Rattle.dns_code.specs.HeaderSection.{section_octets};
     ghost use Rattle.dns_read.specs.Message.{buffer_of, message_octets};
-    ghost use Rattle.dns_section.specs.QuestionSection.{octets_of, position, to_come, questions_left, BeginsQuestions};
-    ghost use Rattle.dns_section.specs.QuestionsFrom.{questions_from};
-    ghost use Rattle.dns_section.specs.RecordSection.{BeginsSection};
-    ghost use Rattle.dns_section.specs.Sections.{question_count, answer_count, authority_count, additional_count, AnswersFault, AuthoritiesFault, AdditionalsFault};
-    ghost use Rattle.dns_section.specs.declared.section.Section.TheVariants.{Answer, Authority, Additional};
+    ghost use Rattle.dns_read.specs.QuestionSection.{octets_of, position, to_come, questions_left, BeginsQuestions};
+    ghost use Rattle.dns_read.specs.QuestionsFrom.{questions_from};
+    ghost use Rattle.dns_read.specs.RecordSection.{BeginsSection};
+    ghost use Rattle.dns_read.specs.Sections.{question_count, answer_count, authority_count, additional_count, AnswersFault, AuthoritiesFault, AdditionalsFault};
+    ghost use Rattle.dns_read.specs.declared.section.Section.TheVariants.{Answer, Authority, Additional};
     ghost use Rattle.dns_name.specs.Names.{fault_of};
 
     /// The message with these octets. Returns `ShortMessage` if they are fewer than 12.
@@ -261,7 +266,7 @@ impl<Octs: OctetsMut> Message<Octs> {
     ghost use Rattle.dns_octets.specs.Octets.{overwritten};
     ghost use Rattle.dns_code.specs.Header.{header_octets};
     ghost use Rattle.dns_read.specs.Message.{message_octets};
-    ghost use Rattle.dns_section.specs.Sections.{additional_count};
+    ghost use Rattle.dns_read.specs.Sections.{additional_count};
 
     /// Overwrites the first 4 octets with `header`. The counts and all later octets stay.
     pub fn set_header(&mut self, header: Header)

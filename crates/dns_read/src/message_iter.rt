@@ -1,9 +1,10 @@
 ghost use Rattle.std.specs.Prelude.{◌≡◌, ◌≤◌, ◌+◌, length, Some, Err, IfSome};
 
 use crate::message::Message;
+use crate::record_section::RecordSection;
+use crate::section::Section;
 use dns_item::ParsedRecord;
-use dns_section::{RecordSection, Section};
-use dns_wire::{Octets, ParseError};
+use dns_octets::{Octets, ParseError};
 
 /// An iterator over the records of a message, each with its section (RFC 1035 section 4.1).
 ///
@@ -85,8 +86,8 @@ impl<Octs: Octets> Message<Octs> {
     ghost use Rattle.dns_read.specs.Message.{message_octets};
     ghost use Rattle.dns_read.specs.MessageIter.{items_left, message_items, position_in};
     ghost use Rattle.dns_read.specs.SectionStarts.{start_of};
-    ghost use Rattle.dns_section.specs.Sections.{answer_count, authority_count, additional_count};
-    ghost use Rattle.dns_section.specs.declared.section.Section.TheVariants.{Answer};
+    ghost use Rattle.dns_read.specs.Sections.{answer_count, authority_count, additional_count};
+    ghost use Rattle.dns_read.specs.declared.section.Section.TheVariants.{Answer};
 
     /// Iterates over the records of the answer, authority and additional sections.
     ///

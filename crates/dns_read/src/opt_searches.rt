@@ -1,16 +1,16 @@
 //! What the OPT record of a message says (RFC 6891 section 6.1).
 ghost use Rattle.std.specs.Prelude.{◌≡◌, option_map, option_and_then};
 ghost use Rattle.dns_item.specs.OptRecord.{opt_item};
-ghost use Rattle.dns_section.specs.RecordSection.{records_left};
+ghost use Rattle.dns_read.specs.RecordSection.{records_left};
 ghost use Rattle.dns_read.specs.Message.{message_octets};
 ghost use Rattle.dns_read.specs.OptSearches.{first_opt_in, opt_said, opt_of, opt_rcode_of};
 
 use crate::message::Message;
-use dns_code::OptRcode;
+use crate::record_section::RecordSection;
 use dns_data::Opt;
+use dns_iana::OptRcode;
 use dns_item::OptRecord;
-use dns_section::RecordSection;
-use dns_wire::Octets;
+use dns_octets::Octets;
 
 impl<Octs: Octets> Message<Octs> {
     /// The first OPT record of the additional section. Returns `None` if there is none, if the

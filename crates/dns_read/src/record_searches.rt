@@ -4,16 +4,17 @@ ghost use Rattle.dns_name.specs.ParsedName.{labels};
 ghost use Rattle.dns_item.specs.ParsedData.{HasSpan};
 ghost use Rattle.dns_item.specs.ParsedRecord.{encoded_record};
 ghost use Rattle.dns_item.specs.Record.{record_item};
-ghost use Rattle.dns_section.specs.Limited.{limited};
-ghost use Rattle.dns_section.specs.RecordSection.{records_left};
+ghost use Rattle.dns_read.specs.Limited.{limited};
+ghost use Rattle.dns_read.specs.RecordSection.{records_left};
 ghost use Rattle.dns_read.specs.Message.{message_octets};
 ghost use Rattle.dns_read.specs.RecordSearches.{HasAnswer, last_record, last_additional, cname_layout, alias_of, CanonicalName};
 
 use crate::message::Message;
+use crate::record_section::RecordSection;
 use dns_data::{Cname, ParseRecordData};
 use dns_item::{ParsedRecord, Record};
-use dns_section::RecordSection;
-use dns_wire::{Octets, ParsedName};
+use dns_name::ParsedName;
+use dns_octets::Octets;
 
 /// The limit on names that `canonical_name` examines, including the first question's.
 const MOST_NAMES: usize = 20;

@@ -1,15 +1,16 @@
 //! Searches in the questions of a message (RFC 1035 section 4.1).
 ghost use Rattle.std.specs.Prelude.{◌≡◌, ◌<◌, ◌↔◌, Some, Err, option_map, IsTrue};
-ghost use Rattle.dns_question.specs.Question.{parsed_question};
+ghost use Rattle.dns_item.specs.Question.{parsed_question};
 ghost use Rattle.dns_read.specs.Message.{message_octets};
-ghost use Rattle.dns_section.specs.QuestionSection.{question_result};
+ghost use Rattle.dns_read.specs.QuestionSection.{question_result};
 ghost use Rattle.dns_read.specs.Searches.{questions_of, first_item, asked_first, asked_type, AsksForTransfer, answers_query};
-ghost use Rattle.dns_section.specs.Sections.{question_count};
+ghost use Rattle.dns_read.specs.Sections.{question_count};
 
 use crate::message::Message;
-use dns_code::Rtype;
+use dns_iana::Rtype;
 use dns_item::Question;
-use dns_wire::{FormError, Octets, ParseError, ParsedName};
+use dns_name::ParsedName;
+use dns_octets::{FormError, Octets, ParseError};
 
 impl<Octs: Octets> Message<Octs> {
     /// The first question. Returns `None` if there is none or it can't be read.

@@ -4,7 +4,7 @@ use Rattle.std.proofs.lemmas.Grind.{common_steps}
 use Rattle.std.proofs.lemmas.List.{take_more}
 use Rattle.dns_wire.specs.Encoders.{Rule}
 use Rattle.dns_wire.specs.Targets.{Written}
-use Rattle.dns_question.specs.Questions.{QuestionItem}
+use Rattle.dns_item.specs.Questions.{QuestionItem}
 use Rattle.dns_item.specs.Items.{RecordItem}
 use Rattle.dns_build.specs.MessageOf.{EncodingsAreMessages, IsMessageOf}
 use Rattle.dns_build.specs.State.{State}
@@ -25,22 +25,28 @@ represents_message rule s (Additional b) encodings h = subst (λ (w : Written). 
 module _ {Q R : Type 0} (capacity : Option ℕ) (grows : Bool) (question : Q → QuestionItem) (item : R → RecordItem) (rule : Rule) where
   -- through these calls, for each state that the stage represents: one reply for each, and a stage that represents the state after them
   abbrev pub Goes : {T : Type 0} → Stage T → List (Call Q R) → List Reply → Stage T → Type 0
-  Goes old calls replies new = (s : State) → StageRepresents rule s old → AreReplies capacity grows question item rule s calls replies × StageRepresents rule (after_all question item s calls replies) new
+  Goes old calls replies new = (s : State) → StageRepresents rule s old → AreReplies capacity grows question item rule s calls replies
+      × StageRepresents rule (after_all question item s calls replies) new
 
   -- the state after one call more
-  after_more : (s : State) (calls : List (Call Q R)) (replies : List Reply) (call : Call Q R) (reply : Reply) → AreReplies capacity grows question item rule s calls replies → after_all question item s (calls ++ call ∷ []) (replies ++ reply ∷ []) ≡ after question item (after_all question item s calls replies) call reply
+  after_more : (s : State) (calls : List (Call Q R)) (replies : List Reply) (call : Call Q R) (reply : Reply)
+      → AreReplies capacity grows question item rule s calls replies → after_all question item s (calls ++ call ∷ []) (replies ++ reply ∷ [])
+      ≡ after question item (after_all question item s calls replies) call reply
   after_more s [] [] call reply h = refl
   after_more s (c ∷ calls) (p ∷ replies) call reply h = after_more (after question item s c p) calls replies call reply h.1
   after_more s [] (p ∷ replies) call reply h = absurd h
   after_more s (c ∷ calls) [] call reply h = absurd h
 
-  replied_more : (s : State) (calls : List (Call Q R)) (replies : List Reply) (call : Call Q R) (reply : Reply) → AreReplies capacity grows question item rule s calls replies → IsReply capacity grows question item rule (after_all question item s calls replies) call reply → AreReplies capacity grows question item rule s (calls ++ call ∷ []) (replies ++ reply ∷ [])
+  replied_more : (s : State) (calls : List (Call Q R)) (replies : List Reply) (call : Call Q R) (reply : Reply)
+      → AreReplies capacity grows question item rule s calls replies → IsReply capacity grows question item rule (after_all question item s calls replies) call
+      reply → AreReplies capacity grows question item rule s (calls ++ call ∷ []) (replies ++ reply ∷ [])
   replied_more s [] [] call reply h k = (k, tt)
   replied_more s (c ∷ calls) (p ∷ replies) call reply h k = (h.0, replied_more (after question item s c p) calls replies call reply h.1 k)
   replied_more s [] (p ∷ replies) call reply h k = absurd h
   replied_more s (c ∷ calls) [] call reply h k = absurd h
 
-  pub runs_more : {T : Type 0} → (old mid new : Stage T) (calls : List (Call Q R)) (replies : List Reply) (call : Call Q R) (reply : Reply) → Goes old calls replies mid → Steps capacity grows question item rule mid call reply new → Goes old (calls ++ call ∷ []) (replies ++ reply ∷ []) new
+  pub runs_more : {T : Type 0} → (old mid new : Stage T) (calls : List (Call Q R)) (replies : List Reply) (call : Call Q R) (reply : Reply)
+      → Goes old calls replies mid → Steps capacity grows question item rule mid call reply new → Goes old (calls ++ call ∷ []) (replies ++ reply ∷ []) new
   runs_more old mid new calls replies call reply h step s represents =
       let ran = h s represents in
       let next = step (after_all question item s calls replies) ran.1 in (
@@ -56,7 +62,8 @@ module _ {Q R : Type 0} (capacity : Option ℕ) (grows : Bool) (question : Q →
     pub goes : Goes old calls reported mid
 
   -- one call more, with its reply
-  pub goes_on : {T : Type 0} → (old mid new : Stage T) (calls : List (Call Q R)) (index : ℕ) (call : Call Q R) (before items items' : List Reply) (reply : Reply) → index < length calls → call ≡ get_or calls index call → items' ≡ items ++ reply ∷ []
+  pub goes_on : {T : Type 0} → (old mid new : Stage T) (calls : List (Call Q R)) (index : ℕ) (call : Call Q R) (before items items' : List Reply)
+      (reply : Reply) → index < length calls → call ≡ get_or calls index call → items' ≡ items ++ reply ∷ []
       → GoesOn old (take index calls) before items mid → Steps capacity grows question item rule mid call reply new → GoesOn old (take (index + 1) calls) before items' new
   goes_on {T} old mid new calls index call before items items' reply l is more so_far step =
       let e : take (index + 1) calls ≡ take index calls ++ call ∷ [] = take_more calls index call l ∙ ap (λ (x : Call Q R). take index calls ++ x ∷ []) (sym is) in

@@ -5,11 +5,11 @@ use Rattle.std.specs.Prelude.{Option, Some, None, Result, Ok, Err, OnOk, OnErr, 
 use Rattle.dns_octets.specs.declared.error.AppendError.{AppendError}
 use Rattle.dns_octets.specs.declared.error.AppendError.TheVariants.{ShortBuf, OutOfMemory}
 use Rattle.dns_wire.specs.Encoders.{Rule}
-use Rattle.dns_question.specs.Questions.{QuestionItem}
-use Rattle.dns_opt.specs.Options.{OptionItem, encode_option, encode_options}
-use Rattle.dns_opt_builder.specs.Additions.{Adds}
-use Rattle.dns_opt_builder.specs.Gathered.{Gathered, IsGathered, gathered, nothing_gathered}
-use Rattle.dns_opt_builder.specs.declared.builder.OptBuilder.{OptBuilder}
+use Rattle.dns_item.specs.Questions.{QuestionItem}
+use Rattle.dns_edns.specs.Options.{OptionItem, encode_option, encode_options}
+use Rattle.dns_edns_builder.specs.Additions.{Adds}
+use Rattle.dns_edns_builder.specs.Gathered.{Gathered, IsGathered, gathered, nothing_gathered}
+use Rattle.dns_edns_builder.specs.declared.builder.OptBuilder.{OptBuilder}
 use Rattle.dns_item.specs.Items.{RecordItem}
 use Rattle.dns_build.specs.Opt.{opt_record, with_opt, OptReturns, PushesOpt}
 use Rattle.dns_build.specs.BuilderStates.{Built, Represents, InEach, size_after}
@@ -64,7 +64,8 @@ module _ (capacity : Option ℕ) (grows : Bool) (rule : Rule) (plan : OptPlan) (
   accepted_asked g n (Err e) v same h = absurd (cc)
 
   -- a call of `opt`, for the state, carries out the plan
-  module _ (call : OptBuilder → Result (Unit {0}) AppendError → OptBuilder → Type 0) (carries : (b : OptBuilder) (a : Result (Unit {0}) AppendError) (b' : OptBuilder) → call b a b' → CarriesOut plan b b' a)
+  module _ (call : OptBuilder → Result (Unit {0}) AppendError → OptBuilder → Type 0)
+      (carries : (b : OptBuilder) (a : Result (Unit {0}) AppendError) (b' : OptBuilder) → call b a b' → CarriesOut plan b b' a)
       (new : Built) (r : Result (Unit {0}) PushError) (p : PushesOpt capacity grows rule call s new r) where
     done_asked : (a : Result (Unit {0}) AppendError) → OnOk a (gathered p.gathers.after ≡ planned plan (gathered p.gathers.before)) → OnOk a (p.g ≡ asked)
     done_asked (Ok u) done = sym p.gathers.left ∙ done ∙ ap (planned plan) p.gathers.fresh

@@ -2,17 +2,18 @@
 use Rattle.std.proofs.Common.{◌≡◌, ℕ, Bool, false, true, Option, Result, Ok, Err, length, sym, ◌∙◌, ap, subst, refl}
 use Rattle.std.specs.Prelude.{OnOk, OnErr, MatchResult}
 use Rattle.dns_wire.specs.Encoders.{Rule}
-use Rattle.dns_question.specs.Questions.{QuestionItem}
+use Rattle.dns_item.specs.Questions.{QuestionItem}
 use Rattle.dns_item.specs.Items.{RecordItem}
 use Rattle.dns_build.specs.BuilderStates.{Built, PushReturns, PushReturnsInEach, Represents, MovesState, InEach, size_after}
 use Rattle.dns_build.specs.State as state
-use Rattle.dns_section.specs.declared.section.Section.{Section}
-use Rattle.dns_section.specs.declared.section.Section.TheVariants.{Answer, Authority, Additional}
+use Rattle.dns_read.specs.declared.section.Section.{Section}
+use Rattle.dns_read.specs.declared.section.Section.TheVariants.{Answer, Authority, Additional}
 use Rattle.dns_build.specs.State.{State, stage_of, with_record, records_at}
 use Rattle.dns_build.specs.declared.push_error.PushError.{PushError}
 use Rattle.dns_script.specs.declared.opt_plan.OptPlan.{OptPlan}
 use Rattle.dns_script.specs.declared.script.Call.{Call}
-use Rattle.dns_script.specs.declared.script.Call.TheVariants.{PushQuestion, PushRecord, PushOpt, Rewind, TcRewind, ToBuilder, ToQuestion, ToAnswer, ToAuthority, ToAdditional, SetHeader, SetLimit, ClearLimit}
+use Rattle.dns_script.specs.declared.script.Call.TheVariants.{PushQuestion, PushRecord, PushOpt, Rewind, TcRewind, ToBuilder, ToQuestion, ToAnswer, ToAuthority}
+use Rattle.dns_script.specs.declared.script.Call.TheVariants.{ToAdditional, SetHeader, SetLimit, ClearLimit}
 use Rattle.dns_script.specs.declared.script.Reply.{Reply}
 use Rattle.dns_script.specs.declared.script.Reply.TheVariants.{Done, Refused, Misplaced}
 use Rattle.dns_script.specs.Script.{lacks, is_move, has_opt, is_setting, Stays}

@@ -3,10 +3,10 @@ use Rattle.std.specs.Prelude.{◌≡◌, ◌⊎◌, ℕ, ◌+◌, ◌<◌, ◌�
 use Rattle.dns_octets.specs.declared.error.AppendError.{AppendError}
 use Rattle.dns_octets.specs.declared.error.AppendError.TheVariants.{ShortBuf, OutOfMemory}
 use Rattle.dns_code.specs.Header.{HeaderFields}
-use Rattle.dns_opt.specs.OptData.{option_of}
-use Rattle.dns_opt.specs.Options.{OptionItem, encode_options}
-use Rattle.dns_opt_builder.specs.Gathered.{Gathered, gathered, nothing_gathered, with_extended_rcode}
-use Rattle.dns_opt_builder.specs.declared.builder.OptBuilder.{OptBuilder}
+use Rattle.dns_edns.specs.OptData.{option_of}
+use Rattle.dns_edns.specs.Options.{OptionItem, encode_options}
+use Rattle.dns_edns_builder.specs.Gathered.{Gathered, gathered, nothing_gathered, with_extended_rcode}
+use Rattle.dns_edns_builder.specs.declared.builder.OptBuilder.{OptBuilder}
 use Rattle.dns_script.specs.declared.opt_plan.OptPlan.{OptPlan}
 
 -- with this extended RCODE, if there is one
@@ -36,7 +36,8 @@ planned plan g = with_options (planned_options plan) (with_fields plan g)
 abbrev pub planned_beside : HeaderFields → OptPlan → Gathered
 planned_beside header plan = planned plan (nothing_gathered header)
 
--- The result of adding options in order, when those already gathered take n octets. An option fails with `ShortBuf` if all would then take more than 65,535 octets; any other fails only with `OutOfMemory`. The first failure is the result.
+-- The result of adding options in order, when those already gathered take n octets. An option fails with `ShortBuf` if all would then take more than 65,535
+-- octets; any other fails only with `OutOfMemory`. The first failure is the result.
 abbrev pub AddsOptions : ℕ → List OptionItem → Result (Unit {0}) AppendError → Type 0
 AddsOptions n [] outcome = outcome ≡ Ok tt
 AddsOptions n (x ∷ xs) outcome = let m = n + 4 + length x.octets in

@@ -3,11 +3,12 @@ use Rattle.std.specs.Prelude.{◌≡◌, ℕ, Bool, true, false, Option, Result,
 use Rattle.dns_octets.specs.declared.error.AppendError.{AppendError}
 use Rattle.dns_wire.specs.Encoders.{Rule}
 use Rattle.dns_code.specs.Header.{fields}
-use Rattle.dns_opt_builder.specs.Gathered.{Gathered, IsGathered}
-use Rattle.dns_question.specs.Questions.{QuestionItem}
+use Rattle.dns_edns_builder.specs.Gathered.{Gathered, IsGathered}
+use Rattle.dns_item.specs.Questions.{QuestionItem}
 use Rattle.dns_item.specs.Items.{RecordItem}
 use Rattle.dns_build.specs.BuilderStates.{Built, PushReturns, Represents}
-use Rattle.dns_build.specs.State.{encode, State, InBuilder, InQuestion, InAnswer, InAuthority, InAdditional, with_question, with_record, records_at, with_header, with_limit, no_limit, rewound, tc_rewound, move_to}
+use Rattle.dns_build.specs.State.{encode, State, InBuilder, InQuestion, InAnswer, InAuthority, InAdditional, with_question, with_record, records_at}
+use Rattle.dns_build.specs.State.{with_header, with_limit, no_limit, rewound, tc_rewound, move_to}
 use Rattle.dns_build.specs.MessageOf.{IsMessageOf}
 use Rattle.dns_build.specs.Opt.{opt_record, with_opt, OptReturns}
 use Rattle.dns_build.specs.declared.push_error.PushError.{PushError}
@@ -16,7 +17,8 @@ use Rattle.dns_script.specs.OptPlans.{planned_beside, AddsOptions}
 use Rattle.dns_script.specs.declared.script.Stage.{Stage}
 use Rattle.dns_script.specs.declared.script.Stage.TheVariants.{Builder, Question, Answer, Authority, Additional}
 use Rattle.dns_script.specs.declared.script.Call.{Call}
-use Rattle.dns_script.specs.declared.script.Call.TheVariants.{PushQuestion, PushRecord, PushOpt, Rewind, TcRewind, ToBuilder, ToQuestion, ToAnswer, ToAuthority, ToAdditional, SetHeader, SetLimit, ClearLimit}
+use Rattle.dns_script.specs.declared.script.Call.TheVariants.{PushQuestion, PushRecord, PushOpt, Rewind, TcRewind, ToBuilder, ToQuestion, ToAnswer, ToAuthority}
+use Rattle.dns_script.specs.declared.script.Call.TheVariants.{ToAdditional, SetHeader, SetLimit, ClearLimit}
 use Rattle.dns_script.specs.declared.script.Reply.{Reply}
 use Rattle.dns_script.specs.declared.script.Reply.TheVariants.{Done, Refused, Misplaced}
 
@@ -129,7 +131,8 @@ module _ (capacity : Option ℕ) (grows : Bool) where
     abbrev pub IsReplyTo : State → Call Q R → Reply → Type 0
     IsReplyTo s (PushQuestion x) reply = IsPushReply s.limit (length (encode rule (with_question (question x) s)).octets) (length s.questions) reply
     IsReplyTo s (PushRecord x) reply = IsPushReply s.limit (length (encode rule (with_record s.stage (item x) s)).octets) (length (records_at s.stage s)) reply
-    IsReplyTo s (PushOpt plan) reply = let g = planned_beside s.header plan in IsOptReply g s.limit (length (encode rule (with_record InAdditional (opt_record g) s)).octets) (length s.additionals) reply
+    IsReplyTo s (PushOpt plan) reply =
+        let g = planned_beside s.header plan in IsOptReply g s.limit (length (encode rule (with_record InAdditional (opt_record g) s)).octets) (length s.additionals) reply
     IsReplyTo s call reply = reply ≡ Done
 
     -- the reply to a call: `Misplaced` exactly if the stage lacks the call
@@ -159,7 +162,8 @@ module _ (capacity : Option ℕ) (grows : Bool) where
     abbrev pub Stays : state.Stage → Built → Call Q R → Reply → Built → Type 0
     Stays at old call reply new = (s : State) → Represents at rule s old → IsReply s call reply × Represents at rule (after question item s call reply) new
 
-    -- A list of calls on a builder that represents the state `s`. Each call has its reply. The new stage represents the state after the calls. Its octets are a message with the header and items of that state.
+    -- A list of calls on a builder that represents the state `s`. Each call has its reply. The new stage represents the state after the calls. Its octets are a
+    -- message with the header and items of that state.
     pub record Runs {T : Type 0} (s : State) (calls : List (Call Q R)) (replies : List Reply) (new : Stage T) : Type 0 where
       pub replied : AreReplies s calls replies
       pub represents : StageRepresents rule (after_all question item s calls replies) new

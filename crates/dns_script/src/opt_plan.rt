@@ -1,13 +1,13 @@
 //! What a call of a script sets and adds on an OPT builder.
 ghost use Rattle.std.specs.Prelude.{◌≡◌, OnOk, map};
-ghost use Rattle.dns_opt.specs.OptData.{option_of};
-ghost use Rattle.dns_opt_builder.specs.Gathered.{gathered};
+ghost use Rattle.dns_edns.specs.OptData.{option_of};
+ghost use Rattle.dns_edns_builder.specs.Gathered.{gathered};
 ghost use Rattle.dns_script.specs.OptPlans.{with_fields, with_options, gathered_size, AddsOptions, CarriesOut};
 
-use dns_build::OptBuilder;
-use dns_code::OptRcode;
-use dns_data::UnknownOptData;
-use dns_wire::AppendError;
+use dns_edns::UnknownOptData;
+use dns_edns_builder::OptBuilder;
+use dns_iana::OptRcode;
+use dns_octets::AppendError;
 
 /// What a list of calls asks to push as an OPT record (RFC 6891 section 6.1).
 #[derive(Debug, Drop)]

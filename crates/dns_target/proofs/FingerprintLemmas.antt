@@ -26,6 +26,7 @@ pub record IsLast (b : List ℕ) (m : CompressionTable) (n : Labels) (ms : List 
   pub hashed : AreHashed b (x ∷ all_hashed_of (take k ms))
   pub sought : IsSought b m n (table_entries_at (x ∷ all_hashed_of (take k ms)))
 
+-- A fingerprint that was looked at is passed.
 pub looked_at : (b : List ℕ) (m : CompressionTable) (n : Labels) (ms : List Fingerprint) (i k : ℕ) (x : Fingerprint) → i ≡ k + 1
     → IsSuffixSought b m n ms i → x ≡ get_or ms k x → IsLast b m n ms k (hashed_of x)
 looked_at b m n ms i k x e h is =

@@ -3,11 +3,11 @@
 //!
 //!     dnsview [--html | --short] [FILE]
 //!
-//! `dns_view::tool` does the work. It is proved to be safe and to terminate on every input.
+//! `dnsview_tool::tool` does the work. It is proved to be safe and to terminate on every input.
 #![tactic(auto)]
 
-use dns_value_text::Quoted;
-use dns_view::{USAGE, file_of, tool};
+use dnsview_tool::{USAGE, file_of, tool};
+use fields_text::Quoted;
 use std::fs::File;
 use std::io::{BufWriter, ErrorKind, Read};
 use std::process::ExitCode;

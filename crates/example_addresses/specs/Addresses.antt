@@ -30,6 +30,7 @@ abbrev pub lines_from : Option ℕ → List (Result RecordItem Fault) → List �
 lines_from (Some start) records = flat_map address_line records
 lines_from None records = codes "malformed question\n"
 
--- What is printed of a message: a line for each A record of its answer section, in order, up to the first record that can't be read, which has a line too. If a question can't be skipped, one line says that.
+-- What is printed of a message: a line for each A record of its answer section, in order, up to the first record that can't be read, which has a line too. If a
+-- question can't be skipped, one line says that.
 abbrev pub addresses_text : List ℕ → List ℕ
 addresses_text b = lines_from (start_of Answer b) (limited a_layout (records_of Answer b))

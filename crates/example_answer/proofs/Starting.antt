@@ -11,7 +11,8 @@ use Rattle.dns_message.specs.Questions.{QuestionItem}
 use Rattle.dns_message.specs.Records.{RecordItem, OptItem}
 use Rattle.dns_message.specs.Messages.{opt_of, asked_first, first_value}
 use Rattle.dns_message.specs.Sections.{questions_from, question_count}
-use Rattle.dns_message.specs.Builders.{AreAccepted, GivesAnswer, IsEither, answering, readable_questions, ReadsBack, Built, InEach, Represents, fresh, InAnswer, State, with_limit, with_questions, tc_rewound}
+use Rattle.dns_message.specs.Builders.{AreAccepted, GivesAnswer, IsEither, answering, readable_questions, ReadsBack, Built, InEach, Represents, fresh, InAnswer}
+use Rattle.dns_message.specs.Builders.{State, with_limit, with_questions, tc_rewound}
 use Rattle.dns_message.specs.declared.builder.PushError.{PushError}
 use Rattle.dns_message.specs.declared.builder.PushError.TheVariants.{CountOverflow, LimitExceeded, ShortBuf, OutOfMemory}
 use Rattle.dns_message.proofs.CallerLemmas.{questions_from_are_read, readings_of_questions_end, accepted_within}

@@ -17,7 +17,8 @@ pub no_name : (b : List ℕ) → asked_first b ≡ None → CanonicalName b None
 unfolding nth_name
 no_name b none = no_question (ap (option_map (λ (q : QuestionItem). q.name)) none)
 
-module _ (query b : List ℕ) (accepted : IsAccepted query b) (asked : QuestionItem) (asks : asked_first b ≡ Some asked) (for_addresses : is_address_type asked.rtype ≡ true) (reading : List (Result RecordItem Fault)) (is : reading ≡ address_records asked.rtype b) where
+module _ (query b : List ℕ) (accepted : IsAccepted query b) (asked : QuestionItem) (asks : asked_first b ≡ Some asked)
+    (for_addresses : is_address_type asked.rtype ≡ true) (reading : List (Result RecordItem Fault)) (is : reading ≡ address_records asked.rtype b) where
   -- an accepted message gives the addresses that are found for its canonical name
   pub gives : (name : Labels) (class : ℕ) → first_fault (alias_records b) ≡ None → CanonicalName b (Some name) → class ≡ asked.class
       → (found : List IpAddr) → Finds name class reading found → Gives query b found

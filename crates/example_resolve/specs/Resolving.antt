@@ -92,7 +92,8 @@ pub record IsAccepted (query b : List ℕ) : Type 0 where
   pub no_error : opt_rcode_of b ≡ 0
   pub whole : (fields_in (take 4 b)).tc ≡ false
 
--- These are the addresses that an accepted message gives to a query for type A or AAAA: those of this type that the canonical name of its first question owns, in the class of that question. All CNAME records of the answer section can be read.
+-- These are the addresses that an accepted message gives to a query for type A or AAAA: those of this type that the canonical name of its first question owns,
+-- in the class of that question. All CNAME records of the answer section can be read.
 pub record Gives (query b : List ℕ) (found : List IpAddr) : Type 0 where
   pub accepted : IsAccepted query b
   pub asked : QuestionItem

@@ -5,7 +5,8 @@ use Rattle.dns_message.specs.Headers.{HeaderFields}
 use Rattle.dns_message.specs.Targets.{Tree, Written}
 use Rattle.dns_message.specs.Records.{OptItem}
 use Rattle.dns_message.specs.Messages.{opt_of}
-use Rattle.dns_message.specs.Builders.{Built, Gathered, MovesState, Represents, opt_size, PushesOptRecord, Reservation, reservation, limit_left, opt_record, with_header, with_limit, with_opt, with_rcode, with_record, InAdditional, InAnswer, State}
+use Rattle.dns_message.specs.Builders.{Built, Gathered, MovesState, Represents, opt_size, PushesOptRecord, Reservation, reservation, limit_left, opt_record}
+use Rattle.dns_message.specs.Builders.{with_header, with_limit, with_opt, with_rcode, with_record, InAdditional, InAnswer, State}
 use Rattle.dns_message.specs.declared.builder.ReservedOpt.{ReservedOpt}
 use Rattle.dns_message.specs.declared.builder.PushError.{PushError}
 use Rattle.dns_message.specs.declared.builder.PushError.TheVariants.{CountOverflow, LimitExceeded, ShortBuf, OutOfMemory}
@@ -93,7 +94,8 @@ module _ (header : HeaderFields) (s : State) (new : Built) where
       subst (λ (t : State). Represents InAdditional Tree t new) (same_opt header (with_limit 512 s) rcode) own.accepted
 
   -- or none
-  pub with_none : (p : Option OptItem) → IsReserved header p None → Represents InAdditional Tree s new → s.limit ≡ most_before_opt p → Represents InAdditional Tree (opt_if_asked p (with_limit 512 s)) new
+  pub with_none : (p : Option OptItem) → IsReserved header p None → Represents InAdditional Tree s new → s.limit ≡ most_before_opt p
+      → Represents InAdditional Tree (opt_if_asked p (with_limit 512 s)) new
   with_none None none h limit = subst (λ n. Represents InAdditional Tree (with_limit n s) new) limit h
   with_none (Some opt) none h limit = absurd none
 

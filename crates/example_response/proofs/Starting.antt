@@ -7,7 +7,8 @@ use Rattle.dns_message.specs.Questions.{QuestionItem}
 use Rattle.dns_message.specs.Records.{RecordItem, OptItem}
 use Rattle.dns_message.specs.Messages.{opt_of}
 use Rattle.dns_message.proofs.CallerLemmas.{accepted_within, encodings_are_messages}
-use Rattle.dns_message.specs.Builders.{AreAccepted, GivesAnswer, answering, readable_questions, Built, Represents, fresh, IsMessageOf, with_opt, InAdditional, InAnswer, State, encode, move_to, tc_rewound, with_limit, with_questions, with_records}
+use Rattle.dns_message.specs.Builders.{AreAccepted, GivesAnswer, answering, readable_questions, Built, Represents, fresh, IsMessageOf, with_opt, InAdditional}
+use Rattle.dns_message.specs.Builders.{InAnswer, State, encode, move_to, tc_rewound, with_limit, with_questions, with_records}
 use Rattle.dns_message.specs.declared.builder.PushError.{PushError}
 use Rattle.dns_message.specs.declared.builder.PushError.TheVariants.{CountOverflow, LimitExceeded, ShortBuf, OutOfMemory}
 use Rattle.example_response.specs.Response.{IsReason, IsResponse, all_or_none, asked_again, most_before_opt, opt_if_asked, own_opt, response_to, size}

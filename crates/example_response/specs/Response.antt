@@ -4,7 +4,8 @@ use Rattle.dns_message.specs.Targets.{Tree}
 use Rattle.dns_message.specs.Headers.{HeaderFields, fields_in}
 use Rattle.dns_message.specs.Records.{RecordItem, OptItem}
 use Rattle.dns_message.specs.Messages.{opt_of}
-use Rattle.dns_message.specs.Builders.{Gathered, nothing_gathered, answer_header, readable_questions, fresh, size_after, IsMessageOf, with_opt, InAnswer, InAdditional, State, move_to, tc_rewound, with_limit, with_records}
+use Rattle.dns_message.specs.Builders.{Gathered, nothing_gathered, answer_header, readable_questions, fresh, size_after, IsMessageOf, with_opt, InAnswer}
+use Rattle.dns_message.specs.Builders.{InAdditional, State, move_to, tc_rewound, with_limit, with_records}
 use Rattle.dns_message.specs.declared.builder.PushError.{PushError}
 use Rattle.dns_message.specs.declared.builder.PushError.TheVariants.{CountOverflow, LimitExceeded, ShortBuf, OutOfMemory}
 

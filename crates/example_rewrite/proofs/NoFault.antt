@@ -11,7 +11,8 @@ use Rattle.dns_message.specs.Sections.{limited, StartFault, StartsAt}
 use Rattle.dns_message.specs.declared.message.Section.{Section}
 use Rattle.dns_message.specs.declared.message.Section.TheVariants.{Answer, Authority, Additional}
 use Rattle.dns_message.proofs.CallerLemmas.{start_or_fault}
-use Rattle.dns_message.specs.Builders.{CopiesList, CopiesSection, CopiesSections, none as no_record, copied as record_copied, refused, fault, started, unstarted, none as no_section, copied as section_copied, stopped, Stage, State}
+use Rattle.dns_message.specs.Builders.{CopiesList, CopiesSection, CopiesSections, none as no_record, copied as record_copied, refused, fault, started}
+use Rattle.dns_message.specs.Builders.{unstarted, none as no_section, copied as section_copied, stopped, Stage, State}
 use Rattle.dns_message.specs.declared.builder.CopyRecordsError.{CopyRecordsError}
 use Rattle.dns_message.specs.declared.builder.CopyRecordsError.TheVariants.{Parse}
 use Rattle.dns_message.specs.Fields.{type_layout}

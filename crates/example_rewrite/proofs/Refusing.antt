@@ -11,7 +11,10 @@ use Rattle.dns_message.proofs.CallerLemmas.{readings_of_records_end, records_fro
 use Rattle.dns_message.specs.Sections.{in_octets, records_from, records_in, record_count}
 use Rattle.dns_message.specs.declared.message.Section.{Section}
 use Rattle.dns_message.specs.declared.message.Section.TheVariants.{Answer, Authority, Additional}
-use Rattle.dns_message.specs.Builders.{RefusesAfter, CopiesList, CopiesSection, CopiesSections, PushesKept, record_sections, none as no_record, copied as record_copied, refused, fault, started, unstarted, none as no_section, copied as section_copied, stopped, PushReturns, size_after, Every, InAdditional, InAnswer, InAuthority, InBuilder, InQuestion, Stage, State, most_entries, move_to, no_limit, records_at, stage_of, up_to, with_question, with_questions, with_record}
+use Rattle.dns_message.specs.Builders.{RefusesAfter, CopiesList, CopiesSection, CopiesSections, PushesKept, record_sections, none as no_record}
+use Rattle.dns_message.specs.Builders.{copied as record_copied, refused, fault, started, unstarted, none as no_section, copied as section_copied, stopped}
+use Rattle.dns_message.specs.Builders.{PushReturns, size_after, Every, InAdditional, InAnswer, InAuthority, InBuilder, InQuestion, Stage, State, most_entries}
+use Rattle.dns_message.specs.Builders.{move_to, no_limit, records_at, stage_of, up_to, with_question, with_questions, with_record}
 use Rattle.dns_message.specs.declared.builder.CopyRecordsError.{CopyRecordsError}
 use Rattle.dns_message.specs.declared.builder.CopyRecordsError.TheVariants.{Push}
 use Rattle.dns_message.specs.declared.builder.PushError.{PushError}
@@ -37,8 +40,10 @@ more_short : (stage : Stage) (s : State) (x : RecordItem) → HasShortItems s �
 more_short InBuilder s x is one = is
 more_short InQuestion s x is one = is
 more_short InAnswer s x is one = record { questions = is.questions; answers = every_append IsShort s.answers (x ∷ []) is.answers (one, tt); authorities = is.authorities; additionals = is.additionals }
-more_short InAuthority s x is one = record { questions = is.questions; answers = is.answers; authorities = every_append IsShort s.authorities (x ∷ []) is.authorities (one, tt); additionals = is.additionals }
-more_short InAdditional s x is one = record { questions = is.questions; answers = is.answers; authorities = is.authorities; additionals = every_append IsShort s.additionals (x ∷ []) is.additionals (one, tt) }
+more_short InAuthority s x is one =
+    record { questions = is.questions; answers = is.answers; authorities = every_append IsShort s.authorities (x ∷ []) is.authorities (one, tt); additionals = is.additionals }
+more_short InAdditional s x is one =
+    record { questions = is.questions; answers = is.answers; authorities = is.authorities; additionals = every_append IsShort s.additionals (x ∷ []) is.additionals (one, tt) }
 
 -- and it has one item more
 more_items : (stage : Stage) (s : State) (x : RecordItem) → items_of (with_record stage x s) ≤ items_of s + 1

@@ -1,5 +1,6 @@
 -- What is printed for consecutive items.
-use Rattle.std.proofs.Common.{◌≡◌, ◌∙◌, ℕ, ◌+◌, ◌<◌, inl, inr, Bool, true, false, Option, Some, Result, Ok, Err, OnOk, List, [], ◌∷◌, ◌++◌, map, take, drop, length, get_or, ap, refl, sym, subst, append-nil, append_assoc, codes, arith}
+use Rattle.std.proofs.Common.{◌≡◌, ◌∙◌, ℕ, ◌+◌, ◌<◌, inl, inr, Bool, true, false, Option, Some, Result, Ok, Err, OnOk, List, [], ◌∷◌, ◌++◌, map, take, drop}
+use Rattle.std.proofs.Common.{length, get_or, ap, refl, sym, subst, append-nil, append_assoc, codes, arith}
 use Rattle.std.specs.Fmt.{◌++?◌, decimal}
 use Rattle.std.specs.Io.KnownBytes.{Appends}
 use Rattle.std.specs.List.{concat, list_all, AllZip}
@@ -73,7 +74,8 @@ module _ (items : List Item) where
   fault_reported (octet ∷ rest) a e = subst (λ (l : List ℕ). Appends a a l) (sym (last_line octet rest false e)) (appends_none a)
 
   -- otherwise it is printed
-  pub ending_printed : {X E : Type 0} (r : Result X E) (rest : List ℕ) (a b : Option (List ℕ)) → (length rest ≡ 0 → ⊥) → list_all is_ok items ≡ true → OnOk r (Appends a b (codes "; unreadable message\n"))
+  pub ending_printed : {X E : Type 0} (r : Result X E) (rest : List ℕ) (a b : Option (List ℕ)) → (length rest ≡ 0 → ⊥) → list_all is_ok items ≡ true
+      → OnOk r (Appends a b (codes "; unreadable message\n"))
       → OnOk r (Appends a b (ending (map record_result items) rest))
   ending_printed r [] a b some e h = absurd (some refl)
   ending_printed r (octet ∷ rest) a b some e h = subst (λ (l : List ℕ). OnOk r (Appends a b l)) (sym (last_line octet rest true e)) h
@@ -158,7 +160,9 @@ module _ (x : EncodedRecord) where
 -- what is printed of a record with its RDATA as octets
 pub octets_printed : {D : Type 0} (type_of : D → ℕ) (octets_of : D → List ℕ) (r : Record ParsedName D) (owner : List ℕ) (ttl class rtype : ℕ) (octets : List ℕ)
     → owner ≡ zone_name_text (labels (owner_of r)) → ttl ≡ ttl_of r → class ≡ class_of r → rtype ≡ type_of (data_of r) → octets ≡ octets_of (data_of r)
-    → Some owner ++? (Some (codes " ") ++? (Some (decimal ttl) ++? (Some (codes " ") ++? (Some (class_text class) ++? (Some (codes " ") ++? (Some (type_word rtype) ++? (Some (codes " ") ++? (Some (opaque_text octets) ++? Some (10 ∷ [])))))))))
+    → Some owner ++? (Some (codes " ") ++?
+    (Some (decimal ttl) ++?
+    (Some (codes " ") ++? (Some (class_text class) ++? (Some (codes " ") ++? (Some (type_word rtype) ++? (Some (codes " ") ++? (Some (opaque_text octets) ++? Some (10 ∷ [])))))))))
     ≡ Some (octets_line type_of octets_of r)
 octets_printed type_of octets_of r owner ttl class rtype octets o t c y d =
     ap Some (simp append_assoc) ∙ λ i. Some (line (record_text (o i) (t i) (c i) (y i) (opaque_text (d i))))

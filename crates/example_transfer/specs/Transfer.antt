@@ -25,7 +25,8 @@ pub record AreMessagesOf (stream : List ℕ) (messages : List (List ℕ)) (rest 
 abbrev pub Taken : Type 0
 Taken = Result EncodedRecord Fault
 
--- What the answer section of a message gives. If it has a start: its records, or those before the first that can't be read and the fault of that one. If it has no start: the fault of the first question that can't be skipped.
+-- What the answer section of a message gives. If it has a start: its records, or those before the first that can't be read and the fault of that one. If it has
+-- no start: the fault of the first question that can't be skipped.
 pub data AreAnswersOf (b : List ℕ) : List Taken → Type 0 where
   section : (p : ℕ) → AnswersStart b p → AreAnswersOf b (records_in b (answer_count b) p)
   no_section : (f : Fault) → AnswersFault b f → AreAnswersOf b (Err f ∷ [])

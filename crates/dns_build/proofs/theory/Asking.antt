@@ -1,7 +1,7 @@
 -- The lengths of messages to which questions are pushed.
 use Rattle.std.proofs.Common.{◌≡◌, ◌≤◌, ℕ, Bool, Option, List, [], ◌∷◌, ◌++◌, append_assoc, append-nil, sym, refl, subst}
 use Rattle.dns_wire.specs.Encoders.{Rule}
-use Rattle.dns_question.specs.Questions.{QuestionItem}
+use Rattle.dns_item.specs.Questions.{QuestionItem}
 use Rattle.dns_build.specs.Answers.{AreAccepted}
 use Rattle.dns_build.specs.BuilderStates.{size_after}
 use Rattle.dns_build.specs.State.{State, with_question, with_questions}

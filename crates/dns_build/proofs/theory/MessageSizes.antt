@@ -4,7 +4,7 @@ use Rattle.std.proofs.lemmas.List.{append-nil, map-append, length-map}
 use Rattle.std.specs.Prelude.{map}
 use Rattle.dns_wire.specs.Encoders.{CompressionTable, Encoder, Rule, nothing}
 use Rattle.dns_code.proofs.theory.HeaderOctets.{length-octets_of_fields}
-use Rattle.dns_question.specs.Questions.{QuestionItem, encode_question}
+use Rattle.dns_item.specs.Questions.{QuestionItem, encode_question}
 use Rattle.dns_item.specs.Items.{RecordItem, encode_record}
 use Rattle.dns_build.specs.BuilderStates.{size_after}
 use Rattle.dns_build.specs.State.{InAnswer, InQuestion, State, Every, all_of, encode, encoders_of, head_of, move_to, tc_rewound, up_to, with_records}

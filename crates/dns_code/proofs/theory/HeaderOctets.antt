@@ -157,7 +157,3 @@ fields_in-take (x ∷ y ∷ z ∷ w ∷ b) = refl
 -- octets that begin with those of fields have these fields
 pub fields_in-octets : (b : List ℕ) (f : HeaderFields) → IsHeader f → take 4 b ≡ octets_of_fields f → fields_in b ≡ f
 fields_in-octets b f is begins = sym (fields_in-take b) ∙ ap fields_in begins ∙ fields_in-octets_of_fields f is
-
--- four octets are those of their fields
-pub octets-fields_in : (header : List ℕ) (f : HeaderFields) → AreOctets header 4 → fields_in header ≡ f → header ≡ octets_of_fields f
-octets-fields_in header f are is = sym (octets_of_fields-fields_in header are) ∙ ap octets_of_fields is

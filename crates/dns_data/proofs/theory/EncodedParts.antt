@@ -29,7 +29,8 @@ pub string_size-range : (b : List ℕ) (p n : ℕ) (octets : List ℕ) → 0 < n
 string_size-range b p n octets l is =
     let size : p + n - p ≡ n = omega arith in
     let start : p + 0 ≡ p = omega arith in
-    let first : slice_index (slice_range b p (p + n)) 0 ≡ slice_index b p = ap (λ k. slice_index (take k (drop p b)) 0) size ∙ get_or-take n (drop p b) 0 0 l ∙ get_or-drop p b 0 0 ∙ ap (slice_index b) start in
+    let first : slice_index (slice_range b p (p + n)) 0 ≡ slice_index b p = ap (λ k. slice_index (take k (drop p b)) 0) size ∙ get_or-take n (drop p b) 0 0 l
+    ∙ get_or-drop p b 0 0 ∙ ap (slice_index b) start in
     ap (λ (xs : List ℕ). string_size xs 0) (sym is) ∙ ap (λ k. 1 + k) first
 
 -- the size of octets preceded by their length is given by the two octets at their offset
@@ -37,7 +38,8 @@ pub octets_size-range : (b : List ℕ) (p n : ℕ) (octets : List ℕ) → 1 < n
 octets_size-range b p n octets l is =
     let size : p + n - p ≡ n = omega arith in
     let start : p + 0 ≡ p = omega arith in
-    let first : slice_index (slice_range b p (p + n)) 0 ≡ slice_index b p = ap (λ k. slice_index (take k (drop p b)) 0) size ∙ get_or-take n (drop p b) 0 0 (omega arith) ∙ get_or-drop p b 0 0 ∙ ap (slice_index b) start in
+    let first : slice_index (slice_range b p (p + n)) 0 ≡ slice_index b p = ap (λ k. slice_index (take k (drop p b)) 0) size ∙ get_or-take n (drop p b) 0 0
+    (omega arith) ∙ get_or-drop p b 0 0 ∙ ap (slice_index b) start in
     let second : slice_index (slice_range b p (p + n)) 1 ≡ slice_index b (p + 1) = ap (λ k. slice_index (take k (drop p b)) 1) size ∙ get_or-take n (drop p b) 1 0 l ∙ get_or-drop p b 1 0 in
     ap (λ (xs : List ℕ). octets_size xs 0) (sym is) ∙ (ap (λ k. 2 + (k * 256 + slice_index (slice_range b p (p + n)) 1)) first ∙ ap (λ k. 2 + (slice_index b p * 256 + k)) second)
 
@@ -90,4 +92,5 @@ encoded_parts_read b end p (DomainName layout) (UncompressedName a name ∷ part
 encoded_parts_read b end p (UncompressedDomainName pointers lowercased layout) [] l h is = absurd is
 encoded_parts_read b end p (UncompressedDomainName pointers lowercased layout) (Octets octets ∷ parts) l h is = absurd is
 encoded_parts_read b end p (UncompressedDomainName pointers lowercased layout) (CompressibleName name ∷ parts) l h is = absurd is
-encoded_parts_read b end p (UncompressedDomainName pointers lowercased layout) (UncompressedName a name ∷ parts) l h is = (h.0, h.1, h.2, encoded_parts_read b end h.0 layout parts l h.3 is.1, is.0, whole_may_be_encoded pointers name p h.0 h.4)
+encoded_parts_read b end p (UncompressedDomainName pointers lowercased layout) (UncompressedName a name ∷ parts) l h is =
+    (h.0, h.1, h.2, encoded_parts_read b end h.0 layout parts l h.3 is.1, is.0, whole_may_be_encoded pointers name p h.0 h.4)

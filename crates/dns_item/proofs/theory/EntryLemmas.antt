@@ -3,7 +3,7 @@ use Rattle.std.proofs.Common.{◌≡◌, ℕ, ◌+◌, ◌<◌, ◌≤◌, ◌�
 use Rattle.std.specs.Int.{w16, w32}
 use Rattle.dns_name.specs.Parsers.{number_at}
 use Rattle.dns_name.proofs.theory.Names.{one_name, one_end}
-use Rattle.dns_question.proofs.theory.FieldsAfterNames.{long_or_short, one_name_end, one_fields_end, fields_from, ends_or_faults, reads_or_faults}
+use Rattle.dns_item.proofs.theory.FieldsAfterNames.{long_or_short, one_name_end, one_fields_end, fields_from, ends_or_faults, reads_or_faults}
 use Rattle.dns_item.specs.Items.{HeaderEntry, ReadsHeader, ReadsRecord, RecordEntry, LacksRecord, HeaderOrFault, RecordOrFault, RecordEndOrFault, RecordSkipAgrees}
 use Rattle.dns_item.specs.Items.LacksRecord.{fields, rdata}
 

@@ -7,7 +7,9 @@ use Rattle.dns_name.specs.Parsers.{number_at}
 use Rattle.dns_wire.specs.Parts.{PartsAt, encode_parts}
 use Rattle.dns_wire.specs.Targets.{Written, IsTarget, append}
 use Rattle.dns_wire.proofs.theory.EncodedNames.{encode_name_grows, encode_octets_grows, encode_parts_grows, both_grows, with_length_grows}
-use Rattle.dns_wire.proofs.theory.EncoderLaws.{number_16, number_32, HasLength, stable_length, encodes_with_length, Encodes, IsStable, Consecutive, stable_after, encodes_both, HasOctets, stable_octets, encodes_octets, HasName, stable_name, encodes_name, HasParts, stable_parts, encodes_parts, parts_rise, parts_within, parts_at}
+use Rattle.dns_wire.proofs.theory.EncoderLaws.{number_16, number_32, HasLength, stable_length, encodes_with_length, Encodes, IsStable, Consecutive}
+use Rattle.dns_wire.proofs.theory.EncoderLaws.{stable_after, encodes_both, HasOctets, stable_octets, encodes_octets, HasName, stable_name, encodes_name}
+use Rattle.dns_wire.proofs.theory.EncoderLaws.{HasParts, stable_parts, encodes_parts, parts_rise, parts_within, parts_at}
 use Rattle.dns_wire.proofs.theory.NameSizes.{parts_are_short}
 use Rattle.dns_wire.proofs.theory.CompressedNames.{at_first, at_second, at_offset, compressed_name_at, compressed_ends}
 use Rattle.dns_item.specs.Items.{RecordEntry, ReadsRecordItem, RecordItem, IsRecord, record_fields, encode_record, RecordsGrow, RecordsReadBack}
@@ -35,7 +37,8 @@ encodes_record rule x is =
     let inner = encode_parts rule x.parts in
     let small : (m : CompressionTable) (w : ℕ) → length (inner m w).octets ≤ 65535 = λ m w. let a = parts_are_short rule x.parts m w in let b = is.short in omega arith in
     let last = encodes_with_length inner (HasParts x.parts) small (encodes_parts rule x.parts is.parts) in
-    let after = encodes_both (encode_octets (record_fields x)) (with_length inner) (HasOctets (record_fields x)) (HasLength (HasParts x.parts)) (stable_octets (record_fields x)) (encodes_octets (record_fields x)) last in
+    let after = encodes_both (encode_octets (record_fields x)) (with_length inner) (HasOctets (record_fields x)) (HasLength (HasParts x.parts))
+    (stable_octets (record_fields x)) (encodes_octets (record_fields x)) last in
     encodes_both (encode_name rule x.owner) (both (encode_octets (record_fields x)) (with_length inner)) (HasName x.owner) (Consecutive (HasOctets (record_fields x)) (HasLength (HasParts x.parts)))
     (stable_name x.owner) (encodes_name rule x.owner is.owner) after
 

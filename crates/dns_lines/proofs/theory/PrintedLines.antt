@@ -34,7 +34,8 @@ on_ok (Ok x) f h = f h
 on_ok (Err e) f h = h
 
 -- a value whose text is known is printed
-pub printed_as : {X E : Type 0} (a b : Option (List ℕ)) (output : Option (List ℕ)) (text : List ℕ) (r : Result X E) → output ≡ Some text → OnOk r (IfSome output (Appends a b)) → OnOk r (Appends a b text)
+pub printed_as : {X E : Type 0} (a b : Option (List ℕ)) (output : Option (List ℕ)) (text : List ℕ) (r : Result X E) → output ≡ Some text
+    → OnOk r (IfSome output (Appends a b)) → OnOk r (Appends a b text)
 printed_as a b output text r is h = subst (λ (o : Option (List ℕ)). OnOk r (IfSome o (Appends a b))) is h
 
 -- a text is printed, and then another

@@ -18,8 +18,8 @@ use Rattle.dns_item.specs.ParsedData.IsParsedData.{whole, fault}
 use Rattle.dns_item.proofs.theory.TypedLemmas.{data_is_parsed}
 use Rattle.dns_item.specs.ParsedRecord.{EncodedRecord, encoded_record, parsed_entry}
 use Rattle.dns_item.specs.declared.parsed_record.ParsedRecord.{ParsedRecord}
-use Rattle.dns_section.specs.RecordSection.{MovesPastRecord, position}
-use Rattle.dns_section.specs.declared.record_section.RecordSection.{RecordSection}
+use Rattle.dns_read.specs.RecordSection.{MovesPastRecord, position}
+use Rattle.dns_read.specs.declared.record_section.RecordSection.{RecordSection}
 use Rattle.dns_item.specs.RecordPrinting.{record_fields_text}
 use Rattle.dns_item.specs.RecordReading.{up_to_rdata_end, ReturnsLaidOut, HasData, HasDataFault, IsRecordOf, GivesTaken}
 use Rattle.dns_item.specs.RecordReading.WholeDataFaultAt.{first, left_over}
@@ -73,7 +73,8 @@ printed_made word make value text is =
 module _ {D : Type 0} (rtype_of : D → ℕ) (parts_of : D → List Part) (x : EncodedRecord) where
   -- the text of a record, by the fields that were read
   pub same_text : (r : Record ParsedName D) (parts : List Part) → IsRecordOf rtype_of parts_of x.octets x.entry parts r → (text : List ℕ)
-      → record_fields_text (name_text (labels (owner_of r))) (ttl_of r) (class_of r) (rtype_of (data_of r)) text ≡ record_fields_text (name_text x.entry.owner) x.entry.ttl x.entry.class x.entry.rtype text
+      → record_fields_text (name_text (labels (owner_of r))) (ttl_of r) (class_of r) (rtype_of (data_of r)) text
+      ≡ record_fields_text (name_text x.entry.owner) x.entry.ttl x.entry.class x.entry.rtype text
   same_text r parts is text = λ i. record_fields_text (name_text (is i).owner) (is i).ttl (is i).class (is i).rtype text
 
   -- if a record is returned, its type has a layout and its RDATA has parts of this layout

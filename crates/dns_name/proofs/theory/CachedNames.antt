@@ -115,16 +115,6 @@ pub record Leading (b : List ℕ) (p s q r k : ℕ) : Type 0 where
   pub names : (name : Labels) → NameAt b q name → r + name_size name ≤ max_size → Longer b p s r k name
   pub faults : (f : Fault) → Faulty b q r f → Faulty b p s f
 
--- A walk over labels and pointers that has skipped nothing is where it began.
-pub leading_none : (b : List ℕ) (p s : ℕ) → p ≤ length b → s ≤ max_size → Leading b p s p s 0
-leading_none b p s within short = record {
-  within = within;
-  short = short;
-  few = omega arith;
-  names = λ name m h. (name, m, refl, omega arith);
-  faults = λ f m. m;
-}
-
 -- The walk goes on after consecutive labels.
 pub leading_row : (b : List ℕ) (p s q r k q' n : ℕ) (target : Option ℕ) → Leading b p s q r k → SkipsLabels b q r q' n target
     → Leading b p s q' (r + (q' - q)) (k + n)

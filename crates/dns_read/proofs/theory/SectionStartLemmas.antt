@@ -5,14 +5,14 @@ use Rattle.std.specs.Result.{result_ok}
 use Rattle.std.specs.Option.{option_map_or}
 use Rattle.dns_name.specs.Names.{Fault, fault_of}
 use Rattle.dns_octets.specs.declared.error.ParseError.{ParseError}
-use Rattle.dns_section.specs.Readings.{StartsOrFaults}
-use Rattle.dns_section.specs.RecordSection.{position, records_left, BeginsSection}
-use Rattle.dns_section.specs.RecordsFrom.{records_in}
-use Rattle.dns_section.specs.Sections.{AnswersFault, AuthoritiesFault, AdditionalsFault, record_count, StartsAt}
-use Rattle.dns_section.specs.declared.record_section.RecordSection.{RecordSection}
-use Rattle.dns_section.specs.declared.section.Section.{Section}
-use Rattle.dns_section.specs.declared.section.Section.TheVariants.{Answer, Authority, Additional}
-use Rattle.dns_section.proofs.theory.StartLemmas.{start_or_fault}
+use Rattle.dns_read.specs.Readings.{StartsOrFaults}
+use Rattle.dns_read.specs.RecordSection.{position, records_left, BeginsSection}
+use Rattle.dns_read.specs.RecordsFrom.{records_in}
+use Rattle.dns_read.specs.Sections.{AnswersFault, AuthoritiesFault, AdditionalsFault, record_count, StartsAt}
+use Rattle.dns_read.specs.declared.record_section.RecordSection.{RecordSection}
+use Rattle.dns_read.specs.declared.section.Section.{Section}
+use Rattle.dns_read.specs.declared.section.Section.TheVariants.{Answer, Authority, Additional}
+use Rattle.dns_read.proofs.theory.StartLemmas.{start_or_fault}
 use Rattle.dns_read.specs.SectionStarts.{found, start_of, records_of, StartsAreFound}
 
 module _ {Start : ℕ → Type 0} {FaultOf : Fault → Type 0} (h : StartsOrFaults Start FaultOf) where

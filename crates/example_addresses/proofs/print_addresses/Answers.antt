@@ -30,7 +30,8 @@ loop-item-preserved-in-Continue-1 g c =
     (name_text (labels c.owner.result.now) ++ (codes " " ++ (address_text c.data.result.now ++ codes "\n"))) = c.in_ok-writeln-in-Ok-item.ensures.bytes in
     let same = regrouped (name_text (labels c.owner.result.now)) (codes " ") (address_text c.data.result.now) (codes "\n") ∙
     (λ i. name_text (labels (c.owner.ensures i)) ++ codes " " ++ address_text (c.data.ensures i) ++ codes "\n") in
-    more_printed address_line _ _ _ _ _ _ _ c.loop-item.invariant given (subst (λ (xs : List ℕ). Appends (g.W.Write.contents c.loop-item.output) (g.W.Write.contents c.writeln-in-Ok-item.new.self) xs) same text)
+    more_printed address_line _ _ _ _ _ _ _ c.loop-item.invariant given
+    (subst (λ (xs : List ℕ). Appends (g.W.Write.contents c.loop-item.output) (g.W.Write.contents c.writeln-in-Ok-item.new.self) xs) same text)
 
 pub loop-item-preserved : goal.loop-item-preserved
 loop-item-preserved g c =
@@ -42,6 +43,7 @@ returns g c =
     let b = message_octets c.args.message.now in
     let begins = c.in-Ok.ensures.starts in
     let start = ap (λ o. lines_from o (limited a_layout (records_of Answer b))) (start_found Answer b (position c.in-Ok.answers) begins.start) in
-    let left = ap (typed_left a_layout) c.into_iter-item-iterator.ensures.into_iter_gives ∙ c.limit_to-item-items.ensures.left ∙ ap (limited a_layout) (begins_reading Answer b c.in-Ok.answers begins) in
+    let left = ap (typed_left a_layout) c.into_iter-item-iterator.ensures.into_iter_gives ∙ c.limit_to-item-items.ensures.left
+    ∙ ap (limited a_layout) (begins_reading Answer b c.in-Ok.answers begins) in
     let printed = all_printed address_line _ _ _ _ c.loop-item.invariant c.in-None.ensures.steps.steps.0 in
     subst (λ (xs : List ℕ). Appends (g.W.Write.contents c.args.output.now) (g.W.Write.contents c.loop-item.output) xs) (ap (flat_map address_line) left ∙ sym start) printed

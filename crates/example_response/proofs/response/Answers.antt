@@ -12,7 +12,8 @@ use Rattle.example_response.proofs.Answering.{AddsAllOrNone, adds_all, adds_none
 use Rattle.example_response.proofs.Opts.{IsReserved, IsStarted, left_over, not_reserved, opt_refused, started_with, started_without, with_none, with_reserved}
 use Rattle.example_response.proofs.Sizes.{size_limited}
 use Rattle.example_response.proofs.Starting.{answered_within, for_memory, limit_kept, most_small, no_additional, not_started, rcode_kept, response_of, started_within}
-use Rattle.example_response.proofs.response.Goals.{in-Some+in_ok-reserve_opt-in-Some, in-None, else-loop-answer-test, then-loop-answer-test+in-Err-LimitExceeded, in-Some-reserved+in_ok-push_reserved, in_default}
+use Rattle.example_response.proofs.response.Goals.{in-Some+in_ok-reserve_opt-in-Some, in-None, else-loop-answer-test}
+use Rattle.example_response.proofs.response.Goals.{then-loop-answer-test+in-Err-LimitExceeded, in-Some-reserved+in_ok-push_reserved, in_default}
 use Rattle.example_response.proofs.response.Goals as goal
 
 pub returns-in_err-builder-2-clause-err : goal.returns-in_err-builder-2-clause-err
@@ -26,7 +27,8 @@ returns-in_err-reserve_opt-in-Some-clause-err g c =
     let b = message_octets c.args.query.now in
     let start = c.in_ok-builder-2.ensures _ (c.set_push_limit.ensures _ c.in_ok-builder.ensures.fresh) in
     let p = err_from_is_err_and c.from_residual-in_err-reserve_opt-in-Some.result c.from_residual-in_err-reserve_opt-in-Some.ensures.1 in
-    rw (p.1, p.2) (not_reserved b (opt_item c.in-Some.field-0) (sym c.opt.ensures ∙ ap (option_map opt_item) c.in-Some.is) (fields c.header.result) (gathered c.own_opt.result) c.in_ok-builder-2.builder
+    rw (p.1, p.2) (not_reserved b (opt_item c.in-Some.field-0) (sym c.opt.ensures ∙ ap (option_map opt_item) c.in-Some.is) (fields c.header.result)
+    (gathered c.own_opt.result) c.in_ok-builder-2.builder
     start.1 (c.header.ensures _ start.1) c.own_opt.ensures c.in_err-reserve_opt-in-Some.field-0.0 c.in_err-reserve_opt-in-Some.ensures.exceeds)
 
 pub loop-answer-preserved : goal.loop-answer-preserved
@@ -43,7 +45,8 @@ returns-in-Err g c =
     let started : IsStarted b c.match-opt.reserved c.match-opt.builder =
     elim c.match-opt.branch [
       | in-Some+in_ok-reserve_opt-in-Some w ↦
-          rw (w.reserved-is, w.builder-is) (started_with b (opt_item w.in-Some.field-0) (sym c.opt.ensures ∙ ap (option_map opt_item) w.in-Some.is) (fields w.header.result) (gathered w.own_opt.result) c.in_ok-builder-2.builder
+          rw (w.reserved-is, w.builder-is)
+          (started_with b (opt_item w.in-Some.field-0) (sym c.opt.ensures ∙ ap (option_map opt_item) w.in-Some.is) (fields w.header.result) (gathered w.own_opt.result) c.in_ok-builder-2.builder
           start.1 (w.header.ensures _ start.1) w.own_opt.ensures _ _ w.in_ok-reserve_opt-in-Some.ensures.reserved w.in_ok-reserve_opt-in-Some.ensures.lowered w.in_ok-reserve_opt-in-Some.ensures.fits)
       | in-None w ↦ rw (w.reserved-is, w.builder-is) (started_without b _ (sym c.opt.ensures ∙ ap (option_map opt_item) w.in-None.is) start.1 (started_within b start.0))
     ] in
@@ -59,7 +62,8 @@ returns-in_err-push_reserved-clause-err g c =
     let started : IsStarted b c.match-opt.reserved c.match-opt.builder =
     elim c.match-opt.branch [
       | in-Some+in_ok-reserve_opt-in-Some w ↦
-          rw (w.reserved-is, w.builder-is) (started_with b (opt_item w.in-Some.field-0) (sym c.opt.ensures ∙ ap (option_map opt_item) w.in-Some.is) (fields w.header.result) (gathered w.own_opt.result) c.in_ok-builder-2.builder
+          rw (w.reserved-is, w.builder-is)
+          (started_with b (opt_item w.in-Some.field-0) (sym c.opt.ensures ∙ ap (option_map opt_item) w.in-Some.is) (fields w.header.result) (gathered w.own_opt.result) c.in_ok-builder-2.builder
           start.1 (w.header.ensures _ start.1) w.own_opt.ensures _ _ w.in_ok-reserve_opt-in-Some.ensures.reserved w.in_ok-reserve_opt-in-Some.ensures.lowered w.in_ok-reserve_opt-in-Some.ensures.fits)
       | in-None w ↦ rw (w.reserved-is, w.builder-is) (started_without b _ (sym c.opt.ensures ∙ ap (option_map opt_item) w.in-None.is) start.1 (started_within b start.0))
     ] in
@@ -72,7 +76,8 @@ returns-in_err-push_reserved-clause-err g c =
       | then-loop-answer-test+in-Err-LimitExceeded w ↦
           rw w.builder-is (adds_none_if_full g.R.ComposeRecord.item c.args.answers.now c.loop-answer.answer-index w.answer-item.result _ w.loop-answer-test.true w.answer-item.is
           c.match-opt.builder w.push_ref.new.self _ (rw w.in-Err-LimitExceeded.ensures.refused c.loop-answer.invariant.pushes)
-          w.in-Err-LimitExceeded.field-0 (first_of (search rules, grind arith)) (rw w.in-Err-LimitExceeded.ensures.refused w.in-Err-LimitExceeded.ensures.outcome.each) w.tc_rewind_into-builder.ensures)
+          w.in-Err-LimitExceeded.field-0 (first_of (search rules, grind arith))
+          (rw w.in-Err-LimitExceeded.ensures.refused w.in-Err-LimitExceeded.ensures.outcome.each) w.tc_rewind_into-builder.ensures)
     ] in
     let before : State = move_to InAdditional (all_or_none xs (asked_again b)) in
     let ended = c.additional-builder.ensures _ (added (asked_again b) started.represents started.within) in
@@ -82,7 +87,8 @@ returns-in_err-push_reserved-clause-err g c =
     let same = ap (λ (w : Written). length w.octets) ended.written in
     let e = size_limited before 512 in
     let p = err_from_is_err_and c.from_residual-in_err-push_reserved.result c.from_residual-in_err-push_reserved.ensures.1 in
-    let memory = opt_refused (asked_again b).header before _ (reservation c.in-Some-reserved.reserved) c.in_err-push_reserved.field-0.0 (c.in_err-push_reserved.ensures.pushes _ ended) (no_additional b xs)
+    let memory = opt_refused (asked_again b).header before _ (reservation c.in-Some-reserved.reserved) c.in_err-push_reserved.field-0.0
+    (c.in_err-push_reserved.ensures.pushes _ ended) (no_additional b xs)
     (λ is. c.in_err-push_reserved.ensures.fits (omega (arith, left, n, same, e)) (ap Err is)) in
     rw (p.1, p.2) (for_memory b c.in_err-push_reserved.field-0.0 memory)
 
@@ -93,7 +99,8 @@ returns-clause-ok g c =
     let started : IsStarted b c.match-opt.reserved c.match-opt.builder =
     elim c.match-opt.branch [
       | in-Some+in_ok-reserve_opt-in-Some w ↦
-          rw (w.reserved-is, w.builder-is) (started_with b (opt_item w.in-Some.field-0) (sym c.opt.ensures ∙ ap (option_map opt_item) w.in-Some.is) (fields w.header.result) (gathered w.own_opt.result) c.in_ok-builder-2.builder
+          rw (w.reserved-is, w.builder-is)
+          (started_with b (opt_item w.in-Some.field-0) (sym c.opt.ensures ∙ ap (option_map opt_item) w.in-Some.is) (fields w.header.result) (gathered w.own_opt.result) c.in_ok-builder-2.builder
           start.1 (w.header.ensures _ start.1) w.own_opt.ensures _ _ w.in_ok-reserve_opt-in-Some.ensures.reserved w.in_ok-reserve_opt-in-Some.ensures.lowered w.in_ok-reserve_opt-in-Some.ensures.fits)
       | in-None w ↦ rw (w.reserved-is, w.builder-is) (started_without b _ (sym c.opt.ensures ∙ ap (option_map opt_item) w.in-None.is) start.1 (started_within b start.0))
     ] in
@@ -106,15 +113,19 @@ returns-clause-ok g c =
       | then-loop-answer-test+in-Err-LimitExceeded w ↦
           rw w.builder-is (adds_none_if_full g.R.ComposeRecord.item c.args.answers.now c.loop-answer.answer-index w.answer-item.result _ w.loop-answer-test.true w.answer-item.is
           c.match-opt.builder w.push_ref.new.self _ (rw w.in-Err-LimitExceeded.ensures.refused c.loop-answer.invariant.pushes)
-          w.in-Err-LimitExceeded.field-0 (first_of (search rules, grind arith)) (rw w.in-Err-LimitExceeded.ensures.refused w.in-Err-LimitExceeded.ensures.outcome.each) w.tc_rewind_into-builder.ensures)
+          w.in-Err-LimitExceeded.field-0 (first_of (search rules, grind arith))
+          (rw w.in-Err-LimitExceeded.ensures.refused w.in-Err-LimitExceeded.ensures.outcome.each) w.tc_rewind_into-builder.ensures)
     ] in
     let before : State = move_to InAdditional (all_or_none xs (asked_again b)) in
     let ended = c.additional-builder.ensures _ (added (asked_again b) started.represents started.within) in
     let represents : Represents InAdditional Tree (response_to b xs) c.match-reserved-2.builder =
     elim c.match-reserved-2.branch [
       | in-Some-reserved+in_ok-push_reserved w ↦
-          rw w.builder-is (with_reserved (asked_again b).header before _ (opt_of b) w.in-Some-reserved.reserved (subst (IsReserved (asked_again b).header (opt_of b)) (sym c.loop-answer.invariant.kept ∙ w.in-Some-reserved.is) started.reserved)
+          rw w.builder-is (with_reserved (asked_again b).header before _ (opt_of b) w.in-Some-reserved.reserved
+          (subst (IsReserved (asked_again b).header (opt_of b)) (sym c.loop-answer.invariant.kept ∙ w.in-Some-reserved.is) started.reserved)
           (sym (rcode_kept b xs)) (w.in_ok-push_reserved.ensures.pushes _ ended))
-      | in_default w ↦ rw w.builder-is (with_none (asked_again b).header before _ (opt_of b) (subst (IsReserved (asked_again b).header (opt_of b)) (sym c.loop-answer.invariant.kept ∙ w.in_default.is) started.reserved) ended (limit_kept b xs))
+      | in_default w ↦ rw w.builder-is
+          (with_none (asked_again b).header before _ (opt_of b)
+          (subst (IsReserved (asked_again b).header (opt_of b)) (sym c.loop-answer.invariant.kept ∙ w.in_default.is) started.reserved) ended (limit_kept b xs))
     ] in
     response_of b xs c.match-reserved-2.builder _ represents c.into_message.ensures.octets started.within

@@ -2,7 +2,7 @@ use Rattle.std.proofs.Common.{length}
 use Rattle.std.specs.List.{filter_map}
 use Rattle.std.specs.Result.{result_ok}
 use Rattle.dns_read.specs.Message.{message_octets}
-use Rattle.dns_section.specs.QuestionSection.{questions_left}
+use Rattle.dns_read.specs.QuestionSection.{questions_left}
 use Rattle.dns_build.specs.Answers.{readable_questions}
 use Rattle.dns_build.specs.BuilderStates.{InEach}
 use Rattle.dns_build.specs.State.{InQuestion}

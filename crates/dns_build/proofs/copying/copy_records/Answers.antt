@@ -1,8 +1,8 @@
 use Rattle.std.proofs.Common.{refl, ◌∷◌, []}
 use Rattle.std.proofs.lemmas.Result.{err_from_is_err_and}
 use Rattle.dns_read.specs.Message.{message_octets}
-use Rattle.dns_section.specs.declared.section.Section.TheVariants.{Answer, Authority, Additional}
-use Rattle.dns_section.proofs.theory.SectionLemmas.{begins_next}
+use Rattle.dns_read.specs.declared.section.Section.TheVariants.{Answer, Authority, Additional}
+use Rattle.dns_read.proofs.theory.SectionLemmas.{begins_next}
 use Rattle.dns_build.specs.State.{InAnswer, InAuthority}
 use Rattle.dns_build.proofs.CopySections.{enters_first, enters, leaves, leaves_last, stops_before, stops_within, next_fault}
 use Rattle.dns_build.proofs.KeptLemmas.{keeps_all}
@@ -18,19 +18,27 @@ pub returns-in_err-copy_section-clause-copies : goal.returns-in_err-copy_section
 returns-in_err-copy_section-clause-copies g c = λ s represents.
     let first = enters_first _ _ _ _ _ (message_octets c.args.message.now) c.args.op s c.args.target represents in
     let p = err_from_is_err_and c.from_residual-in_err-copy_section.result c.from_residual-in_err-copy_section.ensures.1 in
-    rw (p.1, p.2) (stops_within _ _ _ _ _ (message_octets c.args.message.now) c.args.op s Answer _ _ _ _ _ c.in_ok-answer.answer _ first c.in_ok-answer.ensures.starts c.in_err-copy_section.ensures.copies)
+    rw (p.1, p.2) (stops_within _ _ _ _ _ (message_octets c.args.message.now) c.args.op s Answer _ _ _ _ _ c.in_ok-answer.answer _ first
+    c.in_ok-answer.ensures.starts c.in_err-copy_section.ensures.copies)
 
 pub returns-in_err-authority-clause-copies : goal.returns-in_err-authority-clause-copies
 returns-in_err-authority-clause-copies g c = λ s represents.
     let first = enters_first _ _ _ _ _ (message_octets c.args.message.now) c.args.op s c.args.target represents in
-    let second = enters _ _ _ _ _ (message_octets c.args.message.now) c.args.op s InAnswer Authority (Additional ∷ []) c.copy_section.new.op c.copy_section.new.target c.go_to-authorities.result (leaves _ _ _ _ _ (message_octets c.args.message.now) c.args.op s Answer (Authority ∷ Additional ∷ []) _ _ _ _ c.in_ok-answer.answer first c.in_ok-answer.ensures.starts c.in_ok-copy_section.ensures.copies) c.go_to-authorities.ensures in
+    let second = enters _ _ _ _ _ (message_octets c.args.message.now) c.args.op s InAnswer Authority (Additional ∷ []) c.copy_section.new.op
+    c.copy_section.new.target c.go_to-authorities.result
+    (leaves _ _ _ _ _ (message_octets c.args.message.now) c.args.op s Answer (Authority ∷ Additional ∷ []) _ _ _ _ c.in_ok-answer.answer first
+    c.in_ok-answer.ensures.starts c.in_ok-copy_section.ensures.copies) c.go_to-authorities.ensures in
     let p = err_from_is_err_and c.from_residual-in_err-authority.result c.from_residual-in_err-authority.ensures.1 in
-    rw (p.1, p.2) (stops_before _ _ _ _ _ (message_octets c.args.message.now) c.args.op s Authority _ _ _ _ second (next_fault Answer Authority _ c.in_ok-answer.answer _ refl c.in_ok-answer.ensures.starts c.in_err-authority.ensures))
+    rw (p.1, p.2) (stops_before _ _ _ _ _ (message_octets c.args.message.now) c.args.op s Authority _ _ _ _ second
+    (next_fault Answer Authority _ c.in_ok-answer.answer _ refl c.in_ok-answer.ensures.starts c.in_err-authority.ensures))
 
 pub returns-in_err-copy_section-2-clause-copies : goal.returns-in_err-copy_section-2-clause-copies
 returns-in_err-copy_section-2-clause-copies g c = λ s represents.
     let first = enters_first _ _ _ _ _ (message_octets c.args.message.now) c.args.op s c.args.target represents in
-    let second = enters _ _ _ _ _ (message_octets c.args.message.now) c.args.op s InAnswer Authority (Additional ∷ []) c.copy_section.new.op c.copy_section.new.target c.go_to-authorities.result (leaves _ _ _ _ _ (message_octets c.args.message.now) c.args.op s Answer (Authority ∷ Additional ∷ []) _ _ _ _ c.in_ok-answer.answer first c.in_ok-answer.ensures.starts c.in_ok-copy_section.ensures.copies) c.go_to-authorities.ensures in
+    let second = enters _ _ _ _ _ (message_octets c.args.message.now) c.args.op s InAnswer Authority (Additional ∷ []) c.copy_section.new.op
+    c.copy_section.new.target c.go_to-authorities.result
+    (leaves _ _ _ _ _ (message_octets c.args.message.now) c.args.op s Answer (Authority ∷ Additional ∷ []) _ _ _ _ c.in_ok-answer.answer first
+    c.in_ok-answer.ensures.starts c.in_ok-copy_section.ensures.copies) c.go_to-authorities.ensures in
     let begins = begins_next Answer Authority (message_octets c.args.message.now) c.in_ok-answer.answer c.in_ok-authority.authority refl c.in_ok-answer.ensures.starts c.in_ok-authority.ensures in
     let p = err_from_is_err_and c.from_residual-in_err-copy_section-2.result c.from_residual-in_err-copy_section-2.ensures.1 in
     rw (p.1, p.2) (stops_within _ _ _ _ _ (message_octets c.args.message.now) c.args.op s Authority _ _ _ _ _ c.in_ok-authority.authority _ second begins c.in_err-copy_section-2.ensures.copies)
@@ -38,18 +46,31 @@ returns-in_err-copy_section-2-clause-copies g c = λ s represents.
 pub returns-in_err-additional-clause-copies : goal.returns-in_err-additional-clause-copies
 returns-in_err-additional-clause-copies g c = λ s represents.
     let first = enters_first _ _ _ _ _ (message_octets c.args.message.now) c.args.op s c.args.target represents in
-    let second = enters _ _ _ _ _ (message_octets c.args.message.now) c.args.op s InAnswer Authority (Additional ∷ []) c.copy_section.new.op c.copy_section.new.target c.go_to-authorities.result (leaves _ _ _ _ _ (message_octets c.args.message.now) c.args.op s Answer (Authority ∷ Additional ∷ []) _ _ _ _ c.in_ok-answer.answer first c.in_ok-answer.ensures.starts c.in_ok-copy_section.ensures.copies) c.go_to-authorities.ensures in
+    let second = enters _ _ _ _ _ (message_octets c.args.message.now) c.args.op s InAnswer Authority (Additional ∷ []) c.copy_section.new.op
+    c.copy_section.new.target c.go_to-authorities.result
+    (leaves _ _ _ _ _ (message_octets c.args.message.now) c.args.op s Answer (Authority ∷ Additional ∷ []) _ _ _ _ c.in_ok-answer.answer first
+    c.in_ok-answer.ensures.starts c.in_ok-copy_section.ensures.copies) c.go_to-authorities.ensures in
     let begins = begins_next Answer Authority (message_octets c.args.message.now) c.in_ok-answer.answer c.in_ok-authority.authority refl c.in_ok-answer.ensures.starts c.in_ok-authority.ensures in
-    let third = enters _ _ _ _ _ (message_octets c.args.message.now) c.args.op s InAuthority Additional [] c.copy_section-2.new.op c.copy_section-2.new.target c.go_to-additionals.result (leaves _ _ _ _ _ (message_octets c.args.message.now) c.args.op s Authority (Additional ∷ []) _ _ _ _ c.in_ok-authority.authority second begins c.in_ok-copy_section-2.ensures.copies) c.go_to-additionals.ensures in
+    let third = enters _ _ _ _ _ (message_octets c.args.message.now) c.args.op s InAuthority Additional [] c.copy_section-2.new.op c.copy_section-2.new.target
+    c.go_to-additionals.result
+    (leaves _ _ _ _ _ (message_octets c.args.message.now) c.args.op s Authority (Additional ∷ []) _ _ _ _ c.in_ok-authority.authority second begins
+    c.in_ok-copy_section-2.ensures.copies) c.go_to-additionals.ensures in
     let p = err_from_is_err_and c.from_residual-in_err-additional.result c.from_residual-in_err-additional.ensures.1 in
-    rw (p.1, p.2) (stops_before _ _ _ _ _ (message_octets c.args.message.now) c.args.op s Additional _ _ _ _ third (next_fault Authority Additional _ c.in_ok-authority.authority _ refl begins c.in_err-additional.ensures))
+    rw (p.1, p.2) (stops_before _ _ _ _ _ (message_octets c.args.message.now) c.args.op s Additional _ _ _ _ third
+    (next_fault Authority Additional _ c.in_ok-authority.authority _ refl begins c.in_err-additional.ensures))
 
 pub returns-in_err-copy_section-3-clause-copies : goal.returns-in_err-copy_section-3-clause-copies
 returns-in_err-copy_section-3-clause-copies g c = λ s represents.
     let first = enters_first _ _ _ _ _ (message_octets c.args.message.now) c.args.op s c.args.target represents in
-    let second = enters _ _ _ _ _ (message_octets c.args.message.now) c.args.op s InAnswer Authority (Additional ∷ []) c.copy_section.new.op c.copy_section.new.target c.go_to-authorities.result (leaves _ _ _ _ _ (message_octets c.args.message.now) c.args.op s Answer (Authority ∷ Additional ∷ []) _ _ _ _ c.in_ok-answer.answer first c.in_ok-answer.ensures.starts c.in_ok-copy_section.ensures.copies) c.go_to-authorities.ensures in
+    let second = enters _ _ _ _ _ (message_octets c.args.message.now) c.args.op s InAnswer Authority (Additional ∷ []) c.copy_section.new.op
+    c.copy_section.new.target c.go_to-authorities.result
+    (leaves _ _ _ _ _ (message_octets c.args.message.now) c.args.op s Answer (Authority ∷ Additional ∷ []) _ _ _ _ c.in_ok-answer.answer first
+    c.in_ok-answer.ensures.starts c.in_ok-copy_section.ensures.copies) c.go_to-authorities.ensures in
     let begins = begins_next Answer Authority (message_octets c.args.message.now) c.in_ok-answer.answer c.in_ok-authority.authority refl c.in_ok-answer.ensures.starts c.in_ok-authority.ensures in
-    let third = enters _ _ _ _ _ (message_octets c.args.message.now) c.args.op s InAuthority Additional [] c.copy_section-2.new.op c.copy_section-2.new.target c.go_to-additionals.result (leaves _ _ _ _ _ (message_octets c.args.message.now) c.args.op s Authority (Additional ∷ []) _ _ _ _ c.in_ok-authority.authority second begins c.in_ok-copy_section-2.ensures.copies) c.go_to-additionals.ensures in
+    let third = enters _ _ _ _ _ (message_octets c.args.message.now) c.args.op s InAuthority Additional [] c.copy_section-2.new.op c.copy_section-2.new.target
+    c.go_to-additionals.result
+    (leaves _ _ _ _ _ (message_octets c.args.message.now) c.args.op s Authority (Additional ∷ []) _ _ _ _ c.in_ok-authority.authority second begins
+    c.in_ok-copy_section-2.ensures.copies) c.go_to-additionals.ensures in
     let begins_last = begins_next Authority Additional (message_octets c.args.message.now) c.in_ok-authority.authority c.in_ok-additional.additional refl begins c.in_ok-additional.ensures in
     let p = err_from_is_err_and c.from_residual-in_err-copy_section-3.result c.from_residual-in_err-copy_section-3.ensures.1 in
     rw (p.1, p.2) (stops_within _ _ _ _ _ (message_octets c.args.message.now) c.args.op s Additional _ _ _ _ _ c.in_ok-additional.additional _ third begins_last c.in_err-copy_section-3.ensures.copies)
@@ -57,11 +78,18 @@ returns-in_err-copy_section-3-clause-copies g c = λ s represents.
 pub returns-clause-copies : goal.returns-clause-copies
 returns-clause-copies g c = λ s represents.
     let first = enters_first _ _ _ _ _ (message_octets c.args.message.now) c.args.op s c.args.target represents in
-    let second = enters _ _ _ _ _ (message_octets c.args.message.now) c.args.op s InAnswer Authority (Additional ∷ []) c.copy_section.new.op c.copy_section.new.target c.go_to-authorities.result (leaves _ _ _ _ _ (message_octets c.args.message.now) c.args.op s Answer (Authority ∷ Additional ∷ []) _ _ _ _ c.in_ok-answer.answer first c.in_ok-answer.ensures.starts c.in_ok-copy_section.ensures.copies) c.go_to-authorities.ensures in
+    let second = enters _ _ _ _ _ (message_octets c.args.message.now) c.args.op s InAnswer Authority (Additional ∷ []) c.copy_section.new.op
+    c.copy_section.new.target c.go_to-authorities.result
+    (leaves _ _ _ _ _ (message_octets c.args.message.now) c.args.op s Answer (Authority ∷ Additional ∷ []) _ _ _ _ c.in_ok-answer.answer first
+    c.in_ok-answer.ensures.starts c.in_ok-copy_section.ensures.copies) c.go_to-authorities.ensures in
     let begins = begins_next Answer Authority (message_octets c.args.message.now) c.in_ok-answer.answer c.in_ok-authority.authority refl c.in_ok-answer.ensures.starts c.in_ok-authority.ensures in
-    let third = enters _ _ _ _ _ (message_octets c.args.message.now) c.args.op s InAuthority Additional [] c.copy_section-2.new.op c.copy_section-2.new.target c.go_to-additionals.result (leaves _ _ _ _ _ (message_octets c.args.message.now) c.args.op s Authority (Additional ∷ []) _ _ _ _ c.in_ok-authority.authority second begins c.in_ok-copy_section-2.ensures.copies) c.go_to-additionals.ensures in
+    let third = enters _ _ _ _ _ (message_octets c.args.message.now) c.args.op s InAuthority Additional [] c.copy_section-2.new.op c.copy_section-2.new.target
+    c.go_to-additionals.result
+    (leaves _ _ _ _ _ (message_octets c.args.message.now) c.args.op s Authority (Additional ∷ []) _ _ _ _ c.in_ok-authority.authority second begins
+    c.in_ok-copy_section-2.ensures.copies) c.go_to-additionals.ensures in
     let begins_last = begins_next Authority Additional (message_octets c.args.message.now) c.in_ok-authority.authority c.in_ok-additional.additional refl begins c.in_ok-additional.ensures in
-    leaves_last _ _ _ _ _ (message_octets c.args.message.now) c.args.op s _ _ (leaves _ _ _ _ _ (message_octets c.args.message.now) c.args.op s Additional [] _ _ _ _ c.in_ok-additional.additional third begins_last c.in_ok-copy_section-3.ensures.copies)
+    leaves_last _ _ _ _ _ (message_octets c.args.message.now) c.args.op s _ _
+    (leaves _ _ _ _ _ (message_octets c.args.message.now) c.args.op s Additional [] _ _ _ _ c.in_ok-additional.additional third begins_last c.in_ok-copy_section-3.ensures.copies)
 
 pub returns-clause-kept : goal.returns-clause-kept
 returns-clause-kept g c = λ s represents. keeps_all _ _ _ _ _ (message_octets c.args.message.now) c.args.op s _ (returns-clause-copies g c s represents)

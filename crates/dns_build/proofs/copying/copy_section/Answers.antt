@@ -1,6 +1,6 @@
 use Rattle.std.proofs.Common.{◌∙◌, ◌∷◌, ap}
 use Rattle.std.proofs.lemmas.Result.{err_from_is_err_and}
-use Rattle.dns_section.specs.RecordSection.{record_result, records_left}
+use Rattle.dns_read.specs.RecordSection.{record_result, records_left}
 use Rattle.dns_build.proofs.CopyLemmas.{so_far_more, so_far_all, so_far_fault, so_far_refused}
 use Rattle.dns_build.proofs.copying.copy_section.Goals as goal
 

@@ -15,4 +15,5 @@ returns-in_err-compose_canonical_rdata g c =
 pub write_length-requires-clause-clear : goal.write_length-requires-clause-clear
 write_length-requires-clause-clear g c =
     rw c.as_slice-offset.ensures.octets
-    (clear_length (encode_parts g.T.Composer.rule (canonical (g.D.RecordData.parts c.args.data.now))) _ _ _ (encode_parts_grows _ _) c.as_slice-offset.ensures.is_target c.in_ok-append_slice.ensures.ok c.in_ok-compose_canonical_rdata.ensures.ok)
+    (clear_length (encode_parts g.T.Composer.rule (canonical (g.D.RecordData.parts c.args.data.now))) _ _ _ (encode_parts_grows _ _)
+    c.as_slice-offset.ensures.is_target c.in_ok-append_slice.ensures.ok c.in_ok-compose_canonical_rdata.ensures.ok)

@@ -2,7 +2,7 @@ use Rattle.std.proofs.Common.{◌≡◌, ◌∙◌, ℕ, List, sym, subst, ap}
 use Rattle.std.proofs.lemmas.Result.{err_from_is_err_and}
 use Rattle.dns_item.specs.Items.{SkipsRecord}
 use Rattle.dns_read.specs.Message.{message_octets}
-use Rattle.dns_section.specs.Reading.{Skipped}
+use Rattle.dns_read.specs.Reading.{Skipped}
 use Rattle.dns_edit.specs.Acceptance.{AcceptsFrom, RefusesTtls}
 use Rattle.dns_edit.specs.Edits.{NamesAvoid}
 use Rattle.dns_edit.specs.Readings.{FitInOctets, ReadsAlike}

@@ -2,15 +2,15 @@ use Rattle.std.proofs.Common.{rules, inl, inr, ◌<◌, ◌≡◌, ◌∙◌, Li
 use Rattle.std.specs.Int.{w32}
 use Rattle.dns_name.specs.Parsers.{number_at}
 use Rattle.dns_read.specs.Message.{message_octets}
-use Rattle.dns_section.specs.Sections.{AnswersStart}
+use Rattle.dns_read.specs.Sections.{AnswersStart}
 use Rattle.dns_edit.specs.Edits.{least}
 use Rattle.dns_edit.specs.Ttls.{TtlFields, record_total}
 use Rattle.dns_edit.proofs.MinLemmas.{least_none, least_step, least_all, skipped_span}
 use Rattle.std.proofs.lemmas.Result.{err_from_is_err_and}
 use Rattle.dns_name.specs.Names.{fault_of}
 use Rattle.dns_item.specs.Items.{SkipsRecord, RecordSkipFaultAt}
-use Rattle.dns_section.specs.Reading.{StopsSkipping}
-use Rattle.dns_section.specs.Reading.Skipped.{none}
+use Rattle.dns_read.specs.Reading.{StopsSkipping}
+use Rattle.dns_read.specs.Reading.Skipped.{none}
 use Rattle.dns_edit.proofs.EntryLemmas.{stopped}
 use Rattle.dns_edit.proofs.edit.min_ttl.Goals as goal
 
@@ -50,6 +50,7 @@ returns-in_err-span-clause-fault g c =
     let e = c.in_err-span.field-0.0 in
     let total : c.record_count-record-end.result ≡ record_total slice = c.record_count-record-end.ensures in
     let less : c.loop-record._record < record_total slice = omega (arith, total) in
-    let stops : StopsSkipping (SkipsRecord slice) (RecordSkipFaultAt slice) (record_total slice) start (fault_of e) = stopped (record_total slice) c.loop-record.invariant.2 c.in_err-span.ensures less in
+    let stops : StopsSkipping (SkipsRecord slice) (RecordSkipFaultAt slice) (record_total slice) start (fault_of e) =
+    stopped (record_total slice) c.loop-record.invariant.2 c.in_err-span.ensures less in
     let P : List ℕ → Type 0 = λ (b : List ℕ). StopsSkipping (SkipsRecord b) (RecordSkipFaultAt b) (record_total b) start (fault_of e) in
     rw (p.1, p.2) (inr (start, subst (AnswersStart b) (sym c.pos-start.ensures) c.in_ok-answer.ensures.starts.start, subst P c.as_slice-octets.ensures.octets stops))

@@ -1,6 +1,6 @@
 use Rattle.std.proofs.Common.{◌≤◌, length}
 use Rattle.dns_item.specs.Items.{SkipsRecord}
-use Rattle.dns_section.specs.Reading.{Skipped}
+use Rattle.dns_read.specs.Reading.{Skipped}
 use Rattle.dns_edit.proofs.MinLemmas.{Least}
 use Rattle.dns_edit.proofs.edit.min_ttl.Given as goal
 

@@ -19,7 +19,8 @@ pub returns-then-has_ttl-clause-writes : goal.returns-then-has_ttl-clause-writes
 returns-then-has_ttl-clause-writes g c =
     let there : Spans (message_octets c.args.message.now) c.args.start c.in-Ok.span = subst (λ (b : List ℕ). Spans b c.args.start c.in-Ok.span) c.as_slice.ensures.octets c.in-Ok.ensures in
     let held : holds_ttl c.in-Ok.span.rtype ≡ true = sym c.has_ttl.ensures ∙ c.if-has_ttl.true in
-    writes_held c.args.change.now _ there held (c.to_be_bytes.ensures ∙ ap (to_be_bytes w32) (c.as_secs.ensures ∙ c.of-ttl.ensures ∙ ap (changed c.args.change.now) c.from_secs.ensures)) c.overwrite.ensures
+    writes_held c.args.change.now _ there held
+    (c.to_be_bytes.ensures ∙ ap (to_be_bytes w32) (c.as_secs.ensures ∙ c.of-ttl.ensures ∙ ap (changed c.args.change.now) c.from_secs.ensures)) c.overwrite.ensures
 
 pub returns-else-has_ttl-clause-writes : goal.returns-else-has_ttl-clause-writes
 returns-else-has_ttl-clause-writes g c =

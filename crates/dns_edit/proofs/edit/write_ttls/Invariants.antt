@@ -2,7 +2,7 @@ use Rattle.std.proofs.Common.{◌≡◌, ◌≤◌, ◌+◌, ℕ, List}
 use Rattle.dns_code.specs.HeaderSection.{header_size}
 use Rattle.dns_item.specs.Items.{SkipsRecord}
 use Rattle.dns_read.specs.Message.{message_octets}
-use Rattle.dns_section.specs.Reading.{Skipped}
+use Rattle.dns_read.specs.Reading.{Skipped}
 use Rattle.dns_edit.specs.Ttls.{TtlFields, with_ttls}
 use Rattle.dns_edit.proofs.edit.write_ttls.Given as goal
 

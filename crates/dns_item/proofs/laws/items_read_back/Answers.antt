@@ -1,4 +1,4 @@
-use Rattle.dns_question.proofs.theory.QuestionItemLemmas as question_items
+use Rattle.dns_item.proofs.theory.QuestionItemLemmas as question_items
 use Rattle.dns_item.proofs.theory.ItemLemmas as items
 use Rattle.dns_item.proofs.laws.items_read_back.Goals as goal
 

@@ -1,4 +1,4 @@
-use Rattle.dns_question.proofs.theory.OneResult.{each_text_read, one_text_result, each_words_read, one_words_result}
+use Rattle.dns_item.proofs.theory.OneResult.{each_text_read, one_text_result, each_words_read, one_words_result}
 use Rattle.dns_item.proofs.laws.questions_as_texts.Goals as goal
 
 pub returns : goal.returns

@@ -1,4 +1,4 @@
-use Rattle.dns_question.proofs.theory.QuestionEntryLemmas as questions
+use Rattle.dns_item.proofs.theory.QuestionEntryLemmas as questions
 use Rattle.dns_item.proofs.theory.EntryLemmas as entries
 use Rattle.dns_item.proofs.laws.skipping_agrees.Goals as goal
 

@@ -5,9 +5,9 @@ use Rattle.dns_code.specs.Header.{fields_in}
 use Rattle.dns_code.specs.HeaderCounts.{counts}
 use Rattle.dns_read.specs.Message.{message_octets}
 use Rattle.dns_read.proofs.theory.SectionStartLemmas.{no_answers}
-use Rattle.dns_section.specs.QuestionSection.{BeginsQuestions}
-use Rattle.dns_section.specs.RecordSection.{BeginsSection}
-use Rattle.dns_section.specs.declared.section.Section.TheVariants.{Answer}
+use Rattle.dns_read.specs.QuestionSection.{BeginsQuestions}
+use Rattle.dns_read.specs.RecordSection.{BeginsSection}
+use Rattle.dns_read.specs.declared.section.Section.TheVariants.{Answer}
 use Rattle.dns_lines.specs.Show.{header_line, counts_line, question_line, record_line, section_word, missing_line, counts_of, records_text}
 use Rattle.dns_lines.proofs.theory.PrintedLines.{on_ok, printed_then}
 use Rattle.dns_lines.proofs.SectionTexts.{sections_printed}
@@ -51,4 +51,5 @@ returns-in-Err g c =
     printed_then _ _ _ _ _ _ (ap (λ (o : List ℕ). header_line (fields_in o)) c.header.ensures) c.in_ok-print_header.ensures
     (printed_then _ _ _ _ _ _ (ap counts_line numbers) c.in_ok-print_counts.ensures
     (printed_then _ _ _ _ _ _ (ap (flat_map question_line) q.questions) c.in_ok-questions.ensures.printed t)))
-    (sections_printed (λ section. record_line (section_word section)) missing_line b _ _ c.print_missing.result None _ _ (no_answers b (fault_of c.in-Err.field-0) stops) refl refl c.print_missing.ensures)
+    (sections_printed (λ section. record_line (section_word section)) missing_line b _ _ c.print_missing.result None _ _
+    (no_answers b (fault_of c.in-Err.field-0) stops) refl refl c.print_missing.ensures)

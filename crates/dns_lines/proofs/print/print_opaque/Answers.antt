@@ -23,5 +23,7 @@ returns g c =
     let given = returned.gives (there x c.requires.read) in
     let octets : unknown_octets (data_of r) ≡ drop x.entry.rdata_start (up_to_rdata_end x.octets x.entry) = let e = given.1.1 in cc e in
     printed_as _ _ _ _ c.writeln.result
-    (printed_item c.args.word.now _ ∙ ap (λ (text : List ℕ). Some (line (c.args.word.now ++ codes " " ++ text))) (same_text unknown_rtype_of (λ unknown. Octets (unknown_octets unknown) ∷ []) x r _ given.0 _ ∙ ap (λ (o : List ℕ). record_fields_text (name_text x.entry.owner) x.entry.ttl x.entry.class x.entry.rtype (opaque_text o)) octets))
+    (printed_item c.args.word.now _ ∙ ap (λ (text : List ℕ). Some (line (c.args.word.now ++ codes " " ++ text)))
+    (same_text unknown_rtype_of (λ unknown. Octets (unknown_octets unknown) ∷ []) x r _ given.0 _
+    ∙ ap (λ (o : List ℕ). record_fields_text (name_text x.entry.owner) x.entry.ttl x.entry.class x.entry.rtype (opaque_text o)) octets))
     c.writeln.ensures.bytes

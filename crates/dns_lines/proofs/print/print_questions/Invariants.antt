@@ -1,5 +1,5 @@
 use Rattle.std.proofs.Common.{length}
-use Rattle.dns_section.specs.QuestionSection.{questions_left}
+use Rattle.dns_read.specs.QuestionSection.{questions_left}
 use Rattle.dns_lines.specs.Show.{question_line}
 use Rattle.dns_lines.proofs.theory.PrintedLines.{Printed}
 use Rattle.dns_lines.proofs.WalkLemmas.{QuestionsRead}

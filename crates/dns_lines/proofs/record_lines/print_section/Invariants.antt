@@ -1,5 +1,5 @@
 use Rattle.std.proofs.Common.{length}
-use Rattle.dns_section.specs.RecordSection.{records_left}
+use Rattle.dns_read.specs.RecordSection.{records_left}
 use Rattle.dns_lines.proofs.theory.PrintedLines.{Printed}
 use Rattle.dns_lines.proofs.WalkLemmas.{RecordsRead}
 use Rattle.dns_lines.proofs.record_lines.print_section.Given as goal

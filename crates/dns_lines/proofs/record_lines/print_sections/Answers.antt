@@ -1,8 +1,8 @@
 use Rattle.std.proofs.Common.{ℕ, Some, None, Ok, Result, refl}
 use Rattle.dns_name.specs.Names.{fault_of}
 use Rattle.dns_read.proofs.theory.SectionStartLemmas.{start_found, no_authorities, no_additionals}
-use Rattle.dns_section.specs.RecordSection.{octets_of, position}
-use Rattle.dns_section.specs.declared.section.Section.TheVariants.{Answer, Authority, Additional}
+use Rattle.dns_read.specs.RecordSection.{octets_of, position}
+use Rattle.dns_read.specs.declared.section.Section.TheVariants.{Answer, Authority, Additional}
 use Rattle.dns_lines.proofs.SectionTexts.{section_printed, last_printed, sections_printed}
 use Rattle.dns_lines.proofs.WalkLemmas.{next_begins, isnt_last, authorities_stop, additionals_stop}
 use Rattle.dns_lines.proofs.record_lines.print_sections.Goals as goal
@@ -17,7 +17,8 @@ returns-in_default g c =
     let missing = g.L.RecordLines.missing_text in
     let r = c.print_missing.result in
     let stops = authorities_stop b c.args.answer c.in_ok-answer.answer c.in_default.field-0 c.requires c.in_ok-answer.ensures.follows c.in_default.ensures in
-    sections_printed text missing b _ _ r (Some (position c.args.answer)) None _ (start_found Answer b (position c.args.answer) c.requires.start) (no_authorities b (fault_of c.in_default.field-0) stops) refl
+    sections_printed text missing b _ _ r (Some (position c.args.answer)) None _ (start_found Answer b (position c.args.answer) c.requires.start)
+    (no_authorities b (fault_of c.in_default.field-0) stops) refl
     (section_printed text missing b Answer c.args.answer c.requires _ _ _ r _ c.in_ok-answer.ensures.printed c.print_missing.ensures)
 
 pub returns-in_default-following : goal.returns-in_default-following

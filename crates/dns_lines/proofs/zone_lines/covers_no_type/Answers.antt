@@ -10,7 +10,8 @@ use Rattle.dns_lines.proofs.zone_lines.covers_no_type.Goals as goal
 
 pub unwrap-found-requires : goal.unwrap-found-requires
 unwrap-found-requires c =
-    opaque_is_ok unknown_rtype_of (λ unknown. Octets (unknown_octets unknown) ∷ []) (encoded_record c.args.parsed.now) c.requires.read c.requires.short c.to_any_record.result c.to_any_record.ensures.returned
+    opaque_is_ok unknown_rtype_of (λ unknown. Octets (unknown_octets unknown) ∷ []) (encoded_record c.args.parsed.now) c.requires.read c.requires.short
+    c.to_any_record.result c.to_any_record.ensures.returned
 
 pub returns : goal.returns
 returns c =

@@ -5,7 +5,7 @@ use Rattle.dns_data.specs.UnknownData.{unknown_rtype_of, unknown_octets}
 use Rattle.dns_wire.specs.Parts.Part.{Octets}
 use Rattle.dns_item.specs.ParsedRecord.{encoded_record}
 use Rattle.dns_item.specs.Record.{data_of}
-use Rattle.dns_fields_text.specs.ZoneNames.{zone_name_text}
+use Rattle.fields_print.specs.ZoneNames.{zone_name_text}
 use Rattle.dns_lines.proofs.theory.PrintedLines.{printed_as}
 use Rattle.dns_lines.proofs.theory.ShownRecords.{there, opaque_is_ok}
 use Rattle.dns_lines.proofs.LineLemmas.{opaque_printed}
@@ -13,7 +13,8 @@ use Rattle.dns_lines.proofs.zone_lines.print_opaque.Goals as goal
 
 pub unwrap-found-requires : goal.unwrap-found-requires
 unwrap-found-requires g c =
-    opaque_is_ok unknown_rtype_of (λ unknown. Octets (unknown_octets unknown) ∷ []) (encoded_record c.args.parsed.now) c.requires.read c.requires.short c.to_any_record.result c.to_any_record.ensures.returned
+    opaque_is_ok unknown_rtype_of (λ unknown. Octets (unknown_octets unknown) ∷ []) (encoded_record c.args.parsed.now) c.requires.read c.requires.short
+    c.to_any_record.result c.to_any_record.ensures.returned
 
 pub returns : goal.returns
 returns g c =

@@ -3,8 +3,8 @@ use Rattle.std.specs.Io.KnownBytes.{Appends}
 use Rattle.dns_item.specs.ParsedRecord.{encoded_record}
 use Rattle.dns_item.specs.Record.{data_of}
 use Rattle.dns_name.specs.Names.{fault_of}
-use Rattle.dns_fields.specs.Data.{parts_of}
-use Rattle.dns_fields.specs.FieldData.{type_layout}
+use Rattle.fields_octets.specs.Data.{parts_of}
+use Rattle.fields_octets.specs.FieldData.{type_layout}
 use Rattle.dns_lines.specs.Show.{line}
 use Rattle.dns_lines.proofs.theory.AppendedTexts.{appends_none}
 use Rattle.dns_lines.proofs.theory.PrintedLines.{printed_as}
@@ -27,7 +27,8 @@ returns-in-Ok g c =
     let given = returned.gives (there x c.requires.read) in
     let parts = parts_there x c.requires.read (type_layout x.entry.rtype) (parts_of (data_of r)) given.1 in
     printed_as _ _ _ _ c.writeln.result
-    (ap (λ (text : List ℕ). Some (line text)) (text_of_fields x r given.0) ∙ ap (λ o. Some (line_with x o)) (sym parts) ∙ ap (λ (text : List ℕ). Some text) (sym (others_have_one x (sym c.is_of_message.ensures ∙ c.if-is_of_message.false))))
+    (ap (λ (text : List ℕ). Some (line text)) (text_of_fields x r given.0) ∙ ap (λ o. Some (line_with x o)) (sym parts) ∙ ap (λ (text : List ℕ). Some text)
+    (sym (others_have_one x (sym c.is_of_message.ensures ∙ c.if-is_of_message.false))))
     c.writeln.ensures.bytes
 
 pub returns-in-Err : goal.returns-in-Err

@@ -1,8 +1,8 @@
 use Rattle.std.proofs.Common.{◌≡◌, length}
 use Rattle.dns_name.specs.ParsedName.{labels}
-use Rattle.dns_section.specs.Limited.{limited}
-use Rattle.dns_section.specs.RecordIter.{typed_left}
-use Rattle.dns_section.specs.RecordSection.{records_left}
+use Rattle.dns_read.specs.Limited.{limited}
+use Rattle.dns_read.specs.RecordIter.{typed_left}
+use Rattle.dns_read.specs.RecordSection.{records_left}
 use Rattle.dns_read.specs.RecordSearches.{cname_layout, alias_of}
 use Rattle.dns_read.proofs.record_searches.alias_of.Given as goal
 

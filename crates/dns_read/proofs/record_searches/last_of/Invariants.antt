@@ -2,7 +2,7 @@ use Rattle.std.proofs.Common.{◌≡◌, length}
 use Rattle.std.specs.Prelude.{Ok, IfSome, option_map}
 use Rattle.dns_item.specs.ParsedData.{HasSpan}
 use Rattle.dns_item.specs.ParsedRecord.{encoded_record}
-use Rattle.dns_section.specs.RecordSection.{records_left, record_result}
+use Rattle.dns_read.specs.RecordSection.{records_left, record_result}
 use Rattle.dns_read.specs.RecordSearches.{last_item}
 use Rattle.dns_read.proofs.RecordSearchLemmas.{last_after}
 use Rattle.dns_read.proofs.record_searches.last_of.Given as goal

@@ -2,10 +2,10 @@ use Rattle.std.proofs.Common.{◌∙◌, ◌+◌, ◌∷◌, ap, sym, refl, subs
 use Rattle.std.proofs.lemmas.Result.{err_from_is_err_and}
 use Rattle.std.proofs.lemmas.List.{at_drop_more, drop_all}
 use Rattle.std.specs.Prelude.{map, Ok, Err}
-use Rattle.dns_opt.specs.OptData.{option_of}
-use Rattle.dns_opt_builder.specs.Additions.{Adds}
-use Rattle.dns_opt_builder.specs.Gathered.{gathered}
-use Rattle.dns_opt_builder.proofs.theory.OptBuilderLemmas.{one_added, none_left}
+use Rattle.dns_edns.specs.OptData.{option_of}
+use Rattle.dns_edns_builder.specs.Additions.{Adds}
+use Rattle.dns_edns_builder.specs.Gathered.{gathered}
+use Rattle.dns_edns_builder.proofs.theory.OptBuilderLemmas.{one_added, none_left}
 use Rattle.dns_script.specs.OptPlans.{gathered_size, AddsOptions}
 use Rattle.dns_script.proofs.PlannedOpts.{added_first, refused_first}
 use Rattle.dns_script.proofs.opt_plan.push_options.Goals as goal

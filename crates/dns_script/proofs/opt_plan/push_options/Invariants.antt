@@ -1,8 +1,8 @@
 use Rattle.std.proofs.Common.{◌≡◌, drop}
 use Rattle.std.specs.Prelude.{map}
-use Rattle.dns_opt.specs.OptData.{option_of}
-use Rattle.dns_opt_builder.specs.Gathered.{gathered}
-use Rattle.dns_opt_builder.proofs.theory.OptBuilderLemmas.{with_left}
+use Rattle.dns_edns.specs.OptData.{option_of}
+use Rattle.dns_edns_builder.specs.Gathered.{gathered}
+use Rattle.dns_edns_builder.proofs.theory.OptBuilderLemmas.{with_left}
 use Rattle.dns_script.specs.OptPlans.{gathered_size, AddsOptions}
 use Rattle.dns_script.proofs.opt_plan.push_options.Given as goal
 

@@ -32,5 +32,6 @@ returns-in_err-push_ref g c s h =
     let item = record_item g.N.ToName.name g.D.RecordData.rtype_of g.D.RecordData.parts in
     let p = err_from_is_err_and c.from_residual.result c.from_residual.ensures.1 in
     rw (p.1, p.2, c.in_err-push_ref.ensures.refused)
-    (refused_next item (parsed_question c.args.question.now) c.args.table.now c.loop-found.found-index c.found-item.result _ c.loop-found-test.true c.found-item.is (sym c.is_asked.ensures ∙ c.if-is_asked.true)
+    (refused_next item (parsed_question c.args.question.now) c.args.table.now c.loop-found.found-index c.found-item.result _ c.loop-found-test.true
+    c.found-item.is (sym c.is_asked.ensures ∙ c.if-is_asked.true)
     c.args.builder.now c.loop-found.builder c.loop-found.invariant.pushes c.in_err-push_ref.field-0.0 c.in_err-push_ref.ensures.outcome.each s h)

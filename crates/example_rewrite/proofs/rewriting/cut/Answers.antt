@@ -10,7 +10,9 @@ pub returns-in-Ok : goal.returns-in-Ok
 returns-in-Ok c =
     let x = encoded_record c.args.shown in
     let read = laid_out-read rtype_of parts_of x (type_layout x.entry.rtype) c.into_any_record.result (omega arith) c.into_any_record.ensures.returned in
-    record_cut rtype_of parts_of c.args.most x.entry (data_in x (type_layout x.entry.rtype)) c.in-Ok.record c.set_ttl.new.self c.from_secs.result (rw c.in-Ok.is at read) (rw c.rtype.ensures at (sym c.eq.ensures ∙ c.if-eq.false)) c.set_ttl.ensures (c.from_secs.ensures ∙ c.min-secs.ensures ∙ (λ i. min ((c.as_secs.ensures ∙ c.ttl.ensures) i) (c.as_secs-in-Ok.ensures i)))
+    record_cut rtype_of parts_of c.args.most x.entry (data_in x (type_layout x.entry.rtype)) c.in-Ok.record c.set_ttl.new.self c.from_secs.result
+    (rw c.in-Ok.is at read) (rw c.rtype.ensures at (sym c.eq.ensures ∙ c.if-eq.false)) c.set_ttl.ensures
+    (c.from_secs.ensures ∙ c.min-secs.ensures ∙ (λ i. min ((c.as_secs.ensures ∙ c.ttl.ensures) i) (c.as_secs-in-Ok.ensures i)))
 
 pub returns-in-Err : goal.returns-in-Err
 returns-in-Err c =

@@ -13,7 +13,8 @@ use Rattle.example_rewrite.proofs.rewriting.with_ttls_cut.Goals as goal
 pub returns-in_err-copied-clause-reason : goal.returns-in_err-copied-clause-reason
 returns-in_err-copied-clause-reason g c =
     let p = err_from_is_err_and c.from_residual-in_err-copied.result c.from_residual-in_err-copied.ensures.1 in
-    let few : AreFew (message_octets c.args.message.now) = record { answers = c.counts_fit.ensures.answers; authorities = c.counts_fit.ensures.authorities; additionals = c.counts_fit.ensures.additionals } in
+    let few : AreFew (message_octets c.args.message.now) =
+    record { answers = c.counts_fit.ensures.answers; authorities = c.counts_fit.ensures.authorities; additionals = c.counts_fit.ensures.additionals } in
     let begins = c.in_ok-builder.ensures.begun in
     rw (p.1 ∙ ap Err p.2) (reason _ _ _ _ _ c.in_err-copied.field-0.0 c.counts_fit.ensures.questions few begins (c.in_err-copied.ensures.copies _ begins) c.in_ok-check.ensures)
 

@@ -10,10 +10,15 @@ returns-in-Ok g c =
 pub returns-in-Ok-to_any_record : goal.returns-in-Ok-to_any_record
 returns-in-Ok-to_any_record g c =
     on_printed c.print_octets.result _ _ _ _
-    (unknown_line (encoded_record c.args.record.now) _ _ c.in-Ok-to_any_record.record _ _ c.in_default.field-0 (rw c.in_default.is at c.to_any_record.ensures.returned) (rw c.in-Ok-to_any_record.is at c.to_any_record-in_default.ensures.returned))
+    (unknown_line (encoded_record c.args.record.now) _ _ c.in-Ok-to_any_record.record _ _ c.in_default.field-0
+    (rw c.in_default.is at c.to_any_record.ensures.returned) (rw c.in-Ok-to_any_record.is at c.to_any_record-in_default.ensures.returned))
     c.print_octets.ensures
 
 pub returns-in_default-to_any_record : goal.returns-in_default-to_any_record
 returns-in_default-to_any_record g c =
     on_printed c.write_all.result _ _ _ _
-    (inr (no_octets (encoded_record c.args.record.now) _ _ c.in_default-to_any_record.field-0 (rw c.in_default-to_any_record.is at c.to_any_record-in_default.ensures.returned), refl)) c.write_all.ensures.bytes
+    (inr (
+      no_octets (encoded_record c.args.record.now) _ _ c.in_default-to_any_record.field-0
+          (rw c.in_default-to_any_record.is at c.to_any_record-in_default.ensures.returned),
+      refl,
+    )) c.write_all.ensures.bytes

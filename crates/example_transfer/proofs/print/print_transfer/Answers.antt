@@ -11,4 +11,5 @@ returns-clause-printed g c =
 
 pub returns-clause-whole : goal.returns-clause-whole
 returns-clause-whole g c =
-    whole_told c.args.stream.now _ c.in_ok-messages.ensures (ap (map message_octets) c.deref.ensures.value) c.in_ok-items.ensures.given (ap (map record_result) c.deref-4.ensures.value) c.is_read.ensures
+    whole_told c.args.stream.now _ c.in_ok-messages.ensures (ap (map message_octets) c.deref.ensures.value) c.in_ok-items.ensures.given
+    (ap (map record_result) c.deref-4.ensures.value) c.is_read.ensures

@@ -1,5 +1,5 @@
 use Rattle.std.proofs.Common.{◌≡◌, ◌∙◌, ℕ, ap, subst, sym}
-use Rattle.dns_opt_builder.specs.Gathered.{gathered, opt_size}
+use Rattle.dns_edns_builder.specs.Gathered.{gathered, opt_size}
 use Rattle.dns_build.specs.BuilderStates.{RepresentsSome}
 use Rattle.dns_build.specs.ReservedOpt.{limit_without}
 use Rattle.dns_build.proofs.Moves.{moves-limit}

@@ -1,6 +1,6 @@
 use Rattle.std.proofs.Common.{◌∙◌, ap, refl}
 use Rattle.std.proofs.lemmas.Result.{err_from_is_err_and}
-use Rattle.dns_opt_builder.specs.Gathered.{nothing_gathered}
+use Rattle.dns_edns_builder.specs.Gathered.{nothing_gathered}
 use Rattle.dns_build.proofs.OptLemmas.{closure_refused, pushes_opt}
 use Rattle.dns_build.proofs.opt.Builder+T+AtAdditional.opt.Goals as goal
 

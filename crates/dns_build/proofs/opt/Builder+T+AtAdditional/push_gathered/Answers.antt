@@ -1,7 +1,7 @@
 use Rattle.std.proofs.Common.{◌≡◌, ◌∙◌, ℕ, [], ◌∷◌, ap, subst, refl, length}
 use Rattle.std.specs.Prelude.{Ok, Err}
 use Rattle.std.proofs.lemmas.Result.{err_from_is_err_and}
-use Rattle.dns_opt_builder.specs.Gathered.{gathered}
+use Rattle.dns_edns_builder.specs.Gathered.{gathered}
 use Rattle.dns_item.specs.Items.{RecordItem}
 use Rattle.dns_wire.specs.Parts.Part.{Octets}
 use Rattle.dns_code.specs.Header.{HeaderFields, fields}

@@ -17,7 +17,8 @@ returns-in_err-append_compressed_name-clause-composes g c =
 
 pub returns-in_err-append_compressed_name-clause-is_data :
     goal.returns-in_err-append_compressed_name-clause-is_data
-returns-in_err-append_compressed_name-clause-is_data g c = soa_is_data g.N.ToName.name c.args.self.now (g.met.N.ToName.is_name (mname_of c.args.self.now)) (g.met.N.ToName.is_name (rname_of c.args.self.now))
+returns-in_err-append_compressed_name-clause-is_data g c = soa_is_data g.N.ToName.name c.args.self.now (g.met.N.ToName.is_name (mname_of c.args.self.now))
+    (g.met.N.ToName.is_name (rname_of c.args.self.now))
 
 pub returns-in_err-append_compressed_name-2-clause-composes :
     goal.returns-in_err-append_compressed_name-2-clause-composes
@@ -33,7 +34,8 @@ returns-in_err-append_compressed_name-2-clause-composes g c =
 
 pub returns-in_err-append_compressed_name-2-clause-is_data :
     goal.returns-in_err-append_compressed_name-2-clause-is_data
-returns-in_err-append_compressed_name-2-clause-is_data g c = soa_is_data g.N.ToName.name c.args.self.now (g.met.N.ToName.is_name (mname_of c.args.self.now)) (g.met.N.ToName.is_name (rname_of c.args.self.now))
+returns-in_err-append_compressed_name-2-clause-is_data g c = soa_is_data g.N.ToName.name c.args.self.now (g.met.N.ToName.is_name (mname_of c.args.self.now))
+    (g.met.N.ToName.is_name (rname_of c.args.self.now))
 
 pub returns-clause-composes : goal.returns-clause-composes
 returns-clause-composes g c =

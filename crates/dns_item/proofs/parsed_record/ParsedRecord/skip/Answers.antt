@@ -1,6 +1,6 @@
 use Rattle.std.proofs.Common.{◌∙◌, ap, arith, length, refl}
 use Rattle.std.proofs.lemmas.Result.{err_from_is_err_and}
-use Rattle.dns_question.specs.AfterNames.FieldsSkipFaultAt.{name}
+use Rattle.dns_item.specs.AfterNames.FieldsSkipFaultAt.{name}
 use Rattle.dns_item.proofs.RecordLemmas.{without_fields, lacks_data}
 use Rattle.dns_item.proofs.parsed_record.ParsedRecord.skip.Goals as goal
 

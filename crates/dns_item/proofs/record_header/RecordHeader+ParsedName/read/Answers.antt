@@ -1,5 +1,5 @@
 use Rattle.std.proofs.lemmas.Result.{err_from_is_err_and}
-use Rattle.dns_question.specs.AfterNames.FieldsFaultAt.{name}
+use Rattle.dns_item.specs.AfterNames.FieldsFaultAt.{name}
 use Rattle.dns_item.proofs.RecordLemmas.{short}
 use Rattle.dns_item.proofs.record_header.RecordHeader+ParsedName.read.Goals as goal
 

@@ -2,12 +2,12 @@ use Rattle.std.proofs.Common.{◌≡◌, ◌∙◌, ap, sym, subst, arith}
 use Rattle.std.specs.Prelude.{Some, option_map}
 use Rattle.dns_name.specs.ParsedName.{labels}
 use Rattle.dns_name.specs.declared.parsed_name.ParsedName.{ParsedName}
-use Rattle.dns_question.specs.Question.{qname_of}
-use Rattle.dns_question.specs.declared.question.Question.{Question}
-use Rattle.dns_section.specs.Limited.{limited}
-use Rattle.dns_section.specs.RecordSection.{position}
-use Rattle.dns_section.specs.Sections.{AnswersFault}
-use Rattle.dns_section.specs.declared.section.Section.TheVariants.{Answer}
+use Rattle.dns_item.specs.Question.{qname_of}
+use Rattle.dns_item.specs.declared.question.Question.{Question}
+use Rattle.dns_read.specs.Limited.{limited}
+use Rattle.dns_read.specs.RecordSection.{position}
+use Rattle.dns_read.specs.Sections.{AnswersFault}
+use Rattle.dns_read.specs.declared.section.Section.TheVariants.{Answer}
 use Rattle.dns_read.specs.Message.{message_octets}
 use Rattle.dns_read.specs.RecordSearches.{cname_layout, alias_of, nth_name}
 use Rattle.dns_read.specs.RecordSearches.CanonicalName.{ends, goes_on, no_question, no_section}

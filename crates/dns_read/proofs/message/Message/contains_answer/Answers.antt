@@ -1,8 +1,8 @@
 use Rattle.std.proofs.Common.{◌∙◌, ap}
 use Rattle.dns_item.specs.TypedRecords.{typed_result}
-use Rattle.dns_section.specs.Limited.{limited}
-use Rattle.dns_section.specs.RecordIter.{typed_left}
-use Rattle.dns_section.specs.declared.section.Section.TheVariants.{Answer}
+use Rattle.dns_read.specs.Limited.{limited}
+use Rattle.dns_read.specs.RecordIter.{typed_left}
+use Rattle.dns_read.specs.declared.section.Section.TheVariants.{Answer}
 use Rattle.dns_name.specs.Names.{fault_of}
 use Rattle.dns_read.specs.Message.{message_octets}
 use Rattle.dns_read.specs.SectionStarts.{records_of}

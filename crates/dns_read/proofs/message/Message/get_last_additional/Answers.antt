@@ -25,7 +25,8 @@ returns-in_err-ok-2 g c =
     let read = last_read b c.additional.result c.in_ok-ok.field-0 c.additional.ensures.starts c.in_ok-ok.ensures.value in
     rw c.from_residual-in_err-ok-2.ensures (
     ap (option_and_then (option_map (record_item labels typed.rtype_of typed.parts))) c.in_err-ok-2.ensures.value
-    ∙ last_given typed.rtype_of typed.parts g.D.ParseRecordData.layout b c.in_ok-last_of.field-0 c.to_record.result (c.in_ok-last_of.ensures.record ∙ read) c.in_ok-last_of.ensures.span c.to_record.ensures.returned)
+    ∙ last_given typed.rtype_of typed.parts g.D.ParseRecordData.layout b c.in_ok-last_of.field-0 c.to_record.result (c.in_ok-last_of.ensures.record ∙ read)
+    c.in_ok-last_of.ensures.span c.to_record.ensures.returned)
 
 pub returns : goal.returns
 returns g c =
@@ -33,4 +34,5 @@ returns g c =
     let typed = g.D.RecordData in
     let read = last_read b c.additional.result c.in_ok-ok.field-0 c.additional.ensures.starts c.in_ok-ok.ensures.value in
     ap (option_and_then (option_map (record_item labels typed.rtype_of typed.parts))) c.in_ok-ok-2.ensures.value
-    ∙ last_given typed.rtype_of typed.parts g.D.ParseRecordData.layout b c.in_ok-last_of.field-0 c.to_record.result (c.in_ok-last_of.ensures.record ∙ read) c.in_ok-last_of.ensures.span c.to_record.ensures.returned
+    ∙ last_given typed.rtype_of typed.parts g.D.ParseRecordData.layout b c.in_ok-last_of.field-0 c.to_record.result (c.in_ok-last_of.ensures.record ∙ read)
+    c.in_ok-last_of.ensures.span c.to_record.ensures.returned

@@ -1,9 +1,9 @@
 use Rattle.std.proofs.Common.{◌≡◌, ◌∙◌, ◌+◌, ◌≤◌, List, [], length, ap, sym, subst}
 use Rattle.std.specs.Option.{option_map_or}
 use Rattle.std.specs.Prelude.{option_map}
-use Rattle.dns_section.specs.Sections.{answer_count, authority_count, additional_count}
+use Rattle.dns_read.specs.Sections.{answer_count, authority_count, additional_count}
 use Rattle.dns_read.specs.Message.{message_octets}
-use Rattle.dns_section.specs.RecordSection.{position}
+use Rattle.dns_read.specs.RecordSection.{position}
 use Rattle.dns_read.specs.MessageIter.{Item, cursor_items, message_items}
 use Rattle.dns_read.proofs.MessageIterLemmas.{iterated, length-message_items}
 use Rattle.dns_read.proofs.PositionLemmas.{iterated_from}

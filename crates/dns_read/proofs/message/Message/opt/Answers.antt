@@ -1,7 +1,7 @@
 use Rattle.std.proofs.Common.{◌∙◌, ap, sym}
 use Rattle.std.specs.Prelude.{option_and_then}
 use Rattle.dns_name.specs.Names.{fault_of}
-use Rattle.dns_section.specs.declared.section.Section.TheVariants.{Additional}
+use Rattle.dns_read.specs.declared.section.Section.TheVariants.{Additional}
 use Rattle.dns_read.specs.Message.{message_octets}
 use Rattle.dns_read.specs.OptSearches.{first_opt_in, opt_said}
 use Rattle.dns_read.proofs.theory.SectionStartLemmas.{begins_reading, no_reading, no_additionals}

@@ -1,8 +1,8 @@
 use Rattle.std.proofs.Common.{refl}
 use Rattle.dns_read.specs.Message.{message_octets}
-use Rattle.dns_section.specs.QuestionSection.{BeginsQuestions}
-use Rattle.dns_section.specs.declared.section.Section.TheVariants.{Answer, Authority, Additional}
-use Rattle.dns_section.proofs.theory.SectionLemmas.{begins_answers, begins_next}
+use Rattle.dns_read.specs.QuestionSection.{BeginsQuestions}
+use Rattle.dns_read.specs.declared.section.Section.TheVariants.{Answer, Authority, Additional}
+use Rattle.dns_read.proofs.theory.SectionLemmas.{begins_answers, begins_next}
 use Rattle.dns_read.proofs.message.Message.sections.Goals as goal
 
 pub returns-clause-authority : goal.returns-clause-authority

@@ -1,8 +1,8 @@
 use Rattle.std.proofs.Common.{◌∙◌, ap, sym}
 use Rattle.dns_code.specs.HeaderSection.{header_size}
 use Rattle.dns_read.specs.Message.{message_octets}
-use Rattle.dns_section.specs.QuestionsFrom.{questions_from}
-use Rattle.dns_section.proofs.theory.QuestionsFromLemmas.{questions_from_are_read}
+use Rattle.dns_read.specs.QuestionsFrom.{questions_from}
+use Rattle.dns_read.proofs.theory.QuestionsFromLemmas.{questions_from_are_read}
 use Rattle.dns_read.proofs.ReadingItems.{has_item}
 use Rattle.dns_read.proofs.message.Message.sole_question.Goals as goal
 

@@ -3,8 +3,8 @@ use Rattle.std.proofs.lemmas.Option.{IfSome_then}
 use Rattle.std.specs.Prelude.{Option, Some, None, Err}
 use Rattle.std.specs.Option.{option_map_or}
 use Rattle.dns_octets.specs.declared.error.ParseError.{ParseError}
-use Rattle.dns_section.specs.RecordSection.{GivesNext}
-use Rattle.dns_section.specs.declared.record_section.RecordSection.{RecordSection}
+use Rattle.dns_read.specs.RecordSection.{GivesNext}
+use Rattle.dns_read.specs.declared.record_section.RecordSection.{RecordSection}
 use Rattle.dns_read.specs.MessageIter.{Item, cursor_items, kept_error}
 use Rattle.dns_read.specs.declared.message_iter.MessageIter.{MessageIter}
 use Rattle.dns_read.proofs.MessageIterLemmas.{gave_nothing, moved_on, not_moved_on}
@@ -45,7 +45,8 @@ returns-in-Err-clause-again c =
     let n = c.in-None.ensures in
     let calls : GivesNext c.in-Some.cursor None c.next.new.self = record { steps = n.steps; moves = n.moves; counts = n.counts; octets = n.octets; section = n.section } in
     IfSome_then (kept_error c.args.self.now) c.loop-self.invariant.kept
-    (λ e kept. ap (λ (x : ParseError). Some (Err x)) (stops_again c.next.new.self e (keeps_on c.loop-self.self.cursor c.in-Some.cursor c.next.new.self e c.in-Some.is calls kept) c.in-Err.error c.in-Err.ensures))
+    (λ e kept. ap (λ (x : ParseError). Some (Err x))
+    (stops_again c.next.new.self e (keeps_on c.loop-self.self.cursor c.in-Some.cursor c.next.new.self e c.in-Some.is calls kept) c.in-Err.error c.in-Err.ensures))
 
 pub returns-in-Err-clause-moves : goal.returns-in-Err-clause-moves
 returns-in-Err-clause-moves c =

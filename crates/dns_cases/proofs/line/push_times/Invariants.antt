@@ -1,6 +1,0 @@
-use Rattle.std.proofs.Common.{◌≡◌, ◌++◌}
-use Rattle.std.specs.List.{repeat}
-use Rattle.dns_cases.proofs.line.push_times.Given as goal
-
-abbrev pub invariant-loop : goal.invariant-loop
-invariant-loop l = l.octets.items ≡ l.initial.octets.items ++ repeat l.counter l.part

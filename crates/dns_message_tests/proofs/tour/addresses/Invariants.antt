@@ -1,9 +1,0 @@
-use Rattle.std.proofs.Common.{◌≡◌, ◌++◌, map}
-use Rattle.dns_message.specs.Sections.RecordIter.{typed_left}
-use Rattle.dns_message_tests.specs.Callers.{data_among}
-use Rattle.dns_message_tests.specs.Tour.{a_layout, address_parts}
-use Rattle.dns_message_tests.proofs.tour.addresses.Given as goal
-
-abbrev pub invariant-loop-record : goal.invariant-loop-record
-invariant-loop-record g l =
-    map address_parts l.found.items ++ data_among (typed_left a_layout l.record-iterator) ≡ data_among (typed_left a_layout l.initial.record-iterator)

@@ -1,7 +1,0 @@
-use Rattle.std.proofs.Common.{refl}
-use Rattle.dns_number.specs.Registry.{registered_types}
-use Rattle.dns_number.proofs.laws.type_constants.Goals as goal
-
-pub returns : goal.returns
-unfolding registered_types
-returns c = refl

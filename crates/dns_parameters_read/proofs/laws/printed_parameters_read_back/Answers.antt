@@ -1,5 +1,0 @@
-use Rattle.dns_parameters_read.proofs.ParameterLaws.{parameters_read_back}
-use Rattle.dns_parameters_read.proofs.laws.printed_parameters_read_back.Goals as goal
-
-pub returns : goal.returns
-returns c = parameters_read_back c.printed_values_read_back.ensures.base64

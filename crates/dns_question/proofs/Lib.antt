@@ -1,5 +1,0 @@
-pub mod theory
-mod QuestionLemmas
-mod WordLemmas
-mod QuestionTextLemmas
-mod SpelledNumbers

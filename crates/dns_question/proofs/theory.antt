@@ -1,5 +1,0 @@
--- Lemmas that other crates cite: a changed statement changes for them too.
-pub mod FieldsAfterNames
-pub mod QuestionEntryLemmas
-pub mod QuestionItemLemmas
-pub mod OneResult

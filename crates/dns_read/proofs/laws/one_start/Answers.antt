@@ -1,0 +1,5 @@
+use Rattle.dns_read.proofs.theory.StartLemmas.{one_start}
+use Rattle.dns_read.proofs.laws.one_start.Goals as goal
+
+pub returns : goal.returns
+returns c = one_start

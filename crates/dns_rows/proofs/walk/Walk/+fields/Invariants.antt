@@ -1,5 +1,0 @@
-use Rattle.std.proofs.Common.{length}
-use Rattle.dns_rows.proofs.walk.Walk.+fields.Given as goal
-
-abbrev pub decreases-fields : goal.decreases-fields
-decreases-fields l = length l.fields.now

@@ -1,4 +1,0 @@
-pub mod theory
-mod CursorLemmas
-mod SkipLemmas
-mod LimitedLemmas

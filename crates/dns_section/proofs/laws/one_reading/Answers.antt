@@ -1,7 +1,0 @@
-use Rattle.dns_section.proofs.theory.QuestionsFromLemmas.{questions_from_are_read}
-use Rattle.dns_section.proofs.theory.RecordsFromLemmas.{records_from_are_read}
-use Rattle.dns_section.specs.Unique.{one_reading_of_questions, one_reading_of_records}
-use Rattle.dns_section.proofs.laws.one_reading.Goals as goal
-
-pub returns : goal.returns
-returns c = record { questions = one_reading_of_questions; records = one_reading_of_records; questions_from = questions_from_are_read; records_from = records_from_are_read }

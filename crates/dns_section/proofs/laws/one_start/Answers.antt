@@ -1,5 +1,0 @@
-use Rattle.dns_section.proofs.theory.StartLemmas.{one_start}
-use Rattle.dns_section.proofs.laws.one_start.Goals as goal
-
-pub returns : goal.returns
-returns c = one_start

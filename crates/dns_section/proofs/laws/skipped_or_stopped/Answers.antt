@@ -1,5 +1,0 @@
-use Rattle.dns_section.proofs.theory.StartLemmas.{questions_skip_or_stop, records_skip_or_stop}
-use Rattle.dns_section.proofs.laws.skipped_or_stopped.Goals as goal
-
-pub returns : goal.returns
-returns c = record { questions = questions_skip_or_stop; records = records_skip_or_stop }

@@ -1,4 +1,0 @@
-use Rattle.dns_section.proofs.question_section.QuestionSection.answer.Goals as goal
-
-pub at-requires-clause-cached : goal.at-requires-clause-cached
-at-requires-clause-cached c = rw c.in_ok-skip_questions.ensures.1.seen c.args.self.met

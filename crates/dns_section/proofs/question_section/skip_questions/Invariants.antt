@@ -1,8 +1,0 @@
-use Rattle.dns_name.specs.Parsers.{seen, offset, MovesTo}
-use Rattle.dns_question.specs.Questions.{SkipsQuestion}
-use Rattle.dns_section.specs.Reading.{Skipped}
-use Rattle.dns_section.proofs.question_section.skip_questions.Given as goal
-
-abbrev pub invariant-loop-question : goal.invariant-loop-question
-invariant-loop-question l =
-    Skipped (SkipsQuestion (seen l.fn.parser)) l._question (offset l.fn.parser) (offset l.parser) × MovesTo l.fn.parser l.parser (offset l.parser)

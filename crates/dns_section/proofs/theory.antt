@@ -1,6 +1,0 @@
--- Crates above cite these lemmas, so a change here affects them.
-pub mod QuestionsFromLemmas
-pub mod SectionLemmas
-pub mod StartLemmas
-pub mod RecordsFromLemmas
-pub mod ReadingLemmas

@@ -1,2 +1,0 @@
-pub mod Serials
-pub mod Laws

@@ -1,6 +1,0 @@
-use Rattle.std.proofs.Common.{◌∙◌}
-use Rattle.dns_lines.proofs.theory.AppendedTexts.{prints_both}
-use Rattle.dns_tool.proofs.output.print_octets.Goals as goal
-
-pub returns : goal.returns
-returns g c = prints_both _ _ _ _ _ _ _ (c.deref.ensures.value ∙ c.in_ok-hex_text_of.ensures) c.in_ok-write_all.ensures.bytes c.write_all-2.ensures.bytes

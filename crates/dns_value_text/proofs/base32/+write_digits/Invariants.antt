@@ -1,4 +1,0 @@
-use Rattle.dns_value_text.proofs.base32.+write_digits.Given as goal
-
-abbrev pub decreases-write_digits : goal.decreases-write_digits
-decreases-write_digits g l = l.count

@@ -1,6 +1,0 @@
-use Rattle.std.proofs.Common.{◌≡◌, ◌<◌, ◌^◌, take}
-use Rattle.dns_value_text.specs.Number.{number_of}
-use Rattle.dns_value_text.proofs.number.number_of.Given as goal
-
-abbrev pub invariant-loop-octet : goal.invariant-loop-octet
-invariant-loop-octet l = record { value : l.number ≡ number_of (take l.octet-index l.octets); small : l.number < 256 ^ l.octet-index }

@@ -1,7 +1,0 @@
--- Tags. RFC 8659 section 4.1.
-use Rattle.std.specs.Prelude.{ℕ, List}
-use Rattle.dns_value_text.specs.declared.string.Tag.{Tag}
-
--- the octets of a tag
-abbrev pub tag_octets : Tag → List ℕ
-tag_octets tag = tag.octets.now

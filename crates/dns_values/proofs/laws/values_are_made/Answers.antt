@@ -1,5 +1,0 @@
-use Rattle.dns_values.proofs.MadeParts as made
-use Rattle.dns_values.proofs.laws.values_are_made.Goals as goal
-
-pub returns : goal.returns
-returns c = made.values_are_made

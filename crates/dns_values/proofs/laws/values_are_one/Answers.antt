@@ -1,5 +1,0 @@
-use Rattle.dns_values.proofs.OneValues as one
-use Rattle.dns_values.proofs.laws.values_are_one.Goals as goal
-
-pub returns : goal.returns
-returns c = one.values_are_one

@@ -1,5 +1,0 @@
-use Rattle.std.proofs.Common.{length}
-use Rattle.dns_values.proofs.made.+push_values.Given as goal
-
-abbrev pub decreases-push_values : goal.decreases-push_values
-decreases-push_values l = length l.fields.now

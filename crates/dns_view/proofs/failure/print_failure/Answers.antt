@@ -1,5 +1,0 @@
-use Rattle.dns_view.proofs.Printables.{printable_same}
-use Rattle.dns_view.proofs.failure.print_failure.Goals as goal
-
-pub print_line-requires : goal.print_line-requires
-print_line-requires g c = printable_same _ _ c.as_slice.ensures.value c.in-Ok.ensures

@@ -1,6 +1,0 @@
-use Rattle.dns_view.specs.Pages.{IsPageOf}
-use Rattle.dns_view.proofs.PageForms.{whole_text}
-use Rattle.dns_view.proofs.html.page.Goals as goal
-
-pub returns : goal.returns
-returns c = whole_text (IsPageOf c.args.is_brief c.args.message.now c.args.rows.now) c.new-page.result.items c.print_page_of.new.writer.items c.new-page.ensures.items c.in_ok-print_page_of.ensures

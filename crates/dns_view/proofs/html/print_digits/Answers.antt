@@ -1,6 +1,0 @@
-use Rattle.dns_view.specs.Digits.{octet_text}
-use Rattle.dns_view.proofs.Appended.{appended_more}
-use Rattle.dns_view.proofs.html.print_digits.Goals as goal
-
-pub loop-octet-preserved : goal.loop-octet-preserved
-loop-octet-preserved g c = appended_more octet_text c.args.octets.now c.loop-octet.octet-index 0 _ _ _ c.loop-octet-test.true c.loop-octet.invariant c.in_ok-print_octet.ensures

@@ -1,7 +1,0 @@
-use Rattle.std.proofs.Common.{take}
-use Rattle.std.specs.Io.KnownBytes.{Appends}
-use Rattle.dns_view.specs.Pages.{escaped}
-use Rattle.dns_view.proofs.html.print_escaped.Given as goal
-
-abbrev pub invariant-loop-octet : goal.invariant-loop-octet
-invariant-loop-octet g l = Appends (g.W.Write.contents l.fn.writer) (g.W.Write.contents l.writer) (escaped (take l.octet-index l.text))

@@ -1,5 +1,0 @@
-use Rattle.std.proofs.Common.{refl}
-use Rattle.dns_view.proofs.laws.page_heads_are_self_contained.Goals as goal
-
-pub returns : goal.returns
-returns c = (refl, refl, refl)

@@ -1,9 +1,0 @@
-use Rattle.std.proofs.Common.{◌≡◌, ◌-◌, ◌*◌, ap, arith}
-use Rattle.dns_view.proofs.Appended.{appends_same}
-use Rattle.dns_view.specs.Texts.{spaces}
-use Rattle.dns_view.proofs.text.print_blanks.Goals as goal
-
-pub returns : goal.returns
-returns g c =
-    let count : 3 * (c.loop.counter - c.args.count) ≡ 3 * (8 - c.args.count) = omega arith in
-    appends_same _ _ _ _ (ap spaces count) c.loop.invariant

@@ -1,7 +1,0 @@
-use Rattle.std.proofs.Common.{◌-◌, ◌*◌}
-use Rattle.std.specs.Io.KnownBytes.{Appends}
-use Rattle.dns_view.specs.Texts.{spaces}
-use Rattle.dns_view.proofs.text.print_blanks.Given as goal
-
-abbrev pub invariant-loop : goal.invariant-loop
-invariant-loop g l = Appends (g.W.Write.contents l.fn.writer) (g.W.Write.contents l.writer) (spaces (3 * (l.counter - l.count)))

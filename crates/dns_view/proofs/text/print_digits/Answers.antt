@@ -1,9 +1,0 @@
-use Rattle.std.proofs.Common.{◌∷◌, []}
-use Rattle.dns_view.specs.Digits.{octet_text}
-use Rattle.dns_view.proofs.Appended.{appended_more, appends_both}
-use Rattle.dns_view.proofs.text.print_digits.Goals as goal
-
-pub loop-octet-preserved : goal.loop-octet-preserved
-loop-octet-preserved g c =
-    appended_more (λ octet. 32 ∷ octet_text octet) c.args.octets.now c.loop-octet.octet-index 0 _ _ _ c.loop-octet-test.true c.loop-octet.invariant
-    (appends_both _ _ _ (32 ∷ []) _ c.in_ok-write_all.ensures.bytes c.in_ok-print_octet.ensures)

@@ -1,6 +1,0 @@
-use Rattle.std.proofs.Common.{◌≡◌, true}
-use Rattle.dns_view.specs.Printable.{are_printable}
-use Rattle.dns_view.proofs.words.words_after.Given as goal
-
-abbrev pub invariant-loop-row : goal.invariant-loop-row
-invariant-loop-row l = are_printable l.words.items ≡ true

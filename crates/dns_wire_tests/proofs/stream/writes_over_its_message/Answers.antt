@@ -1,5 +1,0 @@
-use Rattle.dns_wire.proofs.theory.CompressionTables.{clear_nothing}
-use Rattle.dns_wire_tests.proofs.stream.writes_over_its_message.Goals as goal
-
-pub write_at-requires-clause-clear : goal.write_at-requires-clause-clear
-write_at-requires-clause-clear g c = clear_nothing 1 1

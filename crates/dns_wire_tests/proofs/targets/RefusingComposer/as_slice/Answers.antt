@@ -1,5 +1,0 @@
-use Rattle.dns_wire.proofs.theory.CompressionTables.{nothing_is_kept}
-use Rattle.dns_wire_tests.proofs.targets.RefusingComposer.as_slice.Goals as goal
-
-pub returns-clause-is_target : goal.returns-clause-is_target
-returns-clause-is_target c = nothing_is_kept _

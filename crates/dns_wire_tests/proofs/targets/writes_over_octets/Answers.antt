@@ -1,8 +1,0 @@
-use Rattle.dns_wire.proofs.theory.CompressionTables.{clear_nothing}
-use Rattle.dns_wire_tests.proofs.targets.writes_over_octets.Goals as goal
-
-pub assert_written_over-requires-clause-clear : goal.assert_written_over-requires-clause-clear
-assert_written_over-requires-clause-clear g c = clear_nothing 1 2
-
-pub assert_written_over-requires-2-clause-clear : goal.assert_written_over-requires-2-clause-clear
-assert_written_over-requires-2-clause-clear g c = clear_nothing 1 2

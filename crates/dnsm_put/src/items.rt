@@ -1,0 +1,224 @@
+//! Checks items, and writes them at the end of a message (RFC 1035 sections 4.1.2 and 4.1.3).
+ghost use Rattle.std.specs.Prelude.{◌≡◌, ◌≢◌, ℕ, ◌+◌, ◌-◌, ◌<◌, ◌≤◌, ◌++◌, ◌^◌, ◌∷◌, [], length, take, min, IfSome, IsSome, IfErr, OnOk, OnErr};
+ghost use Rattle.std.specs.Int.{to_be_bytes, w16, w32};
+ghost use Rattle.dns_name.specs.Uncompressed.{IsUncompressed};
+ghost use Rattle.dns_item.specs.Questions.{QuestionItem};
+ghost use Rattle.dns_item.specs.Items.{RecordItem};
+ghost use Rattle.dnsm_put.specs.Rdata.{HasFields, layout_of};
+ghost use Rattle.dnsm_put.specs.Items.{HoldsQuestion, HoldsRecord, IsQuestionOf, IsRecordOf, Means, item_size};
+ghost use Rattle.dnsm_put.specs.Drafts.{Adds};
+ghost use Rattle.dnsm_put.specs.Refusals.{IsAcceptable, IsRefused};
+
+use crate::draft::{Draft, PutError, PutItem};
+use crate::names::{is_name, put_name};
+use crate::octets::{HEADER_LEN, put_octets};
+use crate::rdata::{has_fields, put_rdata};
+
+/// The number of the question section.
+const QUESTION: u8 = 0;
+
+/// The number of the additional section, the last one.
+const ADDITIONAL: u8 = 3;
+
+/// The maximum length of RDATA, in octets.
+const MOST_DATA: usize = 65_535;
+
+/// The offset that an item has to end at or before.
+#[inline(always)]
+fn most_of(draft: &Draft, out_len: usize) -> usize
+    ensures { result ≡ min draft.now.limit out_len - draft.now.reserved }
+{
+    let most = if draft.limit < out_len {
+        draft.limit
+    } else {
+        out_len
+    };
+    most.saturating_sub(draft.reserved)
+}
+
+/// The four octets after the name of a question.
+#[inline(always)]
+fn question_fields_of(item: &PutItem<'_>) -> [u8; 4]
+    ensures { result ≡ to_be_bytes w16 item.now.rtype ++ to_be_bytes w16 item.now.class }
+{
+    let [t, u] = item.rtype.to_be_bytes();
+    let [c, d] = item.class.to_be_bytes();
+    [t, u, c, d]
+}
+
+/// The eight octets after the owner of a record, and two for RDLENGTH, which are zero.
+#[inline(always)]
+fn record_fields_of(item: &PutItem<'_>) -> [u8; 10]
+    ensures { result ≡ to_be_bytes w16 item.now.rtype ++ to_be_bytes w16 item.now.class
+        ++ to_be_bytes w32 item.now.ttl ++ (0 ∷ 0 ∷ []) }
+{
+    let [t, u] = item.rtype.to_be_bytes();
+    let [c, d] = item.class.to_be_bytes();
+    let [w, x, y, z] = item.ttl.to_be_bytes();
+    [t, u, c, d, w, x, y, z, 0, 0]
+}
+
+/// Writes a question at offset `at`. Returns the offset after it, or `None` if it would be past
+/// `most`.
+#[inline(always)]
+fn put_question(
+    hints: &mut [u16; 64],
+    out: &mut [u8],
+    at: usize,
+    most: usize,
+    item: &PutItem<'_>,
+) -> Option<usize>
+    requires most { most ≤ length out.old }
+    requires at { at ≤ most }
+    requires after_header { 12 ≤ at }
+    requires name { IsUncompressed item.now.name.now }
+    ensures holds { IfSome result (λ end. (x : QuestionItem) → IsQuestionOf item.now x
+        → HoldsQuestion out.new at end x) }
+    ensures within { IfSome result (λ end. end ≤ most) }
+    ensures after { IfSome result (λ end. at ≤ end) }
+    ensures room { at + (length item.now.name.now + 4) ≤ most → IsSome result }
+    ensures length { length out.new ≡ length out.old }
+    ensures kept { take at out.new ≡ take at out.old }
+{
+    let fields = put_name(hints, out, at, most, at, item.name)?;
+    put_octets(out, fields, most, &question_fields_of(item))
+}
+
+/// Writes a record at offset `at`. Returns the offset after it, or `None` if it would be past
+/// `most`.
+#[inline(always)]
+fn put_record(
+    hints: &mut [u16; 64],
+    out: &mut [u8],
+    at: usize,
+    most: usize,
+    item: &PutItem<'_>,
+) -> Option<usize>
+    requires most { most ≤ length out.old }
+    requires at { at ≤ most }
+    requires after_header { 12 ≤ at }
+    requires name { IsUncompressed item.now.name.now }
+    requires short { length item.now.rdata.now ≤ 65535 }
+    requires fields { HasFields (layout_of item.now) item.now.rdata.now }
+    ensures holds { IfSome result (λ end. (x : RecordItem) → IsRecordOf item.now x
+        → HoldsRecord out.new at end x) }
+    ensures within { IfSome result (λ end. end ≤ most) }
+    ensures after { IfSome result (λ end. at ≤ end) }
+    ensures room { at + (length item.now.name.now + 10 + length item.now.rdata.now) ≤ most
+        → IsSome result }
+    ensures length { length out.new ≡ length out.old }
+    ensures kept { take at out.new ≡ take at out.old }
+{
+    let fields = put_name(hints, out, at, most, at, item.name)?;
+    let start = put_octets(out, fields, most, &record_fields_of(item))?;
+    let end = put_rdata(hints, out, start, most, fields, item)?;
+    let size = (end - start) as u16;
+    let _size = put_octets(out, fields + 8, most, &size.to_be_bytes());
+    Some(end)
+}
+
+/// Writes an item at offset `at`. Returns the offset after it, or `None` if it would be past
+/// `most`.
+#[inline(always)]
+fn put_item(
+    hints: &mut [u16; 64],
+    out: &mut [u8],
+    at: usize,
+    most: usize,
+    item: &PutItem<'_>,
+) -> Option<usize>
+    requires most { most ≤ length out.old }
+    requires at { at ≤ most }
+    requires after_header { 12 ≤ at }
+    requires name { IsUncompressed item.now.name.now }
+    requires short { item.now.section ≢ 0 → length item.now.rdata.now ≤ 65535 }
+    requires fields { item.now.section ≢ 0
+        → HasFields (layout_of item.now) item.now.rdata.now }
+    ensures question { IfSome result (λ end. item.now.section ≡ 0 → (x : QuestionItem)
+        → IsQuestionOf item.now x → HoldsQuestion out.new at end x) }
+    ensures record_of { IfSome result (λ end. item.now.section ≢ 0 → (x : RecordItem)
+        → IsRecordOf item.now x → HoldsRecord out.new at end x) }
+    ensures within { IfSome result (λ end. end ≤ most) }
+    ensures after { IfSome result (λ end. at ≤ end) }
+    ensures room { at + item_size item.now ≤ most → IsSome result }
+    ensures length { length out.new ≡ length out.old }
+    ensures kept { take at out.new ≡ take at out.old }
+{
+    if item.section == QUESTION {
+        put_question(hints, out, at, most, item)
+    } else {
+        put_record(hints, out, at, most, item)
+    }
+}
+
+/// The numbers of an item fit their fields.
+fn fits(item: &PutItem<'_>)
+    ensures rtype { item.now.rtype < 2 ^ 16 }
+    ensures class { item.now.class < 2 ^ 16 }
+    ensures ttl { item.now.ttl < 2 ^ 32 }
+{
+    let _rtype = item.rtype;
+    let _class = item.class;
+    let _ttl = item.ttl;
+}
+
+/// Checks an item, but not the room for it.
+fn check(draft: &Draft, item: &PutItem<'_>) -> Result<(), PutError>
+    ensures acceptable { OnOk result (IsAcceptable draft.now item.now) }
+    ensures means { OnOk result (Means item.now) }
+    ensures refused { IfErr result (λ error. (n : ℕ) → IsRefused draft.now n item.now error) }
+{
+    fits(item);
+    if item.section > ADDITIONAL || item.section < draft.section {
+        return Err(PutError::BadSection);
+    }
+    if !is_name(item.name) {
+        return Err(PutError::BadName);
+    }
+    let is_record = item.section != QUESTION;
+    if is_record && item.rdata.len() > MOST_DATA {
+        return Err(PutError::LongData);
+    }
+    if is_record && !has_fields(item) {
+        return Err(PutError::BadData);
+    }
+    if draft.counts[usize::from(item.section)] == u16::MAX {
+        return Err(PutError::TooMany);
+    }
+    Ok(())
+}
+
+/// Appends an item to the message.
+pub(crate) fn append(draft: &mut Draft, out: &mut [u8], item: &PutItem<'_>) -> Result<(), PutError>
+    ensures adds { OnOk result (Adds out.old out.new draft.old draft.new item.now) }
+    ensures means { OnOk result (Means item.now) }
+    ensures room { OnOk result ((draft.new.len + draft.old.reserved ≤ length out.old)
+        × (draft.new.len + draft.old.reserved ≤ draft.old.limit)) }
+    ensures section { OnOk result (draft.new.section ≡ item.now.section) }
+    ensures acceptable { OnOk result (IsAcceptable draft.old item.now) }
+    ensures refused { IfErr result (λ error.
+        IsRefused draft.old (length out.old) item.now error) }
+    ensures settings { (draft.new.id ≡ draft.old.id) × (draft.new.flags ≡ draft.old.flags)
+        × (draft.new.limit ≡ draft.old.limit) × (draft.new.reserved ≡ draft.old.reserved) }
+    ensures same { OnErr result ((draft.new.len ≡ draft.old.len)
+        × (draft.new.counts ≡ draft.old.counts) × (draft.new.section ≡ draft.old.section)) }
+    ensures length { length out.new ≡ length out.old }
+    ensures kept { take draft.old.len out.new ≡ take draft.old.len out.old }
+{
+    if let Err(error) = check(draft, item) {
+        return Err(error);
+    }
+    let most = most_of(draft, out.len());
+    let at = draft.len;
+    if at < HEADER_LEN || at > most {
+        return Err(PutError::NoRoom);
+    }
+    let Some(end) = put_item(&mut draft.hints, out, at, most, item) else {
+        return Err(PutError::NoRoom);
+    };
+    let section = usize::from(item.section);
+    draft.len = end;
+    draft.counts[section] += 1;
+    draft.section = item.section;
+    Ok(())
+}

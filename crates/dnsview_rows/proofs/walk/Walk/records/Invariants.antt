@@ -1,0 +1,10 @@
+use Rattle.std.proofs.Common.{◌≡◌, ◌+◌}
+use Rattle.dnsview_rows.specs.Walks.{items, Comes, MarksFirst}
+use Rattle.dnsview_rows.proofs.walk.Walk.records.Given as goal
+
+abbrev pub invariant-loop-index : goal.invariant-loop-index
+invariant-loop-index l = record {
+  comes : Comes l.index l.fn.self l.self;
+  begun : items l.self ≡ items l.fn.self + l.index;
+  first : MarksFirst l.fn.part l.index l.fn.self l.self;
+}

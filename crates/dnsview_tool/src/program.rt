@@ -1,0 +1,288 @@
+//! The work of the program `dnsview`.
+ghost use Rattle.std.specs.Prelude.{◌≡◌, ◌||◌, ◌⊎◌, IfOk, IfSome, MatchOption, OnOk, Some};
+ghost use Rattle.std.specs.Char.{is_ascii_hexdigit, is_ascii_whitespace};
+ghost use Rattle.std.specs.Io.KnownBytes.{Appends};
+ghost use Rattle.dns_lines.specs.Digits.{unspaced};
+ghost use Rattle.dnsview_tool.specs.Requests.{asked};
+ghost use Rattle.dnsview_tool.specs.Viewing.{is_digits, lines_text, named_text, wrong_text, CanEnd, Gives, IsOdd, IsPrinted, IsViewed, PrintsForm, Reports};
+
+use crate::failure::{Failure, print_failure};
+use crate::html::print_page;
+use crate::request::{Form, Request, wrong_word};
+use crate::text::print_text;
+use dns_lines::print_zone_lines;
+use dns_read::Message;
+use dnsview_rows::rows;
+use fields_text::Quoted;
+use std::alloc::{AllocError, Global};
+use std::io;
+use std::io::{Read, Write};
+
+/// The exit status if the input is an odd number of digits.
+const BAD_HEX: u8 = 1;
+
+/// The exit status if an argument is wrong.
+const USAGE_STATUS: u8 = 2;
+
+/// The exit status if reading, writing or an allocation fails.
+const FAILED: u8 = 3;
+
+/// The exit status if the input has no octet.
+const EMPTY: u8 = 4;
+
+/// How the program is called.
+pub const USAGE: &str = "usage: dnsview [--html | --short] [FILE]\n";
+
+/// What `--help` prints.
+const HELP: &str = "usage: dnsview [--html | --short] [FILE]
+
+Prints a DNS message (RFC 1035) field by field: the offset, the octets and
+what they mean. Reads FILE, or standard input if there is none or it is -.
+The message is hexadecimal digits with any white space, or octets.
+
+      --html     print a page of HTML
+      --short    print each record as a line, as dig does
+  -h, --help     print this text
+      --version  print the name and the version
+
+Example: dnsview --html answer.hex > answer.html
+
+Exit status: 0; 1 if the number of digits is odd; 2 for a wrong argument;
+3 if opening, reading or writing fails; 4 if the input is empty.
+";
+
+/// What `--version` prints.
+const VERSION: &str = "dnsview 2.0.0\n";
+
+/// Reads a message, as octets or in hexadecimal digits, prints it, and returns the exit status of
+/// the program. Only what is wrong is printed to `errors`.
+///
+/// Prints the rows of the message as text; with `--html` as a page. With `--short` it prints each
+/// record of the answer, authority and additional section as a line. `reader` is the file that
+/// `file_of` returns. If the input is hexadecimal digits and ASCII white space alone, it is read as
+/// digits. The exit status is 0; 1 if the number of digits is odd; 2 for a wrong argument; 3 if
+/// reading, writing or an allocation fails; and 4 if the input has no octets.
+pub fn tool<R: Read, W: Write, E: Write>(
+    alloc: Global,
+    args: &[String],
+    reader: &mut R,
+    writer: &mut W,
+    errors: &mut E,
+) -> u8
+    ensures status { (result ≡ 3) ⊎ CanEnd (asked args.now) result }
+    ensures views { (result ≡ 3) ⊎ IfSome (R.remaining reader.old)
+        (λ input. IsViewed args.now input (W.contents writer.old) (W.contents writer.new)
+        (E.contents errors.old) (E.contents errors.new) result) }
+    ensures reports { IfSome (R.remaining reader.old) (λ input. Reports args.now input result) }
+{
+    match view(alloc, args, reader, writer, errors) {
+        Ok(status) => status,
+        Err(failure) => {
+            let _ = print_failure(alloc, errors, failure.words(), failure.error());
+            FAILED
+        }
+    }
+}
+
+/// Does what the arguments ask for, and returns the exit status.
+fn view<R: Read, W: Write, E: Write>(
+    alloc: Global,
+    args: &[String],
+    reader: &mut R,
+    writer: &mut W,
+    errors: &mut E,
+) -> Result<u8, Failure>
+    ensures status { IfOk result (CanEnd (asked args.now)) }
+    ensures views { IfOk result (λ status. IfSome (R.remaining reader.old)
+        (λ input. IsViewed args.now input (W.contents writer.old) (W.contents writer.new)
+        (E.contents errors.old) (E.contents errors.new) status)) }
+{
+    match Request::of_words(args) {
+        Request::View(form) => view_input(alloc, form, reader, writer, errors),
+        Request::Help => answer(writer, HELP),
+        Request::Version => answer(writer, VERSION),
+        Request::Wrong => refuse(args, errors),
+    }
+}
+
+/// Prints a text, and returns the exit status.
+fn answer<W: Write>(writer: &mut W, text: &str) -> Result<u8, Failure>
+    ensures status { IfOk result (λ status. status ≡ 0) }
+    ensures text { OnOk result (Appends (W.contents writer.old) (W.contents writer.new) text.now) }
+{
+    match print_all(writer, text) {
+        Ok(()) => Ok(0),
+        Err(error) => Err(Failure::Printing(error)),
+    }
+}
+
+fn print_all<W: Write>(writer: &mut W, text: &str) -> io::Result<()>
+    ensures { OnOk result (Appends (W.contents writer.old) (W.contents writer.new) text.now) }
+{
+    writer.write_all(text.as_bytes())?;
+    writer.flush()
+}
+
+/// Says which argument is wrong, and returns the exit status.
+fn refuse<E: Write>(args: &[String], errors: &mut E) -> Result<u8, Failure>
+    ensures status { IfOk result (λ status. status ≡ 2) }
+    ensures text { OnOk result (Appends (E.contents errors.old) (E.contents errors.new)
+        (wrong_text args.now)) }
+{
+    match print_wrong(args, errors) {
+        Ok(()) => Ok(USAGE_STATUS),
+        Err(error) => Err(Failure::Printing(error)),
+    }
+}
+
+/// Says which argument is wrong, and how the program is called.
+fn print_wrong<E: Write>(args: &[String], errors: &mut E) -> io::Result<()>
+    ensures { OnOk result (Appends (E.contents errors.old) (E.contents errors.new)
+        (wrong_text args.now)) }
+{
+    if let Some(word) = wrong_word(args) {
+        print_named(word, errors)?;
+    }
+    errors.write_all(USAGE.as_bytes())
+}
+
+/// Prints a line that names an argument.
+fn print_named<E: Write>(word: &String, errors: &mut E) -> io::Result<()>
+    ensures { OnOk result (Appends (E.contents errors.old) (E.contents errors.new)
+        (named_text (Some word.now))) }
+{
+    let word = Quoted(word.as_bytes());
+    writeln!(errors, "dnsview: unexpected argument {word}")
+}
+
+/// Reads the input, prints its message, and returns the exit status.
+fn view_input<R: Read, W: Write, E: Write>(
+    alloc: Global,
+    form: Form,
+    reader: &mut R,
+    writer: &mut W,
+    errors: &mut E,
+) -> Result<u8, Failure>
+    ensures status { IfOk result (CanEnd (Request.View form)) }
+    ensures views { IfOk result (λ status. IfSome (R.remaining reader.old)
+        (λ input. IsPrinted form input (W.contents writer.old) (W.contents writer.new)
+        (E.contents errors.old) (E.contents errors.new) status)) }
+{
+    let mut input = Vec::new(alloc);
+    match reader.read_to_end(&mut input) {
+        Ok(_) => {}
+        Err(error) => return Err(Failure::Reading(error)),
+    }
+    match print_input(alloc, form, input, writer, errors) {
+        Ok(status) => Ok(status),
+        Err(error) => Err(Failure::Printing(error)),
+    }
+}
+
+/// Prints the message of an input, which is octets or hexadecimal digits, and returns the exit
+/// status.
+fn print_input<W: Write, E: Write>(
+    alloc: Global,
+    form: Form,
+    input: Vec<u8>,
+    writer: &mut W,
+    errors: &mut E,
+) -> io::Result<u8>
+    ensures { IfOk result (IsPrinted form input.items (W.contents writer.old)
+        (W.contents writer.new) (E.contents errors.old) (E.contents errors.new)) }
+{
+    let Some(message) = message_of(alloc, input)? else {
+        errors.write_all(b"dnsview: the number of hexadecimal digits is odd\n")?;
+        return Ok(BAD_HEX);
+    };
+    if message.is_empty() {
+        errors.write_all(b"dnsview: the input is empty\n")?;
+        return Ok(EMPTY);
+    }
+    print_form(alloc, form, &message, writer)?;
+    writer.flush()?;
+    Ok(0)
+}
+
+/// Prints a message in a form.
+fn print_form<W: Write>(alloc: Global, form: Form, message: &[u8], writer: &mut W) -> io::Result<()>
+    ensures { OnOk result (PrintsForm form message.now
+        (W.contents writer.old) (W.contents writer.new)) }
+{
+    match form {
+        Form::Text => print_as_text(alloc, message, writer),
+        Form::Page => print_as_page(alloc, message, writer),
+        Form::Lines => print_lines(message, writer),
+    }
+}
+
+/// Prints the rows of a message as text.
+fn print_as_text<W: Write>(alloc: Global, message: &[u8], writer: &mut W) -> io::Result<()>
+    ensures { OnOk result (PrintsForm Form.Text message.now
+        (W.contents writer.old) (W.contents writer.new)) }
+{
+    let rows = rows(alloc, message)?;
+    print_text(alloc, writer, message, &rows)
+}
+
+/// Prints the rows of a message as a page.
+fn print_as_page<W: Write>(alloc: Global, message: &[u8], writer: &mut W) -> io::Result<()>
+    ensures { OnOk result (PrintsForm Form.Page message.now
+        (W.contents writer.old) (W.contents writer.new)) }
+{
+    let rows = rows(alloc, message)?;
+    print_page(alloc, writer, message, &rows)
+}
+
+/// Prints the lines of a message's records.
+fn print_lines<W: Write>(message: &[u8], writer: &mut W) -> io::Result<()>
+    ensures { OnOk result (Appends (W.contents writer.old) (W.contents writer.new)
+        (lines_text message.now)) }
+{
+    match Message::from_slice(message) {
+        Ok(message) => print_zone_lines(writer, &message),
+        Err(_) => writer.write_all(b";; the message has fewer than 12 octets\n"),
+    }
+}
+
+/// The octets of an input, or those that its hexadecimal digits encode. Returns `None` if the
+/// number of digits is odd.
+fn message_of(alloc: Global, input: Vec<u8>) -> Result<Option<Vec<u8>>, AllocError>
+    ensures { IfOk result (λ message. MatchOption message (IsOdd input.items)
+        (λ octets. Gives input.items octets.items)) }
+{
+    if !is_digits(&input) {
+        return Ok(Some(input));
+    }
+    let digits = unspaced(alloc, &input)?;
+    match hex::decode(alloc, &digits) {
+        Ok(octets) => Ok(Some(octets)),
+        Err(hex::FromHexError::OddLength) => Ok(None),
+        // all are digits, so an allocation failed
+        Err(_) => Err(AllocError),
+    }
+}
+
+/// The octets that aren't ASCII white space.
+fn unspaced(alloc: Global, octets: &[u8]) -> Result<Vec<u8>, AllocError>
+    ensures { IfOk result (λ others. others.items ≡ unspaced octets.now) }
+{
+    octets
+        .iter()
+        .copied()
+        .filter(|octet| !octet.is_ascii_whitespace())
+        .collect(alloc)
+}
+
+/// Whether all octets are hexadecimal digits or ASCII white space.
+fn is_digits(octets: &[u8]) -> bool
+    ensures { result ≡ is_digits octets.now }
+{
+    octets.iter().all(|octet| is_digit_or_space(*octet))
+}
+
+fn is_digit_or_space(octet: u8) -> bool
+    ensures { result ≡ (is_ascii_hexdigit octet || is_ascii_whitespace octet) }
+{
+    octet.is_ascii_hexdigit() || octet.is_ascii_whitespace()
+}

@@ -1,0 +1,13 @@
+use Rattle.std.proofs.Common.{◌≡◌, is_some, map, []}
+use Rattle.fields_print.specs.FieldTexts.{prefixes_text}
+use Rattle.fields_print.specs.ItemsLeft.{prefixes_left}
+use Rattle.fields_print.specs.Prefixes.{prefix_word}
+use Rattle.fields_print.specs.Separated.{spaced_if_all}
+use Rattle.fields_print.proofs.field.are_printable.Given as goal
+
+abbrev pub invariant-loop-prefix : goal.invariant-loop-prefix
+invariant-loop-prefix l = record {
+  can : goal.iterator-loop-prefix.can_next l.prefix-iterator;
+  finite : goal.iterator-loop-prefix.is_finite l.prefix-iterator;
+  same : is_some (prefixes_text l.fn.octets) ≡ is_some (spaced_if_all [] (map prefix_word (prefixes_left l.prefix-iterator)));
+}

@@ -1,0 +1,35 @@
+//! Record data of each type of the table of `fields_octets` in presentation format (RFC 1035 section 5.1).
+//! Printing allocates no memory. It goes to any `TextWriter`, and fails only if the writer does.
+#![tactic(auto)]
+
+mod address;
+mod base64_text;
+mod data_text;
+mod field;
+mod gateway;
+mod host_identity;
+pub mod laws;
+mod parameter;
+mod parameters;
+mod prefix;
+mod prefixes;
+mod record_text;
+mod strings;
+mod type_map;
+mod type_name;
+mod types;
+mod unknown;
+mod zone_name;
+
+pub use data_text::{DataText, write_data_text};
+pub use parameter::{ParameterText, write_parameter};
+pub use parameters::{Parameter, Parameters};
+pub use prefix::{PrefixText, write_prefix};
+pub use prefixes::{AddressPrefix, AddressPrefixes};
+pub use record_text::{RecordText, write_record_text};
+pub use strings::Strings;
+pub use type_map::{SmallTypeMap, TypeMap, write_type_map};
+pub use type_name::{TypeName, write_type_name};
+pub use types::Types;
+pub use unknown::write_opaque;
+pub use zone_name::{ZoneName, write_zone_name};

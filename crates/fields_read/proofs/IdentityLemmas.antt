@@ -1,0 +1,52 @@
+-- Host identities and their words.
+use Rattle.std.proofs.Common.{◌≡◌, ◌∙◌, ◌↔◌, ℕ, Bool, false, List, refl, inl, inr}
+use Rattle.std.specs.Borrow.{Bor}
+use Rattle.std.specs.Global.{Vec}
+use Rattle.std.specs.Prelude.{IsTrue, Result, Ok, Err}
+use Rattle.fields_text.specs.Octets.{IsBase64}
+use Rattle.fields_text.specs.declared.text_error.TextError.{TextError}
+use Rattle.fields_read.specs.GatewayWords.{IsNumberTo}
+use Rattle.fields_read.specs.IdentityWords.{AreNames, IsCountedHex, IsIdentity, MayBeIdentity}
+use Rattle.fields_read.specs.NameWords.{IsNameWord}
+use Rattle.fields_read.specs.Reading.{Fails, FailsFirst, FailsIf, HasValue, ReadsWordsIf}
+use Rattle.fields_read.specs.SizedWords.{IsCountedBase64}
+use Rattle.fields_read.proofs.theory.WordLists.{AreInOrder}
+
+-- a word that is a name
+abbrev pub IsName : Bor (List ℕ) → List ℕ → Type 0
+IsName word octets = IsNameWord word.now octets
+
+-- the names of words
+pub names_in_order : AreInOrder IsName AreNames
+names_in_order = record {
+  none = refl;
+  both = λ word words first after own others. (first, after, own, refl, others);
+  parts = λ word words octets is. ((is.0, is.2), (is.1, is.4));
+}
+
+-- why no host identity is read
+module _ (algorithm_word tag_word key_word : List ℕ) (server_words : List (Bor (List ℕ))) where
+  abbrev pub FailsSo : TextError → Type 0
+  FailsSo e = FailsIf (MayBeIdentity algorithm_word tag_word key_word server_words) (IsIdentity algorithm_word tag_word key_word server_words) e
+
+  pub no_servers : (b : Bool) → b ≡ false → IsTrue b ↔ HasValue (AreNames server_words) → (octets : List ℕ) → ¬ (IsIdentity algorithm_word tag_word key_word server_words octets)
+  no_servers b is_false tested octets is = let is_true = tested.1 (is.servers, is.are_servers) in absurd (cc (is_false, is_true))
+
+  pub tag_fails : (e first : TextError) (key : Result (Vec ℕ) TextError) → HasValue (IsNumberTo 255 algorithm_word) → HasValue (AreNames server_words) → Fails (IsCountedHex tag_word) first
+      → ReadsWordsIf (HasValue (IsBase64 key_word)) (IsCountedBase64 key_word) key → FailsFirst first key e → FailsSo e
+  tag_fails e first (Ok key) number servers (inl memory) is why = inl (why ∙ memory.0, (number, memory.1, (key.items, is.0), servers))
+  tag_fails e first (Ok key) number servers (inr bad) is why = inr (why ∙ bad.0, λ octets is. bad.1 is.tag is.is_tag)
+  tag_fails e first (Err f) number servers fails (inl full) (inl why) = absurd (cc (full.0, why.0))
+  tag_fails e first (Err f) number servers (inl memory) (inl full) (inr why) = inl (why.1 ∙ memory.0, (number, memory.1, full.1, servers))
+  tag_fails e first (Err f) number servers (inr bad) (inl full) (inr why) = inr (why.1 ∙ bad.0, λ octets is. bad.1 is.tag is.is_tag)
+  tag_fails e first (Err f) number servers fails (inr none) (inl why) = inr (why.1, λ octets is. none.1 is.key is.is_key)
+  tag_fails e first (Err f) number servers fails (inr none) (inr why) = absurd (cc (none.0, why.0))
+
+  pub key_fails : (e : TextError) → HasValue (IsNumberTo 255 algorithm_word) → HasValue (IsCountedHex tag_word) → HasValue (AreNames server_words)
+      → FailsIf (HasValue (IsBase64 key_word)) (IsCountedBase64 key_word) e → FailsSo e
+  key_fails e number tag servers (inl memory) = inl (memory.0, (number, tag, memory.1, servers))
+  key_fails e number tag servers (inr bad) = inr (bad.0, λ octets is. bad.1 is.key is.is_key)
+
+  pub servers_fail : (e : TextError) → MayBeIdentity algorithm_word tag_word key_word server_words → Fails (AreNames server_words) e → FailsSo e
+  servers_fail e there (inl memory) = inl (memory.0, there)
+  servers_fail e there (inr bad) = inr (bad.0, λ octets is. bad.1 is.servers is.are_servers)

@@ -1,0 +1,52 @@
+use Rattle.std.proofs.Common.{◌≡◌, ◌≢◌, ◌∙◌, ◌*◌, ◌/◌, ◌==◌, ◌++◌, ◌∷◌, [], List, ℕ, false, length, sym, ap, subst, arith, append-nil, append_assoc, eq-eqb}
+use Rattle.std.specs.List.{list_any}
+use Rattle.std.proofs.lemmas.Bool.{eqb-true, false≢true}
+use Rattle.std.proofs.lemmas.Grind.{common_steps}
+use Rattle.fields_read.specs.TypeBits.{IsBits, octets_bits}
+use Rattle.fields_read.specs.TypeMapWords.{has}
+use Rattle.fields_read.proofs.TypeMapLemmas.{block_some, empty_is, trimmed_is, window_none}
+use Rattle.fields_read.proofs.type_map.push_block.Goals as goal
+
+pub returns-then-not-has_window : goal.returns-then-not-has_window
+returns-then-not-has_window c =
+    let no : c.has_window.result ≡ false = c.if-not-has_window.true in
+    let none = ap (λ (w : ℕ). list_any (λ rtype. rtype / 256 == w) c.args.types.now) (sym c.from.ensures) ∙ sym c.has_window.ensures ∙ no in
+    ([], window_none c.args.types.now c.args.window none, sym (append-nil c.args.map.now.items))
+
+pub returns-then-is_empty : goal.returns-then-is_empty
+returns-then-is_empty c =
+    let all =
+    c.as_slice.ensures.value
+    ∙ c.push_octets.ensures
+    ∙ ap (λ (xs : List ℕ). xs ++ octets_bits (has c.args.types.now) (c.from-2.result * 256) 32) c.new-octets.ensures
+    ∙ ap (λ (w : ℕ). octets_bits (has c.args.types.now) (w * 256) 32) c.from-2.ensures in
+    let is =
+    trimmed_is (has c.args.types.now) (c.args.window * 256) 32 c.as_slice.result.now c.trimmed-bits.result.now all c.trimmed-bits.ensures.trimmed c.trimmed-bits.ensures.fits
+    c.trimmed-bits.ensures.zeros in
+    let none = eqb-true (length c.trimmed-bits.result.now) 0 (sym c.is_empty.ensures ∙ c.if-is_empty.true) in (
+      [],
+      subst (IsBits (has c.args.types.now) (c.args.window * 256) 32) (empty_is c.trimmed-bits.result.now none) is,
+      sym (append-nil c.args.map.now.items),
+    )
+
+pub returns : goal.returns
+returns c =
+    let all =
+    c.as_slice.ensures.value
+    ∙ c.push_octets.ensures
+    ∙ ap (λ (xs : List ℕ). xs ++ octets_bits (has c.args.types.now) (c.from-2.result * 256) 32) c.new-octets.ensures
+    ∙ ap (λ (w : ℕ). octets_bits (has c.args.types.now) (w * 256) 32) c.from-2.ensures in
+    let is =
+    trimmed_is (has c.args.types.now) (c.args.window * 256) 32 c.as_slice.result.now c.trimmed-bits.result.now all c.trimmed-bits.ensures.trimmed c.trimmed-bits.ensures.fits
+    c.trimmed-bits.ensures.zeros in
+    let some : length c.trimmed-bits.result.now ≢ 0 =
+    λ e. false≢true (sym (sym c.is_empty.ensures ∙ c.if-is_empty.false) ∙ eq-eqb (length c.trimmed-bits.result.now) 0 e) in
+    let first : c.extend_from_slice.new.self.items ≡ c.args.map.now.items ++ (c.args.window ∷ length c.trimmed-bits.result.now ∷ []) = grind (arith, common_steps) in
+    let second : c.extend_from_slice-2.new.self.items ≡ c.extend_from_slice.new.self.items ++ c.trimmed-bits.result.now = grind (arith, common_steps) in (
+      c.trimmed-bits.result.now,
+      is,
+      second
+          ∙ ap (λ (xs : List ℕ). xs ++ c.trimmed-bits.result.now) first
+          ∙ append_assoc c.args.map.now.items (c.args.window ∷ length c.trimmed-bits.result.now ∷ []) c.trimmed-bits.result.now
+          ∙ ap (λ (xs : List ℕ). c.args.map.now.items ++ xs) (block_some c.args.window c.trimmed-bits.result.now some),
+    )

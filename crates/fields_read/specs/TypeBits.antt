@@ -1,0 +1,84 @@
+-- What the private functions of type bit maps return. No public contract cites it.
+use Rattle.std.specs.Prelude.{◌≡◌, ◌⊎◌, ◌↔◌, ℕ, zero, suc, ◌+◌, ◌*◌, ◌/◌, ◌≤◌, ◌==◌, ◌&&◌, not, nat_le, nat_lt, Bool, true, false, if◌then◌else◌, List, [], ◌∷◌}
+use Rattle.std.specs.Prelude.{◌++◌, length, get_or, Result, MatchResult}
+use Rattle.std.specs.Borrow.{Bor}
+use Rattle.std.specs.List.{list_all}
+use Rattle.hex.specs.Hex.{IsBytes}
+use Rattle.fields_octets.specs.TypeMaps.{blocks_after}
+use Rattle.fields_print.specs.Prefixes.{is_trimmed}
+use Rattle.fields_print.specs.TypeMaps.{is_small_map, map_types, octet_types}
+use Rattle.fields_text.specs.declared.text_error.TextError.{TextError}
+use Rattle.fields_text.specs.declared.text_error.TextError.TheVariants.{BadWord, OutOfMemory}
+use Rattle.fields_read.specs.Reading.{IsStartOf}
+use Rattle.fields_read.specs.TypeMapWords.{AreTypes, HasType, has}
+
+-- whether the mark at an index is set
+abbrev pub is_marked : List Bool → ℕ → Bool
+is_marked marks index = get_or marks index false
+
+-- the octet of `count` types from `first` on, the first of which has the highest bit
+abbrev pub octet_bits : (ℕ → Bool) → ℕ → ℕ → ℕ
+octet_bits p first zero = 0
+octet_bits p first (suc count) = (if p first then 128 else 0) + octet_bits p (first + 1) count / 2
+
+-- `count` octets of the types from `first` on
+abbrev pub octets_bits : (ℕ → Bool) → ℕ → ℕ → List ℕ
+octets_bits p first zero = []
+octets_bits p first (suc count) = octet_bits p first 8 ∷ octets_bits p (first + 8) count
+
+-- whether it is one of the types from `first` on, before `end`
+abbrev pub is_within : (ℕ → Bool) → ℕ → ℕ → ℕ → Bool
+is_within p first end n = p n && (nat_le first n && nat_lt n end)
+
+-- the block of a window with these bits, none if there are no bits
+abbrev pub block_of : ℕ → List ℕ → List ℕ
+block_of window [] = []
+block_of window (octet ∷ octets) = window ∷ length (octet ∷ octets) ∷ octet ∷ octets
+
+-- at most `count` octets with a bit for each type from `first` on, without zero octets at the end
+pub record IsBits (p : ℕ → Bool) (first count : ℕ) (bits : List ℕ) : Type 0 where
+  pub bytes : IsBytes bits
+  pub short : length bits ≤ count
+  pub trimmed : is_trimmed bits ≡ true
+  pub types : (n : ℕ) → has (octet_types first bits) n ≡ is_within p first (first + 8 * count) n
+
+-- the blocks of the windows from this one on
+pub record IsBlocks (p : ℕ → Bool) (window : ℕ) (blocks : List ℕ) : Type 0 where
+  pub bytes : IsBytes blocks
+  pub shape : blocks_after window 0 blocks ≡ true
+  pub types : (n : ℕ) → has (map_types blocks) n ≡ is_within p (window * 256) 65536 n
+
+-- the block of a window is appended; or an allocation fails, and a part of it may be
+abbrev pub AppendsBlock : (ℕ → Bool) → ℕ → List ℕ → List ℕ → Result Unit TextError → Type 0
+AppendsBlock p window old new result =
+    MatchResult result (λ _. (bits : List ℕ) × IsBits p (window * 256) 32 bits × (new ≡ old ++ block_of window bits)) (λ error. (error ≡ OutOfMemory) × IsStartOf old new)
+
+-- the same of the windows from this one on
+abbrev pub AppendsBlocks : (ℕ → Bool) → ℕ → List ℕ → List ℕ → Result Unit TextError → Type 0
+AppendsBlocks p window old new result =
+    MatchResult result (λ _. (blocks : List ℕ) × IsBlocks p window blocks × (new ≡ old ++ blocks)) (λ error. (error ≡ OutOfMemory) × IsStartOf old new)
+
+-- why there are no types: `BadWord` if a word represents none. `OutOfMemory` if an allocation fails, where each word represents one.
+abbrev pub FailsAsTypes : List (Bor (List ℕ)) → TextError → Type 0
+FailsAsTypes words error = ((error ≡ OutOfMemory) × AreTypes words) ⊎ ((error ≡ BadWord) × ¬ (AreTypes words))
+
+-- the types of the words are appended, or why there are none
+abbrev pub AppendsTypes : List (Bor (List ℕ)) → List ℕ → List ℕ → Result Unit TextError → Type 0
+AppendsTypes words old new result =
+    MatchResult result
+    (λ _. (types : List ℕ) × (new ≡ old ++ types) × AreTypes words × ((n : ℕ) → has types n ≡ true ↔ HasType words n))
+    (FailsAsTypes words)
+
+-- whether the type is from 1 to 127
+abbrev pub is_small_type : ℕ → Bool
+is_small_type rtype = nat_lt 0 rtype && nat_lt rtype 128
+
+-- whether there are types, each of which is from 1 to 127
+abbrev pub have_small_map : List ℕ → Bool
+have_small_map types = not (length types == 0) && list_all is_small_type types
+
+-- the octets are the bit map of these types
+pub record IsSmallMap (types octets : List ℕ) : Type 0 where
+  pub bytes : IsBytes octets
+  pub small : is_small_map octets ≡ true
+  pub bits : (n : ℕ) → has (octet_types 0 octets) n ≡ has types n

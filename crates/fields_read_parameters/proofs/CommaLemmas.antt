@@ -1,0 +1,83 @@
+-- Texts with commas between them.
+use Rattle.std.proofs.Common.{◌≡◌, ◌∙◌, ℕ, suc, ◌<◌, ◌==◌, Bool, true, false, cond, List, [], ◌∷◌, ◌++◌, length, refl, sym, ap, subst, arith, inl, inr, append_assoc, append-nil, ne_eqb}
+use Rattle.std.specs.Prelude.{Result, Ok, Err, ⊤}
+use Rattle.std.proofs.lemmas.Bool.{cond-false}
+use Rattle.fields_text.specs.declared.text_error.TextError.{TextError}
+use Rattle.fields_read.specs.Reading.{AppendsOctets, AppendsOctetsIf}
+use Rattle.fields_read.proofs.theory.LastSplits.{Lacks}
+use Rattle.fields_read_parameters.specs.ParameterValues.{AreJoined, comma_texts, with_first}
+
+-- a text has no comma
+abbrev pub NoComma : List ℕ → Type 0
+NoComma text = Lacks 44 text
+
+-- there is one text at least
+some_text : (b : Bool) (c : ℕ) (texts : List (List ℕ)) → 0 < length (cond b ([] ∷ texts) (with_first c texts))
+some_text true c texts = omega arith
+some_text false c [] = omega arith
+some_text false c (text ∷ texts) = omega arith
+
+some_texts : (text : List ℕ) → 0 < length (comma_texts text)
+some_texts [] = omega arith
+some_texts (c ∷ text) = some_text (c == 44) c (comma_texts text)
+
+joined_texts : (b : Bool) (c : ℕ) (texts others : List (List ℕ)) → 0 < length texts
+    → cond b ([] ∷ (texts ++ others)) (with_first c (texts ++ others)) ≡ cond b ([] ∷ texts) (with_first c texts) ++ others
+joined_texts true c texts others some = refl
+joined_texts false c [] others some = absurd (omega arith)
+joined_texts false c (text ∷ texts) others some = refl
+
+-- the texts before a comma, and those after it
+pub texts_of_both : (before after : List ℕ) → comma_texts (before ++ 44 ∷ after) ≡ comma_texts before ++ comma_texts after
+texts_of_both [] after = refl
+texts_of_both (c ∷ before) after =
+    ap (λ (texts : List (List ℕ)). cond (c == 44) ([] ∷ texts) (with_first c texts)) (texts_of_both before after)
+    ∙ joined_texts (c == 44) c (comma_texts before) (comma_texts after) (some_texts before)
+
+-- a text without a comma
+pub text_alone : (text : List ℕ) → NoComma text → comma_texts text ≡ text ∷ []
+text_alone [] none = refl
+text_alone (c ∷ text) none =
+    cond-false _ _ _ (ne_eqb c 44 (none 0 (omega arith))) ∙ ap (with_first c) (text_alone text (λ i h. none (suc i) (omega arith)))
+
+-- The text before the first comma is the first text.
+pub first_text : (text first others : List ℕ) → text ≡ first ++ 44 ∷ others → NoComma first → comma_texts text ≡ first ∷ comma_texts others
+first_text text first others whole none =
+    ap comma_texts whole ∙ texts_of_both first others ∙ ap (λ (texts : List (List ℕ)). texts ++ comma_texts others) (text_alone first none)
+
+-- The text after the last comma is the last text.
+pub last_text : (text others last : List ℕ) → text ≡ others ++ 44 ∷ last → NoComma last → comma_texts text ≡ comma_texts others ++ last ∷ []
+last_text text others last whole none =
+    ap comma_texts whole ∙ texts_of_both others last ∙ ap (λ (texts : List (List ℕ)). comma_texts others ++ texts) (text_alone last none)
+
+-- octets that are joined
+module _ (Is : List ℕ → List ℕ → Type 0) where
+  pub joined_one : (text : List ℕ) (texts : List (List ℕ)) (old new : List ℕ) (r : Result Unit TextError) → texts ≡ text ∷ [] → AppendsOctets (Is text) old new r
+      → AppendsOctetsIf ⊤ (AreJoined Is texts) old new r
+  joined_one text texts old new (Ok u) alone (octets, is, e) = (
+    octets,
+    subst (λ (ts : List (List ℕ)). AreJoined Is ts octets) (sym alone) (octets, [], is, sym (append-nil octets), refl),
+    e,
+  )
+  joined_one text texts old new (Err e) alone (inl memory) = inl (memory.0, tt)
+  joined_one text texts old new (Err e) alone (inr bad) =
+      inr (bad.0, λ octets are. bad.1 (are_first octets are).0 (are_first octets are).1) where
+        are_first : (octets : List ℕ) → AreJoined Is texts octets → (first : List ℕ) × Is text first
+        are_first octets are = let parts = subst (λ (ts : List (List ℕ)). AreJoined Is ts octets) alone are in (parts.0, parts.2)
+
+  pub joined_more : (text : List ℕ) (texts all : List (List ℕ)) (old middle new : List ℕ) (u : Unit {0}) (r : Result Unit TextError) → all ≡ text ∷ texts
+      → AppendsOctets (Is text) old middle (Ok u) → AppendsOctetsIf ⊤ (AreJoined Is texts) middle new r → AppendsOctetsIf ⊤ (AreJoined Is all) old new r
+  joined_more text texts all old middle new u (Ok v) whole (first, is, e) (others, are, f) = (
+    first ++ others,
+    subst (λ (ts : List (List ℕ)). AreJoined Is ts (first ++ others)) (sym whole) (first, others, is, refl, are),
+    f ∙ ap (λ (xs : List ℕ). xs ++ others) e ∙ append_assoc old first others,
+  )
+  joined_more text texts all old middle new u (Err e) whole first (inl memory) = inl memory
+  joined_more text texts all old middle new u (Err e) whole first (inr bad) =
+      inr (bad.0, λ octets are. let parts = subst (λ (ts : List (List ℕ)). AreJoined Is ts octets) whole are in bad.1 parts.1 parts.4)
+
+  pub joined_none : (text : List ℕ) (texts all : List (List ℕ)) (old middle new : List ℕ) (e : TextError) → all ≡ text ∷ texts
+      → AppendsOctets (Is text) old middle (Err e) → AppendsOctetsIf ⊤ (AreJoined Is all) old new (Err e)
+  joined_none text texts all old middle new e whole (inl memory) = inl (memory.0, tt)
+  joined_none text texts all old middle new e whole (inr bad) =
+      inr (bad.0, λ octets are. let parts = subst (λ (ts : List (List ℕ)). AreJoined Is ts octets) whole are in bad.1 parts.0 parts.2)

@@ -1,0 +1,15 @@
+use Rattle.std.proofs.Common.{◌≡◌, ◌≢◌, ◌∙◌, length, refl, sym, inr, arith, eq-eqb, eqb-true, vec_len}
+use Rattle.std.proofs.lemmas.Bool.{false≢true}
+use Rattle.fields_read_parameters.proofs.ValueLemmas.{not_ech}
+use Rattle.fields_read_parameters.proofs.parameter_value.read_ech.Goals as goal
+
+pub returns-then-is_empty : goal.returns-then-is_empty
+returns-then-is_empty c =
+    let empty : vec_len c.in-Ok.octets ≡ 0 = eqb-true (vec_len c.in-Ok.octets) 0 (sym c.is_empty.ensures ∙ c.if-is_empty.true) in
+    let none : length c.in-Ok.octets.items ≡ 0 = omega (arith, empty, c.in-Ok.octets.ok.0) in
+    inr (refl, not_ech c.args.text.now c.in-Ok.octets.items c.in-Ok.ensures.reads none)
+
+pub returns-else-is_empty : goal.returns-else-is_empty
+returns-else-is_empty c =
+    let some : vec_len c.in-Ok.octets ≢ 0 = λ e. false≢true (sym (sym c.is_empty.ensures ∙ c.if-is_empty.false) ∙ eq-eqb (vec_len c.in-Ok.octets) 0 e) in
+    (c.in-Ok.ensures.reads, omega (arith, some, c.in-Ok.octets.ok.0))

@@ -1,0 +1,75 @@
+-- Texts of words with spaces between them.
+use Rattle.std.proofs.Common.{ℕ, List, [], ◌∷◌, ◌++◌, refl, sym, subst, append_assoc, append-nil}
+use Rattle.std.specs.Prelude.{All, map, codes}
+use Rattle.std.specs.List.{flat_map}
+use Rattle.std.proofs.lemmas.List.Elements.{All-head, All-tail}
+use Rattle.fields_print.specs.Separated.{separated, spaced}
+use Rattle.fields_read_words.specs.LineWords.{AreWordsOf, EndsWord, IsWord, SplitsWord}
+use Rattle.fields_read_words.specs.LineWords.AreWordsWithin.{none, blank, more}
+
+-- words after spaces, without a comment
+pub data AreSpaced : List ℕ → List (List ℕ) → Type 0 where
+  nothing : AreSpaced [] []
+  space : {text : List ℕ} {words : List (List ℕ)} → AreSpaced text words → AreSpaced (0x20 ∷ text) words
+  word : {text : List ℕ} {words : List (List ℕ)} (first : List ℕ) → IsWord first → EndsWord text → AreSpaced text words → AreSpaced (first ++ text) (first ∷ words)
+
+-- they are the words of the text
+pub words_are : (text : List ℕ) (words : List (List ℕ)) → AreSpaced text words → AreWordsOf text words
+words_are text words nothing = none
+words_are text words (space {text = after} h) = blank refl (words_are after words h)
+words_are text words (word {text = after} {words = others} first is ends h) =
+    let split : SplitsWord text first after = record { whole = refl; is = is; ends = λ e. ends } in
+    more split (words_are after others h)
+
+-- one word
+pub one_word : (text : List ℕ) → IsWord text → AreSpaced text (text ∷ [])
+one_word text is = subst (λ (xs : List ℕ). AreSpaced xs (text ∷ [])) (append-nil text) (word text is tt nothing)
+
+-- a text that a word may precede
+pub ends_append : (first second : List ℕ) → EndsWord first → EndsWord second → EndsWord (first ++ second)
+ends_append [] second f s = s
+ends_append (c ∷ first) second f s = f
+
+-- more words
+pub spaced_append : (first second : List ℕ) (words others : List (List ℕ)) → AreSpaced first words → EndsWord second → AreSpaced second others → AreSpaced (first ++ second) (words ++ others)
+spaced_append first second words others nothing ends h = h
+spaced_append first second words others (space {text = after} g) ends h = space (spaced_append after second words others g ends h)
+spaced_append first second words others (word {text = after} {words = left} front is at g) ends h =
+    subst (λ (xs : List ℕ). AreSpaced xs ((front ∷ left) ++ others)) (sym (append_assoc front after second))
+    (word front is (ends_append after second at ends) (spaced_append after second left others g ends h))
+
+-- the words of a text after others
+pub words_append : (first second : List ℕ) (words others : List (List ℕ)) → AreSpaced first words → EndsWord second → AreWordsOf second others → AreWordsOf (first ++ second) (words ++ others)
+words_append first second words others nothing ends h = h
+words_append first second words others (space {text = after} g) ends h = blank refl (words_append after second words others g ends h)
+words_append first second words others (word {text = after} {words = left} front is at g) ends h =
+    let split : SplitsWord (front ++ after ++ second) front (after ++ second) =
+    record { whole = append_assoc front after second; is = is; ends = λ e. ends_append after second at ends } in
+    more split (words_append after second left others g ends h)
+
+-- words, each after a space
+spaces_end : (words : List (List ℕ)) → EndsWord (separated (codes " ") (codes " ") words)
+spaces_end [] = tt
+spaces_end (first ∷ words) = refl
+
+spaces_are : (words : List (List ℕ)) → All IsWord words → AreSpaced (separated (codes " ") (codes " ") words) words
+spaces_are [] all = nothing
+spaces_are (first ∷ words) all =
+    space (word first (All-head IsWord first words all) (spaces_end words) (spaces_are words (All-tail IsWord first words all)))
+
+-- words with a space between them
+pub spaced_are : (words : List (List ℕ)) → All IsWord words → AreSpaced (spaced words) words
+spaced_are [] all = nothing
+spaced_are (first ∷ words) all =
+    word first (All-head IsWord first words all) (spaces_end words) (spaces_are words (All-tail IsWord first words all))
+
+-- the texts of items, each after a space
+module _ {A : Type 0} (text : A → List ℕ) where
+  pub items_end : (items : List A) → EndsWord (flat_map (λ item. codes " " ++ text item) items)
+  items_end [] = tt
+  items_end (item ∷ items) = refl
+
+  pub items_are : (items : List A) → All (λ item. IsWord (text item)) items → AreSpaced (flat_map (λ item. codes " " ++ text item) items) (map text items)
+  items_are [] all = nothing
+  items_are (item ∷ items) all =
+      space (word (text item) (All-head (λ item. IsWord (text item)) item items all) (items_end items) (items_are items (All-tail (λ item. IsWord (text item)) item items all)))

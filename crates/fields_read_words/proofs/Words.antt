@@ -1,0 +1,91 @@
+-- Printed values are words.
+use Rattle.std.proofs.Common.{◌≡◌, ℕ, ◌<◌, ◌^◌, List, true, length, decimal}
+use Rattle.std.specs.Net.Addr.{segments_of}
+use Rattle.std.specs.Net.Text.{ipv4_text, ipv6_text}
+use Rattle.base64.specs.Engines.{standard}
+use Rattle.base64.specs.GeneralPurpose.{encode_of}
+use Rattle.hex.specs.Hex.{IsBytes}
+use Rattle.dns_name.specs.Names.{IsName, Labels}
+use Rattle.dns_iana.specs.Classes.{class_text}
+use Rattle.fields_text.specs.Addresses.{eui_text, locator_text}
+use Rattle.fields_text.specs.Base32.{base32_text}
+use Rattle.fields_text.specs.Hex.{hex_text}
+use Rattle.fields_text.specs.String.{is_tag}
+use Rattle.fields_text.specs.Time.{time_text}
+use Rattle.fields_print.specs.FieldTexts.{salt_text}
+use Rattle.fields_print.specs.PrefixItems.{PrefixItem}
+use Rattle.fields_print.specs.Prefixes.{prefix_text}
+use Rattle.fields_print.specs.TypeNames.{type_word}
+use Rattle.fields_print.specs.ZoneNames.{zone_name_text}
+use Rattle.fields_read_words.specs.LineWords.{IsWord}
+use Rattle.fields_read_words.proofs.Ipv6Texts.{ipv6_word as bare_ipv6_word}
+use Rattle.fields_read_words.proofs.PrefixTexts.{hash_word as bare_hash_word, prefix_is_word as bare_prefix_is_word}
+use Rattle.fields_read_words.proofs.WordTexts.{BeginsLabel, is_word, decimal_word as bare_decimal_word, tag_word as bare_tag_word, hex_word as bare_hex_word}
+use Rattle.fields_read_words.proofs.WordTexts.{salt_word as bare_salt_word, eui_word as bare_eui_word, locator_word as bare_locator_word}
+use Rattle.fields_read_words.proofs.WordTexts.{time_word as bare_time_word, labels_word as bare_labels_word, name_word as bare_name_word}
+use Rattle.fields_read_words.proofs.WordTexts.{ipv4_word as bare_ipv4_word, base64_word as bare_base64_word, class_word as bare_class_word}
+use Rattle.fields_read_words.proofs.WordTexts.{type_is_word as bare_type_is_word}
+
+-- A decimal number is a word.
+pub decimal_word : (n : ℕ) → n < 2 ^ 64 → IsWord (decimal n)
+decimal_word n first = is_word (bare_decimal_word n first)
+
+-- A tag is a word.
+pub tag_word : (octets : List ℕ) → is_tag octets ≡ true → IsWord octets
+tag_word octets first = is_word (bare_tag_word octets first)
+
+-- Hexadecimal digits are a word.
+pub hex_word : (octets : List ℕ) → IsBytes octets → 0 < length octets → IsWord (hex_text octets)
+hex_word octets first second = is_word (bare_hex_word octets first second)
+
+-- The text of a salt is a word.
+pub salt_word : (octets : List ℕ) → IsBytes octets → IsWord (salt_text octets)
+salt_word octets first = is_word (bare_salt_word octets first)
+
+-- The text of an EUI is a word.
+pub eui_word : (octets : List ℕ) → IsBytes octets → 0 < length octets → IsWord (eui_text octets)
+eui_word octets first second = is_word (bare_eui_word octets first second)
+
+-- The text of a locator is a word.
+pub locator_word : (octets : List ℕ) → IsBytes octets → length octets ≡ 8 → IsWord (locator_text octets)
+locator_word octets first second = is_word (bare_locator_word octets first second)
+
+-- The text of a time is a word.
+pub time_word : (seconds : ℕ) → IsWord (time_text seconds)
+time_word seconds = is_word (bare_time_word seconds)
+
+-- The text of labels is a word.
+pub labels_word : (name : Labels) → BeginsLabel name → IsWord (zone_name_text name)
+labels_word name first = is_word (bare_labels_word name first)
+
+-- The text of a name is a word.
+pub name_word : (name : Labels) → IsName name → IsWord (zone_name_text name)
+name_word name first = is_word (bare_name_word name first)
+
+-- The text of an IPv4 address is a word.
+pub ipv4_word : (octets : List ℕ) → IsBytes octets → IsWord (ipv4_text octets)
+ipv4_word octets first = is_word (bare_ipv4_word octets first)
+
+-- Base64 is a word.
+pub base64_word : (octets : List ℕ) → 0 < length octets → IsWord (encode_of standard octets)
+base64_word octets first = is_word (bare_base64_word octets first)
+
+-- The text of a class is a word.
+pub class_word : (n : ℕ) → n < 2 ^ 16 → IsWord (class_text n)
+class_word n first = is_word (bare_class_word n first)
+
+-- The word of a type is a word.
+pub type_is_word : (n : ℕ) → n < 2 ^ 16 → IsWord (type_word n)
+type_is_word n first = is_word (bare_type_is_word n first)
+
+-- The text of an IPv6 address is a word.
+pub ipv6_word : (octets : List ℕ) → IsBytes octets → length octets ≡ 16 → IsWord (ipv6_text (segments_of octets))
+ipv6_word octets first second = is_word (bare_ipv6_word octets first second)
+
+-- The text of a hash is a word.
+pub hash_word : (octets : List ℕ) → 0 < length octets → IsWord (base32_text octets)
+hash_word octets first = is_word (bare_hash_word octets first)
+
+-- The text of an address prefix is a word.
+pub prefix_is_word : (item : PrefixItem) → IsBytes item.address → item.family < 2 ^ 16 → item.size < 256 → IsWord (prefix_text item)
+prefix_is_word item first second third = is_word (bare_prefix_is_word item first second third)

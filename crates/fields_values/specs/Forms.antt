@@ -1,0 +1,34 @@
+-- What a field of a kind takes as its value.
+use Rattle.fields_octets.specs.declared.kind.Kind.{Kind}
+use Rattle.fields_octets.specs.declared.kind.Kind.TheVariants as kinds
+use Rattle.fields_values.specs.declared.form.Form.{Form}
+use Rattle.fields_values.specs.declared.form.Form.TheVariants.{Number, RecordType, Ipv4, Ipv6, Name, Counted, Sized, Fixed, Strings, Types, Parameters, Prefixes, Rest}
+
+abbrev pub value_form : Kind → Form
+value_form kinds.Number8 = Number 1
+value_form kinds.Number16 = Number 2
+value_form kinds.Number32 = Number 4
+value_form kinds.Seconds = Number 4
+value_form kinds.Time = Number 4
+value_form kinds.Number48 = Number 6
+value_form kinds.RecordType = RecordType
+value_form kinds.Ipv4 = Ipv4
+value_form kinds.Ipv6 = Ipv6
+value_form kinds.CompressibleName = Name
+value_form kinds.PointedName = Name
+value_form kinds.LowercasedName = Name
+value_form kinds.PlainName = Name
+value_form kinds.CharacterString = Counted
+value_form kinds.Tag = Counted
+value_form kinds.Salt = Counted
+value_form kinds.Hash = Counted
+value_form kinds.SizedOctets = Sized
+value_form kinds.Eui48 = Fixed 6
+value_form kinds.Eui64 = Fixed 8
+value_form kinds.Locator64 = Fixed 8
+value_form kinds.Location = Fixed 16
+value_form kinds.Strings = Strings
+value_form kinds.TypeBitMap = Types
+value_form kinds.ServiceParameters = Parameters
+value_form kinds.AddressPrefixes = Prefixes
+value_form kind = Rest

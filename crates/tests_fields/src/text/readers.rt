@@ -1,0 +1,71 @@
+//! Readers of many words. The cases of `cases_rdata` have all other words, which reach the readers
+//! by the type of the RDATA.
+use crate::text::asserts::assert_octets;
+use fields_read::{push_type_map, read_host_identity, read_prefixes, read_small_type_map};
+use fields_read_parameters::read_parameters;
+use std::alloc::Global;
+use std::process::Abort;
+
+/// One type of each window, 65,536 in all. A block has the window, a length of 1, and its first bit
+/// (RFC 4034 section 4.1.2).
+#[test]
+fn many_types(rt: HostRuntime) {
+    let mut types = Vec::new(rt.alloc());
+    for count in 0..65_536u32 {
+        types
+            .push((count % 256 * 256) as u16)
+            .expect(&rt, "there is memory");
+    }
+    let mut map = Vec::new(rt.alloc());
+    let result = push_type_map(&mut map, &types);
+    assert!(rt; result.is_ok());
+    assert_eq!(rt; map.len(), 256 * 3);
+    assert_eq!(rt; &map[3..6], b"\x01\x01\x80".as_slice());
+}
+
+/// A parameter for each key but those with a name, in rising order: four octets each.
+#[test]
+fn many_parameters(rt: HostRuntime) {
+    let alloc = rt.alloc();
+    let mut texts = Vec::new(alloc);
+    for key in 9..65536u32 {
+        let text = format!(in alloc; "key{key}").expect(&rt, "there is memory");
+        texts.push(text).expect(&rt, "there is memory");
+    }
+    let mut words = Vec::new(alloc);
+    for text in &texts {
+        words.push(text.as_str()).expect(&rt, "there is memory");
+    }
+    let octets = read_parameters(alloc, &words).expect(&rt, "keys are there once");
+    assert_eq!(rt; octets.len(), 65527 * 4);
+}
+
+/// These words, and `MANY` times another one.
+fn many<'a>(rt: &impl Abort, alloc: Global, first: &[&'a str], word: &'a str) -> Vec<&'a str> {
+    let mut words = Vec::new(alloc);
+    for own in first {
+        words.push(*own).expect(rt, "there is memory");
+    }
+    for _ in 0..MANY {
+        words.push(word).expect(rt, "there is memory");
+    }
+    words
+}
+
+/// More words than calls have room on a stack of 8 MiB, if each is of at least 32 octets.
+const MANY: u32 = 300_000;
+
+/// Many types, prefixes, and names of a host identity.
+#[test]
+fn many_words(rt: HostRuntime) {
+    let alloc = rt.alloc();
+    let types = many(&rt, alloc, &[], "A");
+    let map = read_small_type_map(alloc, &types).expect(&rt, "types");
+    assert_octets(&rt, "types", &map, b"\x40");
+    let words = many(&rt, alloc, &[], "1:0.0.0.0/0");
+    let prefixes = read_prefixes(alloc, &words).expect(&rt, "prefixes");
+    assert_eq!(rt; prefixes.len(), 1_200_000);
+    let words = many(&rt, alloc, &["2", "20", "AwE="], ".");
+    let identity = read_host_identity(alloc, &words).expect(&rt, "an identity");
+    assert_eq!(rt; identity.len(), 7 + 300_000);
+}

@@ -1,0 +1,292 @@
+//! Proved callers: the examples of the pages that say how the crates are called.
+ghost use Rattle.std.specs.Prelude.{◌≡◌, ◌≤◌, ◌↔◌, List, length, map, max, min, true, IfOk, IfSome, IsSome, IsTrue};
+ghost use Rattle.std.specs.Fn.{FnOnceReturnsAtMut};
+ghost use Rattle.dns_message.specs.Headers.{fields};
+ghost use Rattle.dns_message.specs.Data.{End, Fixed, only};
+ghost use Rattle.dns_message.specs.Records.{cap_seconds};
+ghost use Rattle.dns_message.specs.Builders.{fresh};
+ghost use Rattle.dns_message.specs.Script.{after_all, octets_of};
+ghost use Rattle.dns_message.specs.declared.script.Reply.{Reply};
+ghost use Rattle.dns_message.specs.Messages.{message_octets, HasAnswer};
+ghost use Rattle.dns_message.specs.Messages.MessageIter.{message_items};
+ghost use Rattle.dns_message.specs.Sections.RecordIter.{typed_left};
+ghost use Rattle.dns_message.specs.Sections.{AnswersStart};
+ghost use Rattle.tests_message.specs.Callers.{IsShortMessage, EncodedFirst, AreAnswers, data_among, sections_among, SaysWhatIsGathered};
+
+use crate::asserts::{assert_holds, assert_octets};
+use dns_message::builder::laws::opts_read_back;
+use dns_message::builder::{MessageBuilder, OptBuilder, PushError};
+use dns_message::code::{OptRcode, OptionCode, Rtype};
+use dns_message::data::{A, ParseRecordData, UnknownRecordData};
+use dns_message::header::Header;
+use dns_message::message::{Message, RecordIter, Section};
+use dns_message::name::{Name, ParsedName};
+use dns_message::question::ComposeQuestion;
+use dns_message::record::{ComposeRecord, Record, Ttl};
+use dns_message::script::{Call, Stage, run};
+use dns_message::target::{Composer, HashCompressor};
+use dns_message::wire::{AppendError, Octets};
+use std::alloc::{AllocError, Global};
+use std::process::Abort;
+
+/// The header of a reply to a query: its ID and RD, and QR.
+fn reply_header(query: Header) -> Header
+    ensures id { (fields result).id ≡ (fields query).id }
+    ensures rd { (fields result).rd ≡ (fields query).rd }
+    ensures qr { (fields result).qr ≡ true }
+{
+    let mut header = Header::new();
+    header.set_id(query.id());
+    header.set_rd(query.rd());
+    header.set_qr(true);
+    header
+}
+
+#[test]
+fn replies_with_the_id(rt: HostRuntime) {
+    let mut query = Header::new();
+    query.set_id(0x1234);
+    query.set_rd(true);
+    let reply = reply_header(query);
+    let is_reply = reply.id() == 0x1234 && reply.rd() && reply.qr();
+    assert_holds(&rt, "the fields of the reply", is_reply);
+}
+
+/// Octets as opaque record data, if RDATA can have that many.
+fn opaque(rtype: Rtype, octets: &[u8]) -> Option<UnknownRecordData<&[u8]>>
+    ensures { IsSome result ↔ (length octets.now ≤ 65535) }
+{
+    UnknownRecordData::from_octets(rtype, octets).ok()
+}
+
+#[test]
+fn takes_opaque_data(rt: HostRuntime) {
+    let long = vec![in rt.alloc(); 0; 65536].expect(&rt, "memory");
+    assert_holds(&rt, "65,536 octets", opaque(Rtype::TXT, &long).is_none());
+    assert_holds(&rt, "two octets", opaque(Rtype::TXT, b"\x01a").is_some());
+}
+
+/// How long a record is cached: at most a week, but never less than `least`.
+fn kept_for(ttl: Ttl, least: Ttl) -> Ttl
+    ensures { result ≡ max least (min ttl cap_seconds) }
+{
+    least.max(ttl.cap())
+}
+
+#[test]
+fn keeps_for_a_week(rt: HostRuntime) {
+    let minute = Ttl::MINUTE;
+    let kept = kept_for(Ttl::from_secs(5), minute);
+    assert_holds(&rt, "less than a minute", kept == minute);
+    let kept = kept_for(Ttl::MAX, minute);
+    assert_holds(&rt, "more than a week", kept == Ttl::CAP);
+}
+
+/// The message in these octets.
+fn message_of(rt: &impl Abort, octets: &'static [u8]) -> Message<&'static [u8]> {
+    Message::from_octets(octets).expect(rt, "a message")
+}
+
+/// Where the answers of a message begin, if each question can be skipped.
+fn answers_start<Octs: Octets>(message: &Message<Octs>) -> Option<usize>
+    ensures { IfSome result (λ start. AnswersStart (message_octets message.now) start) }
+{
+    match message.answer() {
+        Ok(section) => Some(section.pos()),
+        Err(_) => None,
+    }
+}
+
+#[test]
+fn finds_the_answers(rt: HostRuntime) {
+    let octets = b"\x00\x00\x00\x00\x00\x01\x00\x00\x00\x00\x00\x00\x01a\x00\x00\x01\x00\x01";
+    let message = message_of(&rt, octets);
+    let start = answers_start(&message);
+    assert_holds(&rt, "after the question", start == Some(19));
+}
+
+/// The first record of the answer section, if it can be read and its RDATA is of type `D`.
+fn first_answer<'a, Octs: Octets, D: ParseRecordData<'a> + Drop>(
+    message: &'a Message<Octs>,
+) -> Option<Record<ParsedName<'a>, D>>
+    ensures { IfSome result (EncodedFirst D.rtype_of D.parts D.layout
+        (message_octets message.now)) }
+{
+    let mut answers = message.answer().ok()?;
+    let record = answers.next()?.ok()?;
+    match record.to_record() {
+        Ok(read) => read,
+        Err(_) => None,
+    }
+}
+
+#[test]
+fn reads_the_first_answer(rt: HostRuntime) {
+    let octets =
+        b"\x00\x00\x81\xA0\x00\x00\x00\x01\x00\x00\x00\x00\x01a\x00\x00\x01\x00\x01\x00\x00\x0E\x10\x00\x04\xCB\x00\x71\x01";
+    let message = message_of(&rt, octets);
+    let address = first_answer::<_, A>(&message).expect(&rt, "an address");
+    let octets = address.data().octets();
+    assert_octets(&rt, "the address", &octets, &[203, 0, 113, 1]);
+}
+
+/// The RDATA of the records that can be read, in order.
+fn data_of<'a, D: ParseRecordData<'a> + Drop>(
+    alloc: Global,
+    records: RecordIter<'a, D>,
+) -> Result<Vec<D>, AllocError>
+    ensures { IfOk result (λ found. map D.parts found.items
+        ≡ data_among (typed_left D.layout records.entry)) }
+{
+    let mut found = Vec::new(alloc);
+    for record in records {
+        if let Ok(record) = record {
+            found.push(record.into_data())?;
+        }
+    }
+    Ok(found)
+}
+
+/// The RDATA of the answers whose type `D` accepts, if it can be read.
+fn data_of_answers<'a, Octs: Octets, D: ParseRecordData<'a> + Drop>(
+    alloc: Global,
+    message: &'a Message<Octs>,
+) -> Option<Vec<D>>
+    ensures { IfSome result (λ found. AreAnswers D.parts D.layout (message_octets message.now)
+        found.items) }
+{
+    let answers = message.answer().ok()?;
+    match data_of(alloc, answers.limit_to()) {
+        Ok(found) => Some(found),
+        Err(_) => None,
+    }
+}
+
+#[test]
+fn collects_the_addresses(rt: HostRuntime) {
+    let octets =
+        b"\x00\x00\x81\xA0\x00\x00\x00\x01\x00\x00\x00\x00\x01a\x00\x00\x01\x00\x01\x00\x00\x0E\x10\x00\x04\xCB\x00\x71\x01";
+    let message = message_of(&rt, octets);
+    let addresses = data_of_answers::<_, A>(rt.alloc(), &message);
+    let addresses = addresses.expect(&rt, "addresses");
+    let is_one = addresses.len() == 1 && addresses[0].octets() == [203, 0, 113, 1];
+    assert_holds(&rt, "the address", is_one);
+}
+
+/// The sections of the consecutive readable records, in order.
+fn sections_of<Octs: Octets>(
+    alloc: Global,
+    message: &Message<Octs>,
+) -> Result<Vec<Section>, AllocError>
+    ensures { IfOk result (λ found. found.items
+        ≡ sections_among (message_items (message_octets message.now))) }
+{
+    let mut found = Vec::new(alloc);
+    for item in message.iter() {
+        if let Ok((_, section)) = item {
+            found.push(section)?;
+        }
+    }
+    Ok(found)
+}
+
+/// Whether the answer section has an address, or something that can't be read.
+fn has_address<Octs: Octets>(message: &Message<Octs>) -> bool
+    ensures { IsTrue result ↔ HasAnswer (only 1 (Fixed 4 End)) (message_octets message.now) }
+{
+    message.contains_answer::<A>()
+}
+
+#[test]
+fn knows_the_sections(rt: HostRuntime) {
+    let octets =
+        b"\x00\x00\x81\xA0\x00\x00\x00\x01\x00\x00\x00\x01\x00\x00\x01\x00\x01\x00\x00\x00\x00\x00\x04\xCB\x00\x71\x01\x00\x00\x02\x00\x01\x00\x00\x00\x00\x00\x01\x00";
+    let message = message_of(&rt, octets);
+    assert_holds(&rt, "an address", has_address(&message));
+    let sections = sections_of(rt.alloc(), &message).expect(&rt, "memory");
+    let expected = [Section::Answer, Section::Additional];
+    let are_known = sections.as_slice() == expected.as_slice();
+    assert_holds(&rt, "the sections", are_known);
+}
+
+/// Makes the calls on a new builder over a hash compressor. Returns the stage after them.
+fn compressed<Q: ComposeQuestion, R: ComposeRecord>(
+    alloc: Global,
+    calls: &[Call<Q, R>],
+) -> Option<Stage<HashCompressor<Vec<u8>>>>
+    ensures { IfSome result (λ stage. (replies : List Reply)
+        × IsShortMessage (after_all Q.question R.item fresh calls.now replies) (octets_of stage)) }
+{
+    let target = HashCompressor::new(alloc, Vec::new(alloc));
+    let Ok(builder) = MessageBuilder::from_target(target) else {
+        return None;
+    };
+    match run(alloc, Stage::Builder(builder), calls, &mut Vec::new(alloc)) {
+        Ok(stage) => Some(stage),
+        Err(_) => None,
+    }
+}
+
+type AddressCall = Call<(Name<[u8; 13]>, Rtype), (Name<[u8; 13]>, u32, A)>;
+
+/// The calls that push a question for the addresses of a name, and an answer.
+fn address_calls(alloc: Global, name: Name<[u8; 13]>) -> Result<Vec<AddressCall>, AllocError> {
+    let mut calls = Vec::new(alloc);
+    calls.push(Call::ToQuestion)?;
+    calls.push(Call::PushQuestion((name, Rtype::A)))?;
+    calls.push(Call::ToAnswer)?;
+    calls.push(Call::PushRecord((name, 3600, A::from_octets(203, 0, 113, 1))))?;
+    Ok(calls)
+}
+
+/// Fails unless the message of the stage has this number of octets.
+fn assert_len<T: Composer>(rt: &impl Abort, stage: Stage<T>, len: usize) {
+    assert_holds(rt, "one pointer", stage.as_slice().len() == len);
+}
+
+#[test]
+fn spells_a_name_once(rt: HostRuntime) {
+    let name = Name::from_octets(*b"\x07example\x03com\x00").expect(&rt, "a name");
+    let calls = address_calls(rt.alloc(), name).expect(&rt, "memory");
+    let stage = compressed(rt.alloc(), &calls).expect(&rt, "memory");
+    assert_len(&rt, stage, 12 + 13 + 4 + 2 + 10 + 4);
+}
+
+/// The message with one OPT record, which a closure gathers.
+fn opt_message<F: FnOnce(&mut OptBuilder) -> Result<(), AppendError>>(
+    alloc: Global,
+    gather: F,
+) -> Result<Message<Vec<u8>>, PushError>
+    requires { F.IsAlwaysCallable gather }
+    ensures { IfOk result (λ message. SaysWhatIsGathered (FnOnceReturnsAtMut F.FnOnce gather)
+        (message_octets message)) }
+{
+    let mut builder = MessageBuilder::new_vec(alloc)?.additional();
+    builder.opt(alloc, gather)?;
+    opts_read_back();
+    Ok(builder.into_message())
+}
+
+#[test]
+fn reads_what_was_gathered(rt: HostRuntime) {
+    let rcode = OptRcode::checked_from_int(23).expect(&rt, "an rcode");
+    let message = opt_message(rt.alloc(), |opt| {
+        opt.set_udp_payload_size(1232);
+        opt.set_rcode(rcode);
+        opt.set_dnssec_ok(true);
+        opt.push_raw_option(OptionCode::from_int(3), b"")
+    });
+    let message = message.expect(&rt, "memory");
+    assert_holds(&rt, "the rcode", message.opt_rcode() == rcode);
+    assert_gathered(&rt, &message);
+}
+
+/// Fails unless the message has an OPT record with these fields and one option.
+fn assert_gathered(rt: &impl Abort, message: &Message<Vec<u8>>) {
+    let opt = message.opt().expect(rt, "a record");
+    let is_gathered = opt.udp_payload_size() == 1232 && opt.version() == 0 && opt.dnssec_ok();
+    assert_holds(rt, "the fields", is_gathered);
+    let mut options = opt.opt().iter();
+    let is_one = options.next().is_some() && options.next().is_none();
+    assert_holds(rt, "one option", is_one);
+}

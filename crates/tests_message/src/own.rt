@@ -1,0 +1,138 @@
+//! A record type of one's own as a list of fields: an example of the module `fields` of
+//! `dns_message`.
+ghost use Rattle.std.specs.Prelude.{map};
+ghost use Rattle.dns_message.specs.Data.{ParsesTaken, only};
+ghost use Rattle.dns_message.specs.Fields.{own_parts_of};
+ghost use Rattle.tests_message.specs.Hosts.{host_layout};
+ghost use Rattle.tests_message.specs.declared.own.TheConstants.{FIELDS};
+
+use crate::asserts::{assert_holds, assert_octets};
+use dns_message::builder::{AnswerBuilder, MessageBuilder};
+use dns_message::code::Rtype;
+use dns_message::data::{ParseRecordData, UnknownRecordData};
+use dns_message::fields::{DataOf, Kind, RecordFields, Value};
+use dns_message::message::Message;
+use dns_message::name::Name;
+use dns_message::wire::{Octets, ParseError, Parser};
+use std::alloc::Global;
+use std::process::Abort;
+
+const FIELDS: &[(&str, Kind)] = &[("weight", Kind::Number16), ("host", Kind::PlainName)];
+
+/// A host and its weight, by a number for private use (RFC 6895 section 3.1).
+struct WeightedHost;
+
+impl RecordFields for WeightedHost {
+    ghost number = { 65280 };
+
+    ghost defined = { map (λ f. (f.0.now, f.1)) FIELDS.now };
+
+    fn number() -> Rtype {
+        Rtype::from_int(65280)
+    }
+
+    fn fields() -> &'static [(&'static str, Kind)] {
+        FIELDS
+    }
+}
+
+/// Reads a host and its weight. Returns `None` for any other type.
+#[tactic(auto, unfolding(dns_message::specs::Fields::layout_of))]
+fn read_host<'a>(
+    rtype: Rtype,
+    parser: &mut Parser<'a>,
+) -> Result<Option<DataOf<'a, WeightedHost>>, ParseError>
+    ensures { ParsesTaken (λ _. 65280) own_parts_of (only 65280 host_layout rtype) rtype
+        parser.old parser.new result }
+{
+    DataOf::parse_rdata(rtype, parser)
+}
+
+/// The greatest weight in the answer section, of the hosts before the first malformed one. Returns
+/// 0 if there is none.
+fn greatest_weight<Octs: Octets>(message: &Message<Octs>) -> u64 {
+    let mut greatest = 0;
+    let Ok(answers) = message.answer() else {
+        return greatest;
+    };
+    for record in answers.limit_to::<DataOf<'_, WeightedHost>>() {
+        let Ok(record) = record else {
+            return greatest;
+        };
+        for field in record.data().fields() {
+            if let Value::Number(weight) = field.value() {
+                greatest = greatest.max(weight);
+            }
+        }
+    }
+    greatest
+}
+
+/// Three hosts and their weights.
+const HOSTS: &[&[u8]] = &[
+    b"\x00\x02\x01a\x00",
+    b"\x00\x05\x01b\x00",
+    b"\x00\x03\x01c\x00",
+];
+
+#[test]
+fn reads_its_own_type_alone(rt: HostRuntime) {
+    let mut parser = Parser::new(b"\x00\x02\x01a\x00");
+    let other = read_host(Rtype::A, &mut parser).expect(&rt, "no host");
+    assert_holds(&rt, "another type", other.is_none());
+    let host = read_host(Rtype::from_int(65280), &mut parser).expect(&rt, "a host");
+    assert_holds(&rt, "its own type", host.is_some());
+    assert_holds(&rt, "octets left over", parser.remaining() == 0);
+}
+
+/// Pushes a host with this RDATA.
+fn push_host(rt: &impl Abort, builder: &mut AnswerBuilder<Vec<u8>>, octets: &[u8]) {
+    let data = UnknownRecordData::from_octets(Rtype::from_int(65280), octets);
+    let data = data.expect(rt, "data");
+    let owner = Name::from_octets(*b"\x07example\x00").expect(rt, "a name");
+    builder.push((owner, 60u32, data)).expect(rt, "memory");
+}
+
+#[test]
+fn finds_the_greatest_weight(rt: HostRuntime) {
+    let builder = MessageBuilder::new_vec(rt.alloc()).expect(&rt, "memory");
+    let mut builder = builder.answer();
+    for octets in HOSTS {
+        push_host(&rt, &mut builder, octets);
+    }
+    let greatest = greatest_weight(&builder.into_message());
+    assert_holds(&rt, "the greatest weight", greatest == 5);
+}
+
+/// A message with each host of `message` twice: as it is, and at the owner other. with a TTL of an
+/// hour.
+fn doubled<Octs: Octets>(
+    rt: &impl Abort,
+    alloc: Global,
+    message: &Message<Octs>,
+) -> Message<Vec<u8>> {
+    let mut builder = MessageBuilder::new_vec(alloc).expect(rt, "memory").answer();
+    let owner = Name::from_octets(*b"\x05other\x00").expect(rt, "a name");
+    let answers = message.answer().expect(rt, "answers");
+    for record in answers.limit_to::<DataOf<'_, WeightedHost>>() {
+        let record = record.expect(rt, "a host");
+        let pushed = builder.push_ref(&record);
+        pushed.expect(rt, "memory");
+        let pushed = builder.push((&owner, 3600u32, record.data()));
+        pushed.expect(rt, "memory");
+    }
+    builder.into_message()
+}
+
+/// Two hosts with the same RDATA.
+const DOUBLED: &[u8] =
+    b"\x00\x00\x00\x00\x00\x00\x00\x02\x00\x00\x00\x00\x07example\x00\xFF\x00\x00\x01\x00\x00\x00\x3C\x00\x05\x00\x02\x01a\x00\x05other\x00\xFF\x00\x00\x01\x00\x00\x0E\x10\x00\x05\x00\x02\x01a\x00";
+
+#[test]
+fn copies_hosts(rt: HostRuntime) {
+    let builder = MessageBuilder::new_vec(rt.alloc()).expect(&rt, "memory");
+    let mut builder = builder.answer();
+    push_host(&rt, &mut builder, b"\x00\x02\x01a\x00");
+    let doubled = doubled(&rt, rt.alloc(), &builder.into_message());
+    assert_octets(&rt, "a host twice", doubled.as_slice(), DOUBLED);
+}

@@ -1,0 +1,22 @@
+use Rattle.std.proofs.Common.{◌≡◌, ◌+◌, ◌++◌, ap, ◌∙◌, refl, length, take, drop, arith}
+use Rattle.std.specs.Int.{to_be_bytes, w16}
+use Rattle.dns_wire.specs.Parts.{encode_parts}
+use Rattle.tests_plain.specs.PlainNames.{rule_of}
+use Rattle.tests_plain.specs.declared.writing.PlainTarget.{PlainTarget}
+use Rattle.tests_plain.proofs.ItemSteps.{appends_length}
+use Rattle.tests_plain.proofs.writing.PlainTarget.push_rdata.Goals as goal
+
+pub returns : goal.returns
+returns c = λ x w is r.
+    let old = c.args.self.now in
+    let zeros : PlainTarget = record { octets = c.push_number.new.octets; table = old.table } in
+    let mid = c.push_parts.new.self in
+    let new : PlainTarget = record { octets = c.extend_from_slice.new.self; table = mid.table } in
+    let start = c.len-start.result in
+    let rdata = c.in_ok-rdata.rdata.items in
+    let here : start ≡ length old.octets.items = omega (arith, c.len-start.ensures, old.octets.ok.0) in
+    let size : c.len.result ≡ length rdata = omega (arith, c.len.ensures, c.in_ok-rdata.rdata.ok.0) in
+    let same : rdata ≡ drop (start + 2) mid.octets.items = c.in_ok-rdata.ensures.items ∙ c.octets_from-rdata.ensures ∙ ap (drop (start + 2)) c.deref.ensures.value in
+    let numbered = c.in_ok-push_number-2.ensures ∙ (λ i. c.truncate.ensures.items i ++ to_be_bytes w16 (size i)) in
+    let whole : new.octets.items ≡ take start mid.octets.items ++ to_be_bytes w16 (length rdata) ++ rdata = c.in_ok-extend_from_slice.ensures.items ∙ (λ i. numbered i ++ c.deref-2.ensures.value i) in
+    appends_length (encode_parts (rule_of c.args.rule) x) old zeros mid new w start rdata r here c.in_ok-push_number.ensures refl (λ w z. c.in_ok-push_parts.ensures x w is z) same whole refl
