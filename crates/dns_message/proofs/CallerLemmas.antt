@@ -17,7 +17,7 @@ pub use Rattle.dns_item.proofs.theory.TypedLemmas.{data_is_parsed}
 -- Reading a record by a layout returns what `laid_out` says, if the RDATA is all there; the second also if it isn't.
 pub use Rattle.dns_item.proofs.theory.TypedLemmas.{laid_out-returned, laid_out-read}
 -- A section of records has one start, or one error, of an entry before it.
-pub use Rattle.dns_read.proofs.theory.StartLemmas.{start_or_fault}
+pub use Rattle.dns_read.specs.StartOrFault.{start_or_fault}
 -- What a cursor at the start of a section has left is the section's reading.
 pub use Rattle.dns_read.proofs.theory.SectionStartLemmas.{begins_reading}
 -- The answer section starts where `start_of` says; without a start, the error is that of an entry before it.

@@ -19,3 +19,4 @@ pub mod Limited
 pub mod Given
 pub mod RecordIter
 pub mod AnyRecordIter
+pub mod StartOrFault

@@ -10,7 +10,7 @@ use Rattle.dns_read.specs.RecordsFrom.{records_in}
 use Rattle.dns_read.specs.Sections.{record_count, StartsAt}
 use Rattle.dns_read.specs.declared.section.Section.{Section}
 use Rattle.dns_read.specs.declared.section.Section.TheVariants.{Answer, Authority, Additional}
-use Rattle.dns_read.proofs.theory.StartLemmas.{start_or_fault}
+use Rattle.dns_read.specs.StartOrFault.{start_or_fault}
 
 -- the start, of a start or a fault
 abbrev pub found : {Start : ℕ → Type 0} {FaultOf : Fault → Type 0} → ((p : ℕ) × Start p) ⊎ ((f : Fault) × FaultOf f) → Option ℕ

@@ -22,7 +22,7 @@ use Rattle.dns_read.specs.declared.section.Section.{Section}
 use Rattle.dns_read.specs.declared.section.Section.TheVariants.{Answer, Authority, Additional}
 use Rattle.dns_read.proofs.theory.QuestionsFromLemmas.{questions_from_are_read}
 use Rattle.dns_read.proofs.theory.RecordsFromLemmas.{records_from_are_read}
-use Rattle.dns_read.proofs.theory.StartLemmas.{questions_skip_or_stop}
+use Rattle.dns_read.specs.StartOrFault.{questions_skip_or_stop}
 use Rattle.dns_item.specs.ParsedRecord.{EncodedRecord}
 use Rattle.dns_read.specs.Sections.{section_after, record_count, StartsAt, AnswersStart, AnswersFault}
 use Rattle.dns_read.specs.MessageIter.{records_end, HasNoFault}

@@ -12,7 +12,7 @@ use Rattle.dns_read.specs.RecordsFrom.{records_in}
 use Rattle.dns_read.specs.Sections.{question_count, answer_count, authority_count, additional_count, record_count}
 use Rattle.dns_read.specs.declared.section.Section.{Section}
 use Rattle.dns_read.specs.declared.section.Section.TheVariants.{Answer, Authority, Additional}
-use Rattle.dns_read.proofs.theory.StartLemmas.{questions_skip_or_stop}
+use Rattle.dns_read.specs.StartOrFault.{questions_skip_or_stop}
 use Rattle.dns_read.specs.MessageIter.{records_end}
 use Rattle.dns_read.specs.Searches.{questions_of}
 use Rattle.dns_read.specs.SectionStarts.{found, records_of}

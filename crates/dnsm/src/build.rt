@@ -11,7 +11,7 @@ ghost use Rattle.dnsm.specs.Made.{SpellsNoName};
 ghost use Rattle.dnsm.specs.NewData.{new_rtype, new_parts};
 ghost use Rattle.dnsm.specs.Built.{NewEntry, Means, AllMean, AreQuestions, AreRecords, IsQuestionOf, IsRecordOf, IsBuilt, LacksFields, IsRefused, FirstRefused, RefusesEntries, RefusesQuestion, RefusesRecord, IsUnbuilt, questions_among, records_among, header_of};
 
-use crate::code::Fault;
+use crate::code::CallError;
 use crate::make::{Text, name_of};
 use crate::new_data::{NewData, fields_of};
 use dns_build::{Builder, MessageBuilder, QuestionBuilder, RecordStage};

@@ -4,7 +4,7 @@ ghost use Rattle.dns_name.specs.Names.{Labels, NameAt};
 ghost use Rattle.dnsm.specs.Codes.{number_of};
 ghost use Rattle.dnsm.specs.DataNames.{HasName, IsDataName, IsNoRdata, IsPlaceOf, IsRdata, LacksDataName, before_name, data_end, first_names};
 
-use crate::code::Fault;
+use crate::code::CallError;
 use crate::walk::{Item, name_end};
 use dns_data::ParseAnyRecordData;
 use dns_iana::Rtype;

@@ -10,7 +10,7 @@ ghost use Rattle.dnsm.specs.Codes.{number_of};
 ghost use Rattle.dnsm.specs.Texts.{Holds, NoRecordAt, RecordAt, data_octets, data_text};
 
 use crate::code;
-use crate::code::Fault;
+use crate::code::CallError;
 use crate::sink::{End, START, Sink};
 use crate::walk::{Item, parser_at};
 use dns_item::ParsedRecord;

@@ -4,7 +4,7 @@ ghost use Rattle.std.specs.Prelude.{◌≡◌, ◌↔◌, IsTrue};
 ghost use Rattle.dnsm.specs.NameTables.{FirstNamesAreFields, PutLayoutsAreFields};
 
 use crate::build::NewItem;
-use crate::code::Fault;
+use crate::code::CallError;
 use crate::opts::{Opt, OptOption};
 use crate::walk::{Cursor, Header, Item};
 

@@ -46,7 +46,7 @@ ghost use Rattle.dnsm.specs.Steps.{EndsFrom, IsOpen, Opens, Spans, GivesNext};
 ghost use Rattle.dnsm.specs.Texts.{NoRecordAt, RecordAt, class_text, data_text, type_text};
 
 pub use build::NewItem;
-pub use code::Fault;
+pub use code::CallError;
 pub use dnsm_put::{Draft, PutItem};
 pub use opts::{Opt, OptOption};
 use std::alloc::Global;

@@ -16,7 +16,7 @@ ghost use Rattle.dnsm.specs.Codes.{number_of};
 ghost use Rattle.dnsm.specs.Made.{asking, answering, address_record, Asks, AsksOne, AsksNothing, IsQuery, IsResponse, SpellsNoName, query_header, response_header};
 
 use crate::code;
-use crate::code::Fault;
+use crate::code::CallError;
 use crate::walk::parser_at;
 use arrayvec::ArrayVec;
 use dns_build::MessageBuilder;

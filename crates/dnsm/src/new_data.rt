@@ -4,7 +4,7 @@ ghost use Rattle.fields_octets.specs.Data.{parts_of};
 ghost use Rattle.dnsm.specs.Built.{HasNoFields, IsDataOf};
 
 use crate::build::NewItem;
-use crate::code::Fault;
+use crate::code::CallError;
 use dns_data::{ComposeRecordData, RecordData};
 use dns_iana::{Class, Rtype};
 use dns_octets::AppendError;

@@ -7,7 +7,7 @@ ghost use Rattle.dnsm.specs.DataNames.{data_end};
 ghost use Rattle.dnsm.specs.Opts.{BeginsNoOption, HasFields, HoldsOpt, IsInData, IsOpt, LacksOption, data_from, option_at};
 ghost use Rattle.dnsm.specs.Texts.{Holds};
 
-use crate::code::Fault;
+use crate::code::CallError;
 use crate::data_name::data_end;
 use crate::sink::{End, START, append_octets};
 use crate::walk::Item;

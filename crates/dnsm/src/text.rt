@@ -9,7 +9,7 @@ ghost use Rattle.dnsm.specs.Made.{LacksName};
 ghost use Rattle.dnsm.specs.Texts.{Holds};
 
 use crate::code;
-use crate::code::Fault;
+use crate::code::CallError;
 use crate::sink::{End, START, Sink};
 use crate::walk::name_at;
 use dns_name::{ParsedName, write_dotted_name};

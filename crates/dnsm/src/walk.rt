@@ -14,7 +14,7 @@ ghost use Rattle.dnsm.specs.Steps.{left_from, EndsFrom, IsHeader, IsOpen, Opens,
 ghost use Rattle.dnsm.specs.Walk.{count_at};
 
 use crate::code;
-use crate::code::Fault;
+use crate::code::CallError;
 use dns_item::{Question, RecordHeader};
 use dns_name::{ParsedName, Parser};
 use dns_octets::ParseError;

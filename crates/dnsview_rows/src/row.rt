@@ -58,7 +58,7 @@ pub enum NameOf {
     /// The owner of a record.
     Owner,
     /// The name that is this field of RDATA, by the field's name in `fields_octets::fields_of`.
-    RowField(&'static str),
+    Field(&'static str),
 }
 
 /// A field of a message, or a part of one.

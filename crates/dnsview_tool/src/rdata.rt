@@ -47,7 +47,7 @@ impl fmt::Display for Words {
 #[derive(Clone, Copy)]
 pub(crate) struct RdataField<'a> {
     pub(crate) name: &'static str,
-    pub(crate) kind: RowKind,
+    pub(crate) kind: Kind,
     pub(crate) octets: &'a [u8],
 }
 
@@ -56,18 +56,18 @@ impl fmt::Display for RdataField<'_> {
         let words = Words(self.name);
         write!(f, "{words}")?;
         match self.kind {
-            RowKind::CharacterString | RowKind::Tag | RowKind::Salt | RowKind::Hash => {
+            Kind::CharacterString | Kind::Tag | Kind::Salt | Kind::Hash => {
                 write_string(f, self.kind, self.octets.get(1..).unwrap_or(&[]))
             }
-            RowKind::SizedOctets => write_string(f, self.kind, self.octets.get(2..).unwrap_or(&[])),
-            RowKind::Text | RowKind::Hexadecimal | RowKind::Base64 => {
+            Kind::SizedOctets => write_string(f, self.kind, self.octets.get(2..).unwrap_or(&[])),
+            Kind::Text | Kind::Hexadecimal | Kind::Base64 => {
                 f.write_str(": ")?;
                 write_octets(f, self.kind, self.octets)
             }
-            RowKind::TypeBitMap
-            | RowKind::SmallTypeBitMap
-            | RowKind::ServiceParameters
-            | RowKind::AddressPrefixes => self.write_items(f),
+            Kind::TypeBitMap
+            | Kind::SmallTypeBitMap
+            | Kind::ServiceParameters
+            | Kind::AddressPrefixes => self.write_items(f),
             _ => self.write_number(f),
         }
     }
@@ -78,15 +78,13 @@ impl RdataField<'_> {
     fn write_number<W: fmt::Write>(&self, f: &mut fmt::Formatter<W>) -> fmt::Result {
         let number = number_of(self.octets);
         match (self.kind, self.octets) {
-            (RowKind::Number8 | RowKind::Number16 | RowKind::Number32, _) => write_value(
-                f, &number,
-            ),
-            (RowKind::Number48, [a, b, c, d, e, g]) => {
+            (Kind::Number8 | Kind::Number16 | Kind::Number32, _) => write_value(f, &number),
+            (Kind::Number48, [a, b, c, d, e, g]) => {
                 write_value(f, &u64::from_be_bytes([0, 0, *a, *b, *c, *d, *e, *g]))
             }
-            (RowKind::Seconds, _) => write_value(f, &second_count(number)),
-            (RowKind::Time, _) => write_value(f, &Timestamp(number)),
-            (RowKind::RecordType, [high, low]) => {
+            (Kind::Seconds, _) => write_value(f, &second_count(number)),
+            (Kind::Time, _) => write_value(f, &Timestamp(number)),
+            (Kind::RecordType, [high, low]) => {
                 let rtype = Rtype::from_int(u16::from_be_bytes([*high, *low]));
                 write_value(f, &Mnemonic::of_type(rtype))
             }
@@ -97,16 +95,16 @@ impl RdataField<'_> {
     /// Prints an address or a location.
     fn write_address<W: fmt::Write>(&self, f: &mut fmt::Formatter<W>) -> fmt::Result {
         match self.kind {
-            RowKind::Ipv4 | RowKind::Ipv6 => {
+            Kind::Ipv4 | Kind::Ipv6 => {
                 f.write_str(" ")?;
                 write_address(f, self.octets)
             }
-            RowKind::Eui48 | RowKind::Eui64 => write_value(f, &Eui(self.octets)),
-            RowKind::Locator64 => match <[u8; 8]>::try_from(self.octets) {
+            Kind::Eui48 | Kind::Eui64 => write_value(f, &Eui(self.octets)),
+            Kind::Locator64 => match <[u8; 8]>::try_from(self.octets) {
                 Ok(octets) => write_value(f, &Locator64(octets)),
                 Err(_) => self.write_count(f),
             },
-            RowKind::Location => match Location::from_octets(self.octets) {
+            Kind::Location => match Location::from_octets(self.octets) {
                 Some(location) => write_value(f, &location),
                 None => self.write_count(f),
             },
@@ -120,12 +118,12 @@ impl RdataField<'_> {
             return self.write_count(f);
         }
         match self.kind {
-            RowKind::TypeBitMap => write_types(f, self.octets),
-            RowKind::SmallTypeBitMap => match SmallTypeMap::from_octets(self.octets) {
+            Kind::TypeBitMap => write_types(f, self.octets),
+            Kind::SmallTypeBitMap => match SmallTypeMap::from_octets(self.octets) {
                 Some(_) => write_small_types(f, self.octets),
                 None => self.write_count(f),
             },
-            RowKind::ServiceParameters => write_parameters(f, self.octets),
+            Kind::ServiceParameters => write_parameters(f, self.octets),
             _ => self.write_prefixes(f),
         }
     }
@@ -180,12 +178,12 @@ fn write_value<W: fmt::Write, D: fmt::Display>(
 /// octets.
 fn write_string<W: fmt::Write>(
     f: &mut fmt::Formatter<W>,
-    kind: RowKind,
+    kind: Kind,
     octets: &[u8],
 ) -> fmt::Result {
     let count = octet_count(octets.len());
     write!(f, " of {count}")?;
-    if octets.is_empty() && !matches!(kind, RowKind::CharacterString | RowKind::Tag) {
+    if octets.is_empty() && !matches!(kind, Kind::CharacterString | Kind::Tag) {
         return Ok(());
     }
     f.write_str(": ")?;
@@ -195,19 +193,19 @@ fn write_string<W: fmt::Write>(
 /// Prints octets in base32, in base64, in hexadecimal, or in quotation marks.
 fn write_octets<W: fmt::Write>(
     f: &mut fmt::Formatter<W>,
-    kind: RowKind,
+    kind: Kind,
     octets: &[u8],
 ) -> fmt::Result {
     match kind {
-        RowKind::Hash => {
+        Kind::Hash => {
             let digits = Base32(octets);
             write!(f, "{digits}")
         }
-        RowKind::Base64 | RowKind::SizedOctets => {
+        Kind::Base64 | Kind::SizedOctets => {
             let digits = Base64Display::new(octets, &STANDARD);
             write!(f, "{digits}")
         }
-        RowKind::Salt | RowKind::Hexadecimal => {
+        Kind::Salt | Kind::Hexadecimal => {
             let digits = Hex(octets);
             write!(f, "{digits}")
         }

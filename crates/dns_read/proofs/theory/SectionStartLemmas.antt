@@ -12,7 +12,7 @@ use Rattle.dns_read.specs.Sections.{AnswersFault, AuthoritiesFault, AdditionalsF
 use Rattle.dns_read.specs.declared.record_section.RecordSection.{RecordSection}
 use Rattle.dns_read.specs.declared.section.Section.{Section}
 use Rattle.dns_read.specs.declared.section.Section.TheVariants.{Answer, Authority, Additional}
-use Rattle.dns_read.proofs.theory.StartLemmas.{start_or_fault}
+use Rattle.dns_read.specs.StartOrFault.{start_or_fault}
 use Rattle.dns_read.specs.SectionStarts.{found, start_of, records_of, StartsAreFound}
 
 module _ {Start : ℕ → Type 0} {FaultOf : Fault → Type 0} (h : StartsOrFaults Start FaultOf) where

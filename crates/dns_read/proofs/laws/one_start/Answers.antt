@@ -1,4 +1,4 @@
-use Rattle.dns_read.proofs.theory.StartLemmas.{one_start}
+use Rattle.dns_read.specs.StartOrFault.{one_start}
 use Rattle.dns_read.proofs.laws.one_start.Goals as goal
 
 pub returns : goal.returns

@@ -1,4 +1,4 @@
-use Rattle.dns_read.proofs.theory.StartLemmas.{questions_skip_or_stop, records_skip_or_stop}
+use Rattle.dns_read.specs.StartOrFault.{questions_skip_or_stop, records_skip_or_stop}
 use Rattle.dns_read.proofs.laws.skipped_or_stopped.Goals as goal
 
 pub returns : goal.returns
