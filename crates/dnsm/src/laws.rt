@@ -8,8 +8,8 @@ use crate::code::CallError;
 use crate::opts::{Opt, OptOption};
 use crate::walk::{Cursor, Header, Item};
 
-/// The names that `dnsm_data_name` finds, and those that `dnsm_put` compresses, are those among the
-/// fields of the record types in `TABLE` of `fields_octets`.
+/// The first names that `dnsm_data_name` finds are at the offsets of those among the fields of the
+/// record types in `TABLE` of `fields_octets`, and so are the names that `dnsm_put` compresses.
 #[tactic(auto, unfolding(fields_octets::specs::RecordTypes::record_types, fields_octets::specs::Table::definitions_of, crate::specs::DataNames::first_names))]
 pub fn names_are_fields()
     ensures first { FirstNamesAreFields }
