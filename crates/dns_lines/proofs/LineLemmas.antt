@@ -20,7 +20,8 @@ use Rattle.fields_print.specs.RecordLines.{record_text}
 use Rattle.fields_print.specs.TypeNames.{type_word}
 use Rattle.fields_print.specs.ZoneNames.{zone_name_text}
 use Rattle.dns_lines.specs.Show.{data_parts, line}
-use Rattle.dns_lines.specs.ZoneLines.{is_of_message, line_with, rdata_text, record_lines}
+use Rattle.fields_print.specs.RdataTexts.{rdata_text}
+use Rattle.dns_lines.specs.ZoneLines.{is_of_message, line_with, record_lines}
 
 module _ (x : EncodedRecord) where
   -- a record of one message has no line
