@@ -37,7 +37,7 @@
 
 /* The version of this header and its library, as text and as a number: 10000 * major + 100 * minor + patch. */
 #define DNSM_VERSION "2.0.0"
-#define DNSM_VERSION_NUMBER 10000
+#define DNSM_VERSION_NUMBER 20000
 
 #ifdef __cplusplus
 extern "C" {
