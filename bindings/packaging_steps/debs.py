@@ -1,4 +1,4 @@
-"""The packages for Debian: libdnsm1 with the shared library, and libdnsm-dev with all else."""
+"""The packages for Debian: libdnsm2 with the shared library, and libdnsm-dev with all else."""
 
 import gzip
 import hashlib

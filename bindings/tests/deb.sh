@@ -1,7 +1,7 @@
 # The packages for Debian: checked by lintian, unpacked in a new root, and by root installed over a copy of this system.
 # shellcheck shell=bash disable=SC2154,SC2086,SC2016
 
-runtime=$dist/libdnsm1_${version}_amd64.deb
+runtime=$dist/libdnsm2_${version}_amd64.deb
 development=$dist/libdnsm-dev_${version}_amd64.deb
 root=$room/root
 libraries=/usr/lib/x86_64-linux-gnu
@@ -23,9 +23,9 @@ unpacked() {
 # The list of symbols in the package is what dpkg-gensymbols finds, and a program would depend on the right version.
 symbols() {
   mkdir -p gensymbols/debian && cd gensymbols || return
-  printf 'Source: dnsm\n\nPackage: libdnsm1\nArchitecture: any\n' >debian/control
-  dpkg-deb -R "$runtime" debian/libdnsm1 && cp debian/libdnsm1/DEBIAN/symbols debian/libdnsm1.symbols &&
-    dpkg-gensymbols -q -c4 -plibdnsm1 "-v$version" -Pdebian/libdnsm1
+  printf 'Source: dnsm\n\nPackage: libdnsm2\nArchitecture: any\n' >debian/control
+  dpkg-deb -R "$runtime" debian/libdnsm2 && cp debian/libdnsm2/DEBIAN/symbols debian/libdnsm2.symbols &&
+    dpkg-gensymbols -q -c4 -plibdnsm2 "-v$version" -Pdebian/libdnsm2
 }
 
 sums() {
@@ -55,11 +55,11 @@ installed_there() {
       for program in show write serve; do
         cc -o $program /usr/share/doc/libdnsm-dev/examples/$program.c $(pkg-config --cflags --libs dnsm)
       done
-      ldconfig -p | grep libdnsm.so.1
+      ldconfig -p | grep libdnsm.so.2
       ./show <messages.txt | diff shown.txt -
       ./write | diff written.txt -
       ./serve <queries.txt | diff served.txt -
-      dpkg -r libdnsm-dev libdnsm1
+      dpkg -r libdnsm-dev libdnsm2
       ! ./write'
 }
 

@@ -18,7 +18,7 @@ vendored() {
 # Go doesn't understand a path with a space from pkg-config.
 system() {
   ln -s "$prefix" prefix && export PKG_CONFIG_PATH=$PWD/prefix/lib/pkgconfig LD_LIBRARY_PATH=$prefix/lib
-  cd user && go build -tags dnsm_system -o system/ ./... && all_three system && ldd system/show | grep libdnsm.so.1
+  cd user && go build -tags dnsm_system -o system/ ./... && all_three system && ldd system/show | grep libdnsm.so.2
 }
 
 # Pointers that are passed to C are checked as far as Go can.

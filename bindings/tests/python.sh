@@ -10,7 +10,7 @@ installed() {
 
 # What pip says of the wheel: each file is in RECORD, and the version is that of dnsm.h.
 described() {
-  venv/bin/python -m pip check && venv/bin/python -m pip show -f dnsm | tee said.txt && grep -q libdnsm.so.1 said.txt &&
+  venv/bin/python -m pip check && venv/bin/python -m pip show -f dnsm | tee said.txt && grep -q libdnsm.so.2 said.txt &&
     grep -q py.typed said.txt && grep -qx "Version: $version" said.txt &&
     venv/bin/python -c "import dnsm; assert dnsm.__version__ == '$version'"
 }

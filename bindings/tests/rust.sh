@@ -32,7 +32,7 @@ used() {
 system() {
   export DNSM_SYSTEM=1 PKG_CONFIG_PATH=$prefix/lib/pkgconfig LD_LIBRARY_PATH=$prefix/lib
   (cd project && cargo build -q --offline --target-dir system) && all_three project/system/debug &&
-    ldd project/system/debug/show | grep libdnsm.so.1
+    ldd project/system/debug/show | grep libdnsm.so.2
 }
 
 tested() {

@@ -71,7 +71,7 @@ expect() {
 
 hardened() {
   readelf -dlnW "$library" >said.txt || return
-  expect 'SONAME.*\[libdnsm\.so\.1\]' && expect 'GNU_RELRO' && expect 'FLAGS.*BIND_NOW' && expect 'GNU_STACK .* RW ' &&
+  expect 'SONAME.*\[libdnsm\.so\.2\]' && expect 'GNU_RELRO' && expect 'FLAGS.*BIND_NOW' && expect 'GNU_STACK .* RW ' &&
     expect 'x86 ISA needed:.*x86-64-v2' && ! grep -E 'TEXTREL|RUNPATH|RPATH|RWE' said.txt
 }
 

@@ -10,7 +10,7 @@ from ._errors import Status, error_of
 
 Octets = Union[bytes, bytearray, memoryview]
 
-_SONAME = "libdnsm.so.1"
+_SONAME = "libdnsm.so.2"
 # Enough for nearly every text and message. A call whose result is longer says how long it is, and is made again.
 _CAPACITY = 1024
 
