@@ -69,6 +69,7 @@ fn prints_reads_and_stores_the_longest_names(rt: HostRuntime) {
         let octets = octets_of(&rt, alloc, labels);
         let text = text_of(&rt, alloc, labels);
         assert_same(&rt, row, octets.len(), 255);
+        assert_same(&rt, row, Name::<&[u8]>::MAX_LEN, 255);
         assert_prints(&rt, alloc, row, &name_of(&rt, &octets), &text);
         assert_read_into_memory(&rt, alloc, row, &text, &octets);
         assert_stored(&rt, alloc, row, &octets);
