@@ -1,6 +1,6 @@
 -- Words that are read one by one.
 use Rattle.std.proofs.Common.{◌≡◌, ◌∙◌, ℕ, zero, suc, ◌+◌, ◌<◌, ◌≤◌, List, [], ◌∷◌, ◌++◌, length, get_or, take, ap, refl, subst, sym, arith}
-use Rattle.std.specs.Prelude.{map, Option, Some, None, Result, Ok, Err, IfOk}
+use Rattle.std.specs.Prelude.{Option, Result, IfOk}
 use Rattle.std.specs.Borrow.{Bor}
 use Rattle.std.proofs.lemmas.List.{map-append, take_more}
 use Rattle.dnsmsg_tool.specs.ScriptWords.{LineWords, AreEach, IsOnly, ReadsValue, texts}

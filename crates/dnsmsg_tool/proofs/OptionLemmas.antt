@@ -1,5 +1,5 @@
 -- The words of OPT records.
-use Rattle.std.proofs.Common.{◌≡◌, ◌-◌, ◌<◌, ◌≤◌, [], ◌∷◌, length, take, drop, subst, arith}
+use Rattle.std.proofs.Common.{◌-◌, ◌<◌, ◌≤◌, [], ◌∷◌, length, take, drop, subst, arith}
 use Rattle.std.specs.Prelude.{Option, Result, IfOk}
 use Rattle.std.proofs.lemmas.List.{take_all}
 use Rattle.dns_script.specs.declared.opt_plan.OptPlan.{OptPlan}

@@ -1,6 +1,4 @@
-use Rattle.std.proofs.Common.{◌≡◌, ◌∙◌, ℕ, List, ap, sym, subst, arith, ltb-false, ltb-true}
-use Rattle.std.specs.Prelude.{◌==◌}
-use Rattle.std.specs.List.{slice_split}
+use Rattle.std.proofs.Common.{◌∙◌, ap, sym, subst, arith, ltb-false, ltb-true}
 use Rattle.dnsmsg_tool.specs.ScriptRecords.{IsAddressWord}
 use Rattle.dnsmsg_tool.specs.ScriptWords.{texts}
 use Rattle.dnsmsg_tool.proofs.RecordLemmas.{address_word, no_part, parts_four}

@@ -1,4 +1,4 @@
-use Rattle.std.proofs.Common.{◌≡◌, ℕ, sym, subst, arith, ltb-false, ltb-true}
+use Rattle.std.proofs.Common.{ℕ, sym, subst, arith, ltb-false, ltb-true}
 use Rattle.dns_name.specs.NameReading.{name_labels}
 use Rattle.dns_name.specs.NameTexts.{SpellsName}
 use Rattle.dns_data.specs.Soa.{mname_of, rname_of, serial_of, refresh_of, retry_of, expire_of, minimum_of}
