@@ -1,2 +1,5 @@
-mod HexLemmas
-mod OutputLemmas
+mod EachLemmas
+mod LineLemmas
+mod OptionLemmas
+mod RecordLemmas
+mod ScriptLemmas

@@ -1,6 +1,9 @@
-pub mod Faults
-pub mod Hex
 pub mod Lines
 pub mod Output
+pub mod ScriptCalls
 pub mod ScriptData
+pub mod ScriptOptions
+pub mod ScriptRecords
+pub mod ScriptWords
 pub mod ShowDigits
+pub mod ToolErrors

@@ -5,13 +5,14 @@
 //! `dns_script`.
 #![tactic(auto)]
 
-mod fault;
-mod hex;
 mod line;
+mod octet_digits;
 mod opt_line;
 mod output;
 mod program;
 mod record_line;
 mod script_data;
+mod script_words;
+mod tool_error;
 
 pub use program::tool;

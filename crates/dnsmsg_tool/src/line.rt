@@ -1,12 +1,16 @@
 //! The lines of a script, and the calls that they request.
-ghost use Rattle.std.specs.Prelude.{◌≡◌, ◌≤◌, ◌↔◌, IfOk, IsSome, IsTrue};
-ghost use Rattle.std.specs.Option.{SomeIff};
+ghost use Rattle.std.specs.Prelude.{◌≡◌, ◌↔◌, option_map, IfOk, IsSome, IsTrue};
 ghost use Rattle.std.specs.Str.{IsAscii};
-ghost use Rattle.std.specs.Str.Parse.{IsNumeral, digits_value};
+ghost use Rattle.dns_name.specs.NameReading.{name_labels};
+ghost use Rattle.dns_code.specs.Flags.{flags_read};
 ghost use Rattle.dns_code.specs.Header.{fields};
-ghost use Rattle.dnsmsg_tool.specs.Lines.{IsSkippedLine, changed};
+ghost use Rattle.dns_item.specs.Question.{question_item};
+ghost use Rattle.dnsmsg_tool.specs.Lines.{AreQuestionWords, IsNumberChange, IsSkippedLine, changed};
+ghost use Rattle.dnsmsg_tool.specs.ScriptCalls.{IsCallWord};
+ghost use Rattle.dnsmsg_tool.specs.ScriptWords.{spaced_words, without_tabs, ReadsValue};
 
 use crate::record_line::ScriptRecord;
+use crate::script_words::{number, spaced, words};
 use crate::{opt_line, record_line};
 use dns_code::{Flags, Header};
 use dns_iana::{Opcode, Rcode};
@@ -18,9 +22,6 @@ use dns_wire::Composer;
 use std::alloc::{AllocError, Global};
 use std::str;
 use std::str::FromStr;
-
-/// The separators between the words of a line.
-const BLANKS: [char; 2] = [' ', '\t'];
 
 /// A call that a line of a script requests.
 pub(crate) type ScriptCall = Call<Question<Name<Vec<u8>>>, ScriptRecord>;
@@ -66,41 +67,56 @@ pub(crate) fn call_of<T: Composer>(
 ) -> Result<Option<ScriptCall>, AllocError>
     ensures { IfOk result (λ call. IsSome call → IsAscii line.now) }
 {
-    match str::from_utf8(line) {
-        Ok(text) if text.is_ascii() => call_of_text(alloc, stage, text),
-        _ => Ok(None),
+    if !line.is_ascii() {
+        return Ok(None);
+    }
+    let spaced = without_tabs(alloc, line)?;
+    match str::from_utf8(&spaced) {
+        Ok(text) => call_of_words(alloc, stage, &words(alloc, text)?),
+        Err(_) => Ok(None),
     }
 }
 
-/// The call that the first word of a text names, with the arguments that follow it.
-fn call_of_text<T: Composer>(
+/// A line with a space for each tab.
+fn without_tabs(alloc: Global, line: &[u8]) -> Result<Vec<u8>, AllocError>
+    ensures { IfOk result (λ spaced. spaced.items ≡ without_tabs line.now) }
+{
+    line.iter()
+        .map(|octet| if *octet == b'\t' { b' ' } else { *octet })
+        .collect(alloc)
+}
+
+/// The call that the first word names, with the arguments that follow it.
+fn call_of_words<T: Composer>(
     alloc: Global,
     stage: &Stage<T>,
-    text: &str,
+    words: &[&str],
 ) -> Result<Option<ScriptCall>, AllocError> {
-    let (word, rest) = first_word(text);
-    match word {
-        "push" => push_of(alloc, stage, rest),
-        "opt" => Ok(opt_line::plan(alloc, rest)?.map(Call::PushOpt)),
-        "limit" => Ok(number(rest, usize::MAX).map(Call::SetLimit)),
-        "flags" => Ok(header_call(stage, flags_change(alloc, rest)?)),
-        "id" | "opcode" | "rcode" => Ok(header_call(stage, number_change(word, rest))),
-        _ if rest.is_empty() => Ok(call_of_word(word)),
-        _ => Ok(None),
+    let [verb, words @ ..] = words else {
+        return Ok(None);
+    };
+    match *verb {
+        "push" => push_of(alloc, stage, words),
+        "opt" => Ok(opt_line::plan(alloc, words)?.map(Call::PushOpt)),
+        "flags" => Ok(header_call(stage, flags_change(alloc, words)?)),
+        _ => Ok(short_call(stage, verb, words)),
     }
 }
 
-/// Splits a text after its first word. Neither part begins or ends with a blank.
-fn first_word(text: &str) -> (&str, &str) {
-    let text = text.trim_matches(BLANKS);
-    match text.split_once(BLANKS) {
-        Some((word, rest)) => (word, rest.trim_start_matches(BLANKS)),
-        None => (text, ""),
+/// The call that a word requests alone, or with a number after it.
+fn short_call<T: Composer>(stage: &Stage<T>, verb: &str, words: &[&str]) -> Option<ScriptCall> {
+    match words {
+        [] => call_of_word(verb),
+        [digits] if verb == "limit" => number(digits, usize::MAX).map(Call::SetLimit),
+        [digits] => header_call(stage, number_change(verb, digits)),
+        _ => None,
     }
 }
 
 /// The call that a single word requests.
-fn call_of_word(word: &str) -> Option<ScriptCall> {
+fn call_of_word(word: &str) -> Option<ScriptCall>
+    ensures { ReadsValue (λ call. call) (IsCallWord word.now) result }
+{
     match word {
         "builder" => Some(Call::ToBuilder),
         "question" => Some(Call::ToQuestion),
@@ -120,16 +136,20 @@ fn header_call<T: Composer>(stage: &Stage<T>, change: Option<Change>) -> Option<
 }
 
 /// The change to the flags with these names.
-fn flags_change(alloc: Global, names: &str) -> Result<Option<Change>, AllocError> {
-    let names = names.replace(alloc, '\t', " ")?;
-    match Flags::from_str(&names) {
+fn flags_change(alloc: Global, names: &[&str]) -> Result<Option<Change>, AllocError>
+    ensures { IfOk result (λ change. change ≡ option_map Change.Flags
+        (flags_read (spaced_words names.now))) }
+{
+    match Flags::from_str(&spaced(alloc, names)?) {
         Ok(flags) => Ok(Some(Change::Flags(flags))),
         Err(_) => Ok(None),
     }
 }
 
 /// The change of a header field to the number in these decimal digits.
-fn number_change(field: &str, digits: &str) -> Option<Change> {
+fn number_change(field: &str, digits: &str) -> Option<Change>
+    ensures { ReadsValue (λ change. change) (IsNumberChange field.now digits.now) result }
+{
     match field {
         "id" => Some(Change::Id(number(digits, 0xffff)? as u16)),
         "opcode" => {
@@ -144,46 +164,30 @@ fn number_change(field: &str, digits: &str) -> Option<Change> {
     }
 }
 
-/// The push of the item in a text: a question or a record, by the stage. Returns `None` if the item
-/// is malformed, or if the stage is before the sections.
+/// The push of the item in these words: a question or a record, by the stage. Returns `None` if the
+/// item is malformed, or if the stage is before the sections.
 fn push_of<T: Composer>(
     alloc: Global,
     stage: &Stage<T>,
-    item: &str,
+    words: &[&str],
 ) -> Result<Option<ScriptCall>, AllocError> {
     match stage {
         Stage::Builder(_) => Ok(None),
-        Stage::Question(_) => push_of_question(alloc, item),
+        Stage::Question(_) => Ok(question(alloc, words)?.map(Call::PushQuestion)),
         Stage::Answer(_) | Stage::Authority(_) | Stage::Additional(_) => {
-            Ok(record_line::record(alloc, item)?.map(Call::PushRecord))
+            Ok(record_line::record(alloc, words)?.map(Call::PushRecord))
         }
     }
 }
 
-fn push_of_question(alloc: Global, question: &str) -> Result<Option<ScriptCall>, AllocError> {
-    match Question::<Name<Vec<u8>>>::vec_from_str(alloc, question) {
-        Ok(question) => Ok(Some(Call::PushQuestion(question))),
-        Err(FromStrError::OutOfMemory) => Err(AllocError),
-        Err(_) => Ok(None),
-    }
-}
-
-/// The words of a text, which blanks separate.
-pub(crate) fn words(alloc: Global, text: &str) -> Result<Vec<&str>, AllocError> {
-    text.split(BLANKS)
-        .filter(|word| !word.is_empty())
-        .collect(alloc)
-}
-
-/// The number in these decimal digits. Returns `None` if it exceeds `most`, and for any other text.
-pub(crate) fn number(digits: &str, most: usize) -> Option<usize>
-    ensures { SomeIff result
-        (IsNumeral 10 digits.now × (digits_value 10 digits.now ≤ most))
-        (digits_value 10 digits.now) }
+/// The question in these words: a name, then a type and an optional class, in either order. Returns
+/// `None` if they are malformed.
+fn question(alloc: Global, words: &[&str]) -> Result<Option<Question<Name<Vec<u8>>>>, AllocError>
+    ensures { IfOk result (ReadsValue (question_item name_labels) (AreQuestionWords words.now)) }
 {
-    if digits.starts_with('+') {
-        return None;
+    match Question::<Name<Vec<u8>>>::vec_from_str(alloc, &spaced(alloc, words)?) {
+        Ok(question) => Ok(Some(question)),
+        Err(FromStrError::Presentation(_)) => Ok(None),
+        Err(_) => Err(AllocError),
     }
-    let number = digits.parse::<usize>().ok()?;
-    if number <= most { Some(number) } else { None }
 }

@@ -1,48 +1,21 @@
 //! What the program prints of replies and octets.
-ghost use Rattle.std.specs.Prelude.{◌≡◌, ◌<◌, ◌/◌, ◌%◌, ◌++◌, ◌∷◌, [], IfOk, OnOk, codes, decimal};
+ghost use Rattle.std.specs.Prelude.{◌≡◌, ◌++◌, ◌∷◌, [], OnOk, codes, decimal};
 ghost use Rattle.std.specs.Io.KnownBytes.{Appends};
-ghost use Rattle.dnsmsg_tool.specs.Output.{hex_digit, hex_pair, hex_text, refusal};
+ghost use Rattle.hex.specs.Hex.{encode_lower};
+ghost use Rattle.dnsmsg_tool.specs.Output.{refusal};
 
 use dns_build::PushError;
-use std::alloc::{AllocError, Global};
+use std::alloc::Global;
 use std::io;
 use std::io::Write;
-
-/// The lower-case hexadecimal digit of a number.
-fn hex_digit_of(number: u8) -> u8
-    requires { number < 16 }
-    ensures { result ≡ hex_digit number }
-{
-    match number {
-        0..=9 => b'0' + number,
-        _ => b'a' + (number - 10),
-    }
-}
-
-/// The two lower-case hexadecimal digits of an octet.
-fn hex_pair_of(octet: u8) -> [u8; 2]
-    ensures { result ≡ hex_pair octet }
-{
-    [hex_digit_of(octet / 16), hex_digit_of(octet % 16)]
-}
-
-/// The lower-case hexadecimal digits of some octets.
-fn hex_text_of(alloc: Global, octets: &[u8]) -> Result<Vec<u8>, AllocError>
-    ensures { IfOk result (λ digits. digits.items ≡ hex_text octets.now) }
-{
-    let mut digits = Vec::with_capacity(alloc, 2 * octets.len())?;
-    for octet in octets {
-        digits.extend_from_slice(&hex_pair_of(*octet))?;
-    }
-    Ok(digits)
-}
 
 /// Prints octets as one line of lower-case hexadecimal digits.
 pub(crate) fn print_octets<W: Write>(alloc: Global, writer: &mut W, octets: &[u8]) -> io::Result<()>
     ensures { OnOk result (Appends (W.contents writer.old) (W.contents writer.new)
-        (hex_text octets.now ++ 10 ∷ [])) }
+        (encode_lower octets.now ++ 10 ∷ [])) }
 {
-    writer.write_all(&hex_text_of(alloc, octets)?)?;
+    let digits = hex::encode(alloc, octets)?;
+    writer.write_all(digits.as_bytes())?;
     writer.write_all(b"\n")
 }
 

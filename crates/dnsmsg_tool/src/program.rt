@@ -1,13 +1,13 @@
 //! The work of the program `dnsmsg`.
 ghost use Rattle.std.specs.Prelude.{◌≤◌, OnOk, IfErr};
-ghost use Rattle.dnsmsg_tool.specs.ShowDigits.{Shows, IsFaultOf};
+ghost use Rattle.dnsmsg_tool.specs.ShowDigits.{Shows, IsShowError};
 
-use crate::fault::Fault;
 use crate::line::ScriptCall;
-use crate::{hex, line, output};
+use crate::tool_error::ToolError;
+use crate::{line, octet_digits, output};
 use arrayvec::ArrayVec;
 use dns_build::MessageBuilder;
-use dns_lines::print_message;
+use dns_lines::{print_message, unspaced};
 use dns_read::Message;
 use dns_script::{Reply, Stage, run};
 use dns_target::{HashCompressor, StaticCompressor, TreeCompressor};
@@ -88,19 +88,19 @@ pub fn tool<R: Read + Drop, W: Write + Drop>(
 {
     let mut reader = reader;
     let mut writer = writer;
-    let Err(fault) = perform(alloc, args, &mut reader, &mut writer) else {
+    let Err(error) = perform(alloc, args, &mut reader, &mut writer) else {
         return 0;
     };
-    if report(fault, &mut writer).is_ok() {
-        return fault.status();
+    if report(error, &mut writer).is_ok() {
+        return error.status();
     }
-    let _ = report(Fault::Failed, &mut writer);
-    Fault::Failed.status()
+    let _ = report(ToolError::Failed, &mut writer);
+    ToolError::Failed.status()
 }
 
-/// Prints the line that reports a fault.
-fn report<W: Write>(fault: Fault, writer: &mut W) -> io::Result<()> {
-    fault.print(writer)?;
+/// Prints the line that reports an error.
+fn report<W: Write>(error: ToolError, writer: &mut W) -> io::Result<()> {
+    error.print(writer)?;
     writer.flush()
 }
 
@@ -109,9 +109,9 @@ fn perform<R: Read, W: Write>(
     args: &[String],
     reader: &mut R,
     writer: &mut W,
-) -> Result<(), Fault> {
+) -> Result<(), ToolError> {
     let Some(command) = Command::of_arguments(args) else {
-        return Err(Fault::Usage);
+        return Err(ToolError::Usage);
     };
     let mut input = Vec::new(alloc);
     reader.read_to_end(&mut input)?;
@@ -124,16 +124,17 @@ fn perform<R: Read, W: Write>(
 }
 
 /// Prints the message that is given in hexadecimal digits.
-fn show_digits<W: Write>(alloc: Global, digits: &[u8], writer: &mut W) -> Result<(), Fault>
+fn show_digits<W: Write>(alloc: Global, digits: &[u8], writer: &mut W) -> Result<(), ToolError>
     ensures shows { OnOk result (Shows digits.now (W.contents writer.old)
         (W.contents writer.new)) }
-    ensures fault { IfErr result (IsFaultOf digits.now) }
+    ensures error { IfErr result (IsShowError digits.now) }
 {
-    let Some(octets) = hex::spaced_octets(alloc, digits)? else {
-        return Err(Fault::BadHex);
+    let digits = unspaced(alloc, digits)?;
+    let Some(octets) = octet_digits::octets(alloc, &digits)? else {
+        return Err(ToolError::BadHex);
     };
     let Ok(message) = Message::from_slice(&octets) else {
-        return Err(Fault::ShortMessage);
+        return Err(ToolError::ShortMessage);
     };
     print_message(writer, &message)?;
     Ok(())
@@ -146,7 +147,7 @@ fn build_over<W: Write>(
     target: Target,
     script: &[u8],
     writer: &mut W,
-) -> Result<(), Fault> {
+) -> Result<(), ToolError> {
     match target {
         Target::Plain => print_build(alloc, Vec::new(alloc), script, writer),
         Target::Fixed => print_build(alloc, ArrayVec::<u8, 512>::new(), script, writer),
@@ -176,7 +177,7 @@ fn print_build<T: Composer, W: Write>(
     target: T,
     script: &[u8],
     writer: &mut W,
-) -> Result<(), Fault> {
+) -> Result<(), ToolError> {
     let built = build(alloc, target, script, writer)?;
     output::print_octets(alloc, writer, built.as_slice())?;
     Ok(())
@@ -189,7 +190,7 @@ fn build<T: Composer, W: Write>(
     target: T,
     script: &[u8],
     writer: &mut W,
-) -> Result<T, Fault> {
+) -> Result<T, ToolError> {
     let mut stage = Stage::Builder(MessageBuilder::from_target(target)?);
     let mut replies = Vec::new(alloc);
     let lines = script.split_inclusive(|octet| *octet == b'\n');
@@ -210,9 +211,9 @@ fn follow<T: Composer, W: Write>(
     line: &[u8],
     replies: &mut Vec<Reply>,
     writer: &mut W,
-) -> Result<Stage<T>, Fault> {
+) -> Result<Stage<T>, ToolError> {
     let Some(call) = line::call_of(alloc, &stage, line)? else {
-        return Err(Fault::BadLine(number));
+        return Err(ToolError::BadLine(number));
     };
     let (stage, reply) = make(alloc, stage, call, replies)?;
     print_reply(writer, reply, number, stage.as_slice().len())?;
@@ -226,11 +227,11 @@ fn print_reply<W: Write>(
     reply: Reply,
     number: usize,
     len: usize,
-) -> Result<(), Fault> {
+) -> Result<(), ToolError> {
     match reply {
         Reply::Done => output::print_done(writer, len)?,
         Reply::Refused(error) => output::print_refused(writer, error, len)?,
-        Reply::Misplaced => return Err(Fault::BadLine(number)),
+        Reply::Misplaced => return Err(ToolError::BadLine(number)),
     }
     Ok(())
 }

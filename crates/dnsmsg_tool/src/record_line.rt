@@ -1,7 +1,16 @@
 //! Records in the lines of a script.
-use crate::hex;
-use crate::line::{number, words};
+ghost use Rattle.std.specs.Prelude.{◌≡◌, ◌==◌, IfOk, IfSome};
+ghost use Rattle.std.specs.List.{slice_split};
+ghost use Rattle.dns_name.specs.NameReading.{name_labels};
+ghost use Rattle.dns_name.specs.NameTexts.{SpellsName};
+ghost use Rattle.dns_data.specs.A.{address_of};
+ghost use Rattle.dns_data.specs.UnknownData.{unknown_octets, unknown_rtype_of};
+ghost use Rattle.dnsmsg_tool.specs.ScriptRecords.{AreDataWords, AreDigits, AreFieldWords, AreOpaqueWords, AreRecordFields, AreRecordWords, AreZoneWords, IsAddressWord};
+ghost use Rattle.dnsmsg_tool.specs.ScriptWords.{IsNumberUpTo, IsOnly, ReadsValue, texts};
+
+use crate::octet_digits;
 use crate::script_data::ScriptData;
+use crate::script_words::number;
 use dns_code::Ttl;
 use dns_data::{A, Cname, Ns, Soa, UnknownRecordData};
 use dns_iana::{Class, Rtype};
@@ -15,37 +24,62 @@ use std::str::FromStr;
 /// A record of a script.
 pub(crate) type ScriptRecord = Record<Name<Vec<u8>>, ScriptData>;
 
-/// The record in a text, whose words are the owner, TTL in seconds, class, type and RDATA. Returns
-/// `None` if the text is malformed.
-pub(crate) fn record(alloc: Global, text: &str) -> Result<Option<ScriptRecord>, AllocError> {
-    let words = words(alloc, text)?;
-    let [owner, ttl, class, rtype, data @ ..] = words.as_slice() else {
+/// The record in these words: the owner, TTL in seconds, class, type and RDATA. Returns `None` if
+/// they are malformed.
+pub(crate) fn record(alloc: Global, words: &[&str]) -> Result<Option<ScriptRecord>, AllocError>
+    ensures { IfOk result (ReadsValue (λ value. value) (AreRecordWords name_labels words.now)) }
+{
+    let [owner, ttl, class, rtype, words @ ..] = words else {
         return Ok(None);
     };
-    let (Some(seconds), Ok(class), Ok(rtype)) = (
-        number_of_32_bits(ttl),
-        Class::from_str(class),
-        Rtype::from_str(rtype),
-    ) else {
+    record_of(alloc, owner, ttl, class, rtype, words)
+}
+
+fn record_of(
+    alloc: Global,
+    owner: &str,
+    ttl: &str,
+    class: &str,
+    rtype: &str,
+    words: &[&str],
+) -> Result<Option<ScriptRecord>, AllocError>
+    ensures { IfOk result (ReadsValue (λ value. value)
+        (AreRecordFields name_labels owner.now ttl.now class.now rtype.now words.now)) }
+{
+    let Some(ttl) = number_of_32_bits(ttl) else {
+        return Ok(None);
+    };
+    let Ok(class) = Class::from_str(class) else {
+        return Ok(None);
+    };
+    let Ok(rtype) = Rtype::from_str(rtype) else {
         return Ok(None);
     };
     let Some(owner) = name(alloc, owner)? else {
         return Ok(None);
     };
-    match data_of(alloc, rtype, data)? {
-        Some(data) => Ok(Some(Record::new(owner, class, Ttl::from_secs(seconds), data))),
-        None => Ok(None),
-    }
+    let Some(value) = rdata(alloc, rtype, words)? else {
+        return Ok(None);
+    };
+    Ok(Some(Record::new(owner, class, Ttl::from_secs(ttl), value)))
 }
 
 /// The RDATA of a record of this type: opaque after `\#` (RFC 3597 section 5), else its fields.
 /// Returns `None` if the words are malformed.
-fn data_of(alloc: Global, rtype: Rtype, words: &[&str]) -> Result<Option<ScriptData>, AllocError> {
+fn rdata(alloc: Global, rtype: Rtype, words: &[&str]) -> Result<Option<ScriptData>, AllocError>
+    ensures { IfOk result (ReadsValue (λ value. value) (AreDataWords rtype words.now)) }
+{
     match words {
-        ["\\#", len, digits @ ..] => {
-            Ok(opaque(alloc, rtype, len, digits)?.map(ScriptData::Opaque))
+        [mark, size, digits @ ..] if *mark == "\\#" => {
+            match opaque(alloc, rtype, size, digits)? {
+                Some(value) => Ok(Some(ScriptData::Opaque(value))),
+                None => Ok(None),
+            }
         }
-        _ => Ok(fields(alloc, rtype, words)?.map(ScriptData::Known)),
+        _ => match fields(alloc, rtype, words)? {
+            Some(value) => Ok(Some(ScriptData::Known(value))),
+            None => Ok(None),
+        },
     }
 }
 
@@ -55,79 +89,131 @@ fn fields(
     alloc: Global,
     rtype: Rtype,
     words: &[&str],
-) -> Result<Option<KnownData<Name<Vec<u8>>>>, AllocError> {
-    match words {
-        [word] if rtype == Rtype::A => Ok(address(word).map(KnownData::A)),
-        [word] if rtype == Rtype::NS => match name(alloc, word)? {
+) -> Result<Option<KnownData<Name<Vec<u8>>>>, AllocError>
+    ensures { IfOk result (ReadsValue (λ value. value) (AreFieldWords name_labels rtype words.now)) }
+{
+    match rtype {
+        Rtype::A => match only_address(alloc, words)? {
+            Some(address) => Ok(Some(KnownData::A(address))),
+            None => Ok(None),
+        },
+        Rtype::NS => match only_name(alloc, words)? {
             Some(name) => Ok(Some(KnownData::Ns(Ns::new(name)))),
             None => Ok(None),
         },
-        [word] if rtype == Rtype::CNAME => match name(alloc, word)? {
+        Rtype::CNAME => match only_name(alloc, words)? {
             Some(name) => Ok(Some(KnownData::Cname(Cname::new(name)))),
             None => Ok(None),
         },
-        [mname, rname, numbers @ ..] if rtype == Rtype::SOA => zone(alloc, mname, rname, numbers),
+        Rtype::SOA => match zone(alloc, words)? {
+            Some(zone) => Ok(Some(KnownData::Soa(zone))),
+            None => Ok(None),
+        },
+        _ => Ok(None),
+    }
+}
+
+/// The IPv4 address in a single word.
+fn only_address(alloc: Global, words: &[&str]) -> Result<Option<A>, AllocError>
+    ensures { IfOk result (ReadsValue address_of (IsOnly IsAddressWord words.now)) }
+{
+    match words {
+        [word] => address(alloc, word),
+        _ => Ok(None),
+    }
+}
+
+/// The IPv4 address in a word: four decimal numbers with dots between.
+fn address(alloc: Global, word: &str) -> Result<Option<A>, AllocError>
+    ensures { IfOk result (ReadsValue address_of (IsAddressWord word.now)) }
+{
+    let parts = parts_of(alloc, word)?;
+    let [a, b, c, d] = parts.as_slice() else {
+        return Ok(None);
+    };
+    let Some(a) = number_of_8_bits(a) else {
+        return Ok(None);
+    };
+    let Some(b) = number_of_8_bits(b) else {
+        return Ok(None);
+    };
+    let Some(c) = number_of_8_bits(c) else {
+        return Ok(None);
+    };
+    let Some(d) = number_of_8_bits(d) else {
+        return Ok(None);
+    };
+    Ok(Some(A::from_octets(a, b, c, d)))
+}
+
+/// The parts of a word, which dots separate.
+fn parts_of(alloc: Global, word: &str) -> Result<Vec<&str>, AllocError>
+    ensures { IfOk result (λ parts. texts parts.items ≡ slice_split (λ c. c == 46) word.now) }
+{
+    word.split('.').collect(alloc)
+}
+
+/// The name in a single word.
+fn only_name(alloc: Global, words: &[&str]) -> Result<Option<Name<Vec<u8>>>, AllocError>
+    ensures { IfOk result (ReadsValue name_labels (IsOnly SpellsName words.now)) }
+{
+    match words {
+        [word] => name(alloc, word),
         _ => Ok(None),
     }
 }
 
 /// The name in a word. Returns `None` if the word is malformed.
-fn name(alloc: Global, word: &str) -> Result<Option<Name<Vec<u8>>>, AllocError> {
+fn name(alloc: Global, word: &str) -> Result<Option<Name<Vec<u8>>>, AllocError>
+    ensures { IfOk result (ReadsValue name_labels (SpellsName word.now)) }
+{
     match Name::vec_from_str(alloc, word) {
         Ok(name) => Ok(Some(name)),
-        Err(FromStrError::OutOfMemory) => Err(AllocError),
-        Err(_) => Ok(None),
-    }
-}
-
-/// The IPv4 address in a word: four decimal numbers with dots between.
-fn address(word: &str) -> Option<A> {
-    let mut numbers = word.split('.');
-    let mut octets = [0; 4];
-    for octet in octets.iter_mut() {
-        *octet = number(numbers.next()?, 255)? as u8;
-    }
-    let [a, b, c, d] = octets;
-    match numbers.next() {
-        Some(_) => None,
-        None => Some(A::from_octets(a, b, c, d)),
+        Err(FromStrError::Presentation(_)) => Ok(None),
+        Err(_) => Err(AllocError),
     }
 }
 
 /// The RDATA of an SOA record: two names and five numbers.
-fn zone(
-    alloc: Global,
-    mname: &str,
-    rname: &str,
-    numbers: &[&str],
-) -> Result<Option<KnownData<Name<Vec<u8>>>>, AllocError> {
-    let Some(numbers) = zone_numbers(numbers) else {
+fn zone(alloc: Global, words: &[&str]) -> Result<Option<Soa<Name<Vec<u8>>>>, AllocError>
+    ensures { IfOk result (ReadsValue (λ zone. zone) (AreZoneWords name_labels words.now)) }
+{
+    let [mname, rname, serial, refresh, retry, expire, minimum] = words else {
         return Ok(None);
     };
-    let [serial, refresh, retry, expire, minimum] = numbers;
     let Some(mname) = name(alloc, mname)? else {
         return Ok(None);
     };
     let Some(rname) = name(alloc, rname)? else {
         return Ok(None);
     };
-    Ok(Some(KnownData::Soa(Soa::new(mname, rname, serial, refresh, retry, expire, minimum))))
-}
-
-fn zone_numbers(words: &[&str]) -> Option<[u32; 5]> {
-    let [serial, refresh, retry, expire, minimum] = words else {
-        return None;
+    let Some(serial) = number_of_32_bits(serial) else {
+        return Ok(None);
     };
-    Some([
-        number_of_32_bits(serial)?,
-        number_of_32_bits(refresh)?,
-        number_of_32_bits(retry)?,
-        number_of_32_bits(expire)?,
-        number_of_32_bits(minimum)?,
-    ])
+    let Some(refresh) = number_of_32_bits(refresh) else {
+        return Ok(None);
+    };
+    let Some(retry) = number_of_32_bits(retry) else {
+        return Ok(None);
+    };
+    let Some(expire) = number_of_32_bits(expire) else {
+        return Ok(None);
+    };
+    let Some(minimum) = number_of_32_bits(minimum) else {
+        return Ok(None);
+    };
+    Ok(Some(Soa::new(mname, rname, serial, refresh, retry, expire, minimum)))
 }
 
-fn number_of_32_bits(digits: &str) -> Option<u32> {
+fn number_of_8_bits(digits: &str) -> Option<u8>
+    ensures { ReadsValue (λ n. n) (IsNumberUpTo 255 digits.now) result }
+{
+    Some(number(digits, 0xff)? as u8)
+}
+
+fn number_of_32_bits(digits: &str) -> Option<u32>
+    ensures { ReadsValue (λ n. n) (IsNumberUpTo 4294967295 digits.now) result }
+{
     Some(number(digits, 0xffff_ffff)? as u32)
 }
 
@@ -138,17 +224,27 @@ fn opaque(
     rtype: Rtype,
     len: &str,
     digits: &[&str],
-) -> Result<Option<UnknownRecordData<Vec<u8>>>, AllocError> {
-    let digits = match digits {
-        [] => "",
-        [digits] => digits,
-        _ => return Ok(None),
-    };
-    let Some(octets) = hex::octets(alloc, digits.as_bytes())? else {
+) -> Result<Option<UnknownRecordData<Vec<u8>>>, AllocError>
+    ensures rtype { IfOk result (λ found. IfSome found (λ value. unknown_rtype_of value ≡ rtype)) }
+    ensures octets { IfOk result (ReadsValue unknown_octets
+        (AreOpaqueWords len.now digits.now)) }
+{
+    let Some(octets) = only_octets(alloc, digits)? else {
         return Ok(None);
     };
     if number(len, 0xffff) != Some(octets.len()) {
         return Ok(None);
     }
     Ok(UnknownRecordData::from_octets(rtype, octets).ok())
+}
+
+/// The octets in a word of hexadecimal digits, which is missing if there are none.
+fn only_octets(alloc: Global, words: &[&str]) -> Result<Option<Vec<u8>>, AllocError>
+    ensures { IfOk result (ReadsValue (λ octets. octets.items) (AreDigits words.now)) }
+{
+    match words {
+        [] => Ok(Some(Vec::new(alloc))),
+        [digits] => octet_digits::octets(alloc, digits.as_bytes()),
+        _ => Ok(None),
+    }
 }

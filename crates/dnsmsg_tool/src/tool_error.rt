@@ -1,8 +1,8 @@
 //! Why the program ends early.
 ghost use Rattle.std.specs.Prelude.{◌≡◌, OnOk};
 ghost use Rattle.std.specs.Io.KnownBytes.{Appends};
-ghost use Rattle.dnsmsg_tool.specs.Faults.{fault_line, status_of};
-ghost use Rattle.dnsmsg_tool.specs.declared.fault.Fault.TheVariants as faults;
+ghost use Rattle.dnsmsg_tool.specs.ToolErrors.{error_line, status_of};
+ghost use Rattle.dnsmsg_tool.specs.declared.tool_error.ToolError.TheVariants as errors;
 
 use dns_octets::AppendError;
 use std::alloc::AllocError;
@@ -11,7 +11,7 @@ use std::io::Write;
 
 /// Why the program ends before it has finished.
 #[derive(Clone, Copy, Debug)]
-pub(crate) enum Fault {
+pub(crate) enum ToolError {
     /// The arguments aren't those of the program.
     Usage,
     /// The script's line with this number, counted from 1, is malformed, or its call is misplaced.
@@ -24,53 +24,53 @@ pub(crate) enum Fault {
     Failed,
 }
 
-impl From<io::Error> for Fault {
-    ghost from_gives = { λ _ fault. fault ≡ faults.Failed };
+impl From<io::Error> for ToolError {
+    ghost from_gives = { λ _ error. error ≡ errors.Failed };
 
     fn from(_: io::Error) -> Self {
-        Fault::Failed
+        ToolError::Failed
     }
 }
 
-impl From<AllocError> for Fault {
-    ghost from_gives = { λ _ fault. fault ≡ faults.Failed };
+impl From<AllocError> for ToolError {
+    ghost from_gives = { λ _ error. error ≡ errors.Failed };
 
     fn from(_: AllocError) -> Self {
-        Fault::Failed
+        ToolError::Failed
     }
 }
 
-impl From<AppendError> for Fault {
-    ghost from_gives = { λ _ fault. fault ≡ faults.Failed };
+impl From<AppendError> for ToolError {
+    ghost from_gives = { λ _ error. error ≡ errors.Failed };
 
     fn from(_: AppendError) -> Self {
-        Fault::Failed
+        ToolError::Failed
     }
 }
 
-impl Fault {
+impl ToolError {
     /// The exit status.
     pub(crate) fn status(self) -> u8
         ensures { result ≡ status_of self }
     {
         match self {
-            Fault::BadLine(_) | Fault::BadHex | Fault::ShortMessage => 1,
-            Fault::Usage => 2,
-            Fault::Failed => 3,
+            ToolError::BadLine(_) | ToolError::BadHex | ToolError::ShortMessage => 1,
+            ToolError::Usage => 2,
+            ToolError::Failed => 3,
         }
     }
 
-    /// Prints the line that reports this fault.
+    /// Prints the line that reports this error.
     pub(crate) fn print<W: Write>(self, writer: &mut W) -> io::Result<()>
         ensures { OnOk result (Appends (W.contents writer.old) (W.contents writer.new)
-            (fault_line self)) }
+            (error_line self)) }
     {
         match self {
-            Fault::BadLine(number) => writeln!(writer, "bad line {number}"),
-            Fault::BadHex => writeln!(writer, "bad hex"),
-            Fault::ShortMessage => writeln!(writer, "short message"),
-            Fault::Usage => writeln!(writer, "usage: dnsmsg build TARGET | dnsmsg show"),
-            Fault::Failed => writeln!(writer, "failed"),
+            ToolError::BadLine(number) => writeln!(writer, "bad line {number}"),
+            ToolError::BadHex => writeln!(writer, "bad hex"),
+            ToolError::ShortMessage => writeln!(writer, "short message"),
+            ToolError::Usage => writeln!(writer, "usage: dnsmsg build TARGET | dnsmsg show"),
+            ToolError::Failed => writeln!(writer, "failed"),
         }
     }
 }
