@@ -1,10 +1,11 @@
 -- The calls that the words of a line request.
-use Rattle.std.proofs.Common.{◌≡◌, ◌≢◌, ◌∙◌, ℕ, ◌<◌, ◌≤◌, ◌-◌, false, List, [], ◌∷◌, length, take, drop, refl, subst, sym, arith}
-use Rattle.std.specs.Prelude.{⊤, Option, Some, None, option_map, Result, Ok, Err, IfOk, codes}
-use Rattle.std.specs.Str.{bytes_eq}
+use Rattle.std.proofs.Common.{◌≡◌, ◌≢◌, ◌∙◌, ℕ, zero, suc, ◌<◌, ◌≤◌, ◌-◌, Bool, true, false, List, [], ◌∷◌, length, take, drop, refl, subst, sym, arith}
+use Rattle.std.specs.Prelude.{⊤, MatchBool, ◌==◌, if◌then◌else◌, Option, Some, None, option_map, Result, Ok, Err, IfOk, codes}
+use Rattle.std.specs.Str.{IsAscii, IsNotAscii, IsUtf8, bytes_eq}
 use Rattle.std.proofs.lemmas.Bool.{false≢true}
 use Rattle.std.proofs.lemmas.List.{take_all}
 use Rattle.std.proofs.lemmas.Slice.Eq.{bytes_eq-Decides}
+use Rattle.std.proofs.lemmas.Str.{IsUtf8-from_ascii}
 use Rattle.dns_name.specs.Names.{Labels}
 use Rattle.dns_wire.specs.Encoders.{Rule}
 use Rattle.dns_code.specs.Flags.{flags_read}
@@ -24,22 +25,41 @@ use Rattle.dns_script.specs.declared.script.Call.TheVariants.{ToAdditional, SetH
 use Rattle.dns_script.specs.declared.script.Stage.{Stage}
 use Rattle.dns_script.specs.declared.script.Stage.TheVariants as stages
 use Rattle.dnsmsg_tool.specs.Lines.{AreQuestionWords, IsNumberChange}
-use Rattle.dnsmsg_tool.specs.ScriptCalls.{AppliesAny, AreCallWords, AreLineWords, AreOptWords, ArePushWords, IsNumberCall, IsShortCall, IsCallWord, place_of}
+use Rattle.dnsmsg_tool.specs.ScriptCalls.{AppliesAny, AreCallWords, AreLineWords, AreOptWords, ArePushWords, IsNumberCall, IsShortCall, IsCallWord, ReadsLine, stage_kind}
 use Rattle.dnsmsg_tool.specs.ScriptOptions.{ArePlanWords}
 use Rattle.dnsmsg_tool.specs.ScriptRecords.{AreRecordWords}
-use Rattle.dnsmsg_tool.specs.ScriptWords.{LineWords, IsNumberUpTo, ReadsValue, spaced_words}
+use Rattle.dnsmsg_tool.specs.ScriptWords.{LineWords, IsNumberUpTo, ReadsValue, spaced_words, texts, without_tabs, words_of}
 use Rattle.dnsmsg_tool.specs.declared.line.Change.{Change}
 use Rattle.dnsmsg_tool.specs.declared.line.Change.TheVariants as changes
 use Rattle.dnsmsg_tool.specs.declared.script_data.ScriptData.{ScriptData}
 use Rattle.dnsmsg_tool.proofs.EachLemmas.{word_at}
 
--- A stage's builder is where the state that it represents is.
-pub place_is : {T : Type 0} (rule : Rule) (s : State) (stage : Stage T) → StageRepresents rule s stage → place_of stage ≡ s.stage
-place_is rule s (stages.Builder b) is = sym is.here
-place_is rule s (stages.Question b) is = sym is.here
-place_is rule s (stages.Answer b) is = sym is.here
-place_is rule s (stages.Authority b) is = sym is.here
-place_is rule s (stages.Additional b) is = sym is.here
+-- A stage is that of the state that it represents.
+pub stage_kind_is : {T : Type 0} (rule : Rule) (s : State) (stage : Stage T) → StageRepresents rule s stage → stage_kind stage ≡ s.stage
+stage_kind_is rule s (stages.Builder b) is = sym is.here
+stage_kind_is rule s (stages.Question b) is = sym is.here
+stage_kind_is rule s (stages.Answer b) is = sym is.here
+stage_kind_is rule s (stages.Authority b) is = sym is.here
+stage_kind_is rule s (stages.Additional b) is = sym is.here
+
+-- An ASCII line is ASCII with a space for each tab.
+ascii_or_space : (c : ℕ) (b : Bool) → c < 128 → (if b then 32 else c) < 128
+ascii_or_space c true low = omega arith
+ascii_or_space c false low = low
+
+ascii_without_tabs : (line : List ℕ) → IsAscii line → IsAscii (without_tabs line)
+ascii_without_tabs [] low i = omega arith
+ascii_without_tabs (c ∷ line) low zero = ascii_or_space c (c == 9) (low 0)
+ascii_without_tabs (c ∷ line) low (suc i) = ascii_without_tabs line (λ k. low (suc k)) i
+
+-- A line isn't ASCII and not ASCII.
+pub not_both : (b : Bool) (line : List ℕ) → MatchBool b (IsAscii line) (IsNotAscii line) → b ≡ false → ¬ (IsAscii line)
+not_both true line cases e ascii = cc e
+not_both false line cases e ascii = let low = ascii cases.0 in omega (arith, low, cases.1)
+
+-- Such a line is UTF-8.
+pub utf8_without_tabs : (line text : List ℕ) → text ≡ without_tabs line → IsAscii line → IsUtf8 text
+utf8_without_tabs line text same ascii = IsUtf8-from_ascii text (subst IsAscii (sym same) (ascii_without_tabs line ascii))
 
 -- A verb is only one of two words that differ.
 differ : (verb a b : List ℕ) → bytes_eq a b ≡ false → verb ≡ a → verb ≡ b → ⊥
@@ -59,6 +79,7 @@ module _ {Q R : Type 0} (header : HeaderFields) (verb : List ℕ) where
   no_number_call digits other none call (IsNumberCall.limit n e is same) = other e
   no_number_call digits other none call (IsNumberCall.field change is applies) = none change is
 
+  -- What a verb reads with a number after it, if it is no limit.
   pub number_reads : (digits : List ℕ) → verb ≢ codes "limit" → (change : Option Change) (result : Option (Call Q R)) → ReadsValue (λ change. change) (IsNumberChange verb digits) change
       → AppliesAny header change result → ReadsValue (λ call. call) (IsNumberCall header verb digits) result
   number_reads digits other (Some change) (Some call) is applies = IsNumberCall.field change is applies
@@ -66,12 +87,13 @@ module _ {Q R : Type 0} (header : HeaderFields) (verb : List ℕ) where
   number_reads digits other (Some change) None is applies = absurd applies
   number_reads digits other None (Some call) none applies = absurd applies
 
-  -- A call without arguments, and one with a number.
+  -- What a verb without arguments reads.
   pub word_reads : (words : LineWords) (result : Option (Call Q R)) → length words < 1 → ReadsValue (λ call. call) (IsCallWord verb) result
       → ReadsValue (λ call. call) (IsShortCall header verb words) result
   word_reads [] result few reads = reads
   word_reads (w ∷ words) result few reads = absurd (omega arith)
 
+  -- The same of words, of which the second is the number.
   pub digits_read : (words : LineWords) (result : Option (Call Q R)) → 1 ≤ length words → length words < 2 → ReadsValue (λ call. call) (IsNumberCall header verb (word_at words 0)) result
       → ReadsValue (λ call. call) (IsShortCall header verb words) result
   digits_read [] result least most reads = absurd (omega arith)
@@ -125,13 +147,13 @@ no_opt words none (PushOpt plan) is = none plan is
 no_opt words none (SetHeader new) is = is
 no_opt words none (SetLimit n) is = is
 
--- a place at which records are pushed
-abbrev pub IsRecordPlace : state.Stage → Type 0
-IsRecordPlace InBuilder = ⊥
-IsRecordPlace InQuestion = ⊥
-IsRecordPlace InAnswer = ⊤
-IsRecordPlace InAuthority = ⊤
-IsRecordPlace InAdditional = ⊤
+-- a stage at which records are pushed
+abbrev pub IsRecordStage : state.Stage → Type 0
+IsRecordStage InBuilder = ⊥
+IsRecordStage InQuestion = ⊥
+IsRecordStage InAnswer = ⊤
+IsRecordStage InAuthority = ⊤
+IsRecordStage InAdditional = ⊤
 
 module _ {N : Type 0} (labels : N → Labels) where
   -- Before the sections, no item is pushed.
@@ -150,13 +172,14 @@ module _ {N : Type 0} (labels : N → Labels) where
   none_before words (SetHeader new) is = is
   none_before words (SetLimit n) is = is
 
-  pub no_push_before : (place : state.Stage) (words : LineWords) → place ≡ InBuilder → (call : Call (Question N) (Record N ScriptData)) → ¬ (ArePushWords labels place words call)
-  no_push_before place words here call is = none_before words call (subst (λ (p : state.Stage). ArePushWords labels p words call) here is)
+  -- The same, by the kind of the stage.
+  pub no_push_before : (kind : state.Stage) (words : LineWords) → kind ≡ InBuilder → (call : Call (Question N) (Record N ScriptData)) → ¬ (ArePushWords labels kind words call)
+  no_push_before kind words here call is = none_before words call (subst (λ (p : state.Stage). ArePushWords labels p words call) here is)
 
   -- At the question section, a push is that of a question.
-  pub push_question : (place : state.Stage) (words : LineWords) (question : Question N) → place ≡ InQuestion → AreQuestionWords words (question_item labels question)
-      → ArePushWords labels place words (PushQuestion question)
-  push_question place words question here is = subst (λ (p : state.Stage). ArePushWords labels p words (PushQuestion question)) (sym here) is
+  pub push_question : (kind : state.Stage) (words : LineWords) (question : Question N) → kind ≡ InQuestion → AreQuestionWords words (question_item labels question)
+      → ArePushWords labels kind words (PushQuestion question)
+  push_question kind words question here is = subst (λ (p : state.Stage). ArePushWords labels p words (PushQuestion question)) (sym here) is
 
   none_asked : (words : LineWords) → ((question : QuestionItem) → ¬ (AreQuestionWords words question)) → (call : Call (Question N) (Record N ScriptData))
       → ¬ (ArePushWords labels InQuestion words call)
@@ -174,13 +197,14 @@ module _ {N : Type 0} (labels : N → Labels) where
   none_asked words none (SetHeader new) is = is
   none_asked words none (SetLimit n) is = is
 
-  pub no_push_question : (place : state.Stage) (words : LineWords) → place ≡ InQuestion → ((question : QuestionItem) → ¬ (AreQuestionWords words question))
+  -- Words that are no question push none.
+  pub no_push_question : (kind : state.Stage) (words : LineWords) → kind ≡ InQuestion → ((question : QuestionItem) → ¬ (AreQuestionWords words question))
       → (call : Call (Question N) (Record N ScriptData))
-      → ¬ (ArePushWords labels place words call)
-  no_push_question place words here none call is = none_asked words none call (subst (λ (p : state.Stage). ArePushWords labels p words call) here is)
+      → ¬ (ArePushWords labels kind words call)
+  no_push_question kind words here none call is = none_asked words none call (subst (λ (p : state.Stage). ArePushWords labels p words call) here is)
 
   -- At a record section, a push is that of a record.
-  pub push_record : (place : state.Stage) (words : LineWords) (r : Record N ScriptData) → IsRecordPlace place → AreRecordWords labels words r → ArePushWords labels place words (PushRecord r)
+  pub push_record : (kind : state.Stage) (words : LineWords) (r : Record N ScriptData) → IsRecordStage kind → AreRecordWords labels words r → ArePushWords labels kind words (PushRecord r)
   push_record InBuilder words r here is = absurd here
   push_record InQuestion words r here is = absurd here
   push_record InAnswer words r here is = is
@@ -202,8 +226,9 @@ module _ {N : Type 0} (labels : N → Labels) where
   no_push_at words none (SetHeader new) is = is
   no_push_at words none (SetLimit n) is = is
 
-  pub no_push_record : (place : state.Stage) (words : LineWords) → IsRecordPlace place → ((r : Record N ScriptData) → ¬ (AreRecordWords labels words r))
-      → (call : Call (Question N) (Record N ScriptData)) → ¬ (ArePushWords labels place words call)
+  -- Words that are no record push none.
+  pub no_push_record : (kind : state.Stage) (words : LineWords) → IsRecordStage kind → ((r : Record N ScriptData) → ¬ (AreRecordWords labels words r))
+      → (call : Call (Question N) (Record N ScriptData)) → ¬ (ArePushWords labels kind words call)
   no_push_record InBuilder words here none call is = absurd here
   no_push_record InQuestion words here none call is = absurd here
   no_push_record InAnswer words here none call is = no_push_at words none call is
@@ -234,24 +259,24 @@ module _ {N : Type 0} (labels : N → Labels) where
   no_push_record InAdditional words here none (SetHeader new) is = is
   no_push_record InAdditional words here none (SetLimit n) is = is
 
-  module _ (place : state.Stage) (header : HeaderFields) (verb : List ℕ) (words : LineWords) where
+  module _ (kind : state.Stage) (header : HeaderFields) (verb : List ℕ) (words : LineWords) where
     abbrev Requests : Call (Question N) (Record N ScriptData) → Type 0
-    Requests call = AreCallWords labels place header verb words call
+    Requests call = AreCallWords labels kind header verb words call
 
-    no_push : verb ≡ codes "push" → ((call : Call (Question N) (Record N ScriptData)) → ¬ (ArePushWords labels place words call)) → (call : Call (Question N) (Record N ScriptData)) → ¬ (Requests call)
+    no_push : verb ≡ codes "push" → ((call : Call (Question N) (Record N ScriptData)) → ¬ (ArePushWords labels kind words call)) → (call : Call (Question N) (Record N ScriptData)) → ¬ (Requests call)
     no_push e none call (AreCallWords.push f is) = none call is
     no_push e none call (AreCallWords.opt f is) = differ verb (codes "push") (codes "opt") refl e f
     no_push e none call (AreCallWords.flags f is) = differ verb (codes "push") (codes "flags") refl e f
     no_push e none call (AreCallWords.short is) = short_differs header verb (codes "push") refl refl refl refl refl refl refl refl refl refl refl refl e words call is
 
-    push_here : {E : Type 0} (result : Result (Option (Call (Question N) (Record N ScriptData))) E) → verb ≡ codes "push" → IfOk result (ReadsValue (λ call. call) (ArePushWords labels place words))
+    push_here : {E : Type 0} (result : Result (Option (Call (Question N) (Record N ScriptData))) E) → verb ≡ codes "push" → IfOk result (ReadsValue (λ call. call) (ArePushWords labels kind words))
         → IfOk result (ReadsValue (λ call. call) Requests)
     push_here (Ok (Some call)) e is = AreCallWords.push e is
     push_here (Ok None) e none = no_push e none
     push_here (Err error) e reads = reads
 
     -- What `push` reads.
-    pub push_reads : {E : Type 0} (from : state.Stage) → from ≡ place → (result : Result (Option (Call (Question N) (Record N ScriptData))) E) → verb ≡ codes "push"
+    pub push_reads : {E : Type 0} (from : state.Stage) → from ≡ kind → (result : Result (Option (Call (Question N) (Record N ScriptData))) E) → verb ≡ codes "push"
         → IfOk result (ReadsValue (λ call. call) (ArePushWords labels from words)) → IfOk result (ReadsValue (λ call. call) Requests)
     push_reads from here result e reads = push_here result e (subst (λ (p : state.Stage). IfOk result (ReadsValue (λ call. call) (ArePushWords labels p words))) here reads)
 
@@ -294,15 +319,21 @@ module _ {N : Type 0} (labels : N → Labels) where
     short_reads None a b d none = no_other a b d none
 
   -- A verb and the words after it, as a line.
-  pub line_reads : {E : Type 0} (place : state.Stage) (header : HeaderFields) (words : LineWords) (result : Result (Option (Call (Question N) (Record N ScriptData))) E) → 1 ≤ length words
-      → IfOk result (ReadsValue (λ call. call) (AreCallWords labels place header (word_at words 0) (take (length words - 1) (drop 1 words))))
-      → IfOk result (ReadsValue (λ call. call) (AreLineWords labels place header words))
-  line_reads place header [] result least reads = absurd (omega arith)
-  line_reads place header (verb ∷ words) result least reads =
-      subst (λ (ws : LineWords). IfOk result (ReadsValue (λ call. call) (AreCallWords labels place header verb.now ws))) (take_all (length (verb ∷ words) - 1) words (omega arith)) reads
+  pub line_reads : {E : Type 0} (kind : state.Stage) (header : HeaderFields) (words : LineWords) (result : Result (Option (Call (Question N) (Record N ScriptData))) E) → 1 ≤ length words
+      → IfOk result (ReadsValue (λ call. call) (AreCallWords labels kind header (word_at words 0) (take (length words - 1) (drop 1 words))))
+      → IfOk result (ReadsValue (λ call. call) (AreLineWords labels kind header words))
+  line_reads kind header [] result least reads = absurd (omega arith)
+  line_reads kind header (verb ∷ words) result least reads =
+      subst (λ (ws : LineWords). IfOk result (ReadsValue (λ call. call) (AreCallWords labels kind header verb.now ws))) (take_all (length (verb ∷ words) - 1) words (omega arith)) reads
+
+  -- A line is read as its words are.
+  pub line_result : {E : Type 0} (kind : state.Stage) (header : HeaderFields) (line : List ℕ) (words : LineWords) (result : Result (Option (Call (Question N) (Record N ScriptData))) E)
+      → texts words ≡ words_of (without_tabs line) → IfOk result (ReadsValue (λ call. call) (AreLineWords labels kind header words)) → IfOk result (ReadsLine labels kind header line)
+  line_result kind header line words (Ok found) same reads = (words, same, reads)
+  line_result kind header line words (Err error) same reads = reads
 
   -- No words are no call.
-  pub no_line : (place : state.Stage) (header : HeaderFields) (words : LineWords) → length words < 1 → (call : Call (Question N) (Record N ScriptData))
-      → ¬ (AreLineWords labels place header words call)
-  no_line place header [] few call is = is
-  no_line place header (verb ∷ words) few call is = absurd (omega arith)
+  pub no_line : (kind : state.Stage) (header : HeaderFields) (words : LineWords) → length words < 1 → (call : Call (Question N) (Record N ScriptData))
+      → ¬ (AreLineWords labels kind header words call)
+  no_line kind header [] few call is = is
+  no_line kind header (verb ∷ words) few call is = absurd (omega arith)

@@ -17,18 +17,18 @@ use Rattle.dns_script.specs.declared.script.Stage.TheVariants as stages
 use Rattle.dnsmsg_tool.specs.Lines.{AreQuestionWords, IsNumberChange, changed}
 use Rattle.dnsmsg_tool.specs.ScriptOptions.{ArePlanWords}
 use Rattle.dnsmsg_tool.specs.ScriptRecords.{AreRecordWords}
-use Rattle.dnsmsg_tool.specs.ScriptWords.{LineWords, IsNumberUpTo, spaced_words}
+use Rattle.dnsmsg_tool.specs.ScriptWords.{LineWords, IsNumberUpTo, ReadsValue, spaced_words, texts, without_tabs, words_of}
 use Rattle.dnsmsg_tool.specs.declared.line.Change.{Change}
 use Rattle.dnsmsg_tool.specs.declared.line.Change.TheVariants as changes
 use Rattle.dnsmsg_tool.specs.declared.script_data.ScriptData.{ScriptData}
 
--- where the builder of a stage is
-abbrev pub place_of : {T : Type 0} → Stage T → state.Stage
-place_of (stages.Builder b) = InBuilder
-place_of (stages.Question b) = InQuestion
-place_of (stages.Answer b) = InAnswer
-place_of (stages.Authority b) = InAuthority
-place_of (stages.Additional b) = InAdditional
+-- which stage a builder is at
+abbrev pub stage_kind : {T : Type 0} → Stage T → state.Stage
+stage_kind (stages.Builder b) = InBuilder
+stage_kind (stages.Question b) = InQuestion
+stage_kind (stages.Answer b) = InAnswer
+stage_kind (stages.Authority b) = InAuthority
+stage_kind (stages.Additional b) = InAdditional
 
 module _ {Q R : Type 0} where
   -- the word of a call that has no argument
@@ -75,22 +75,26 @@ module _ {Q R : Type 0} where
   AreOptWords words call = ⊥
 
 module _ {N : Type 0} (labels : N → Labels) where
-  -- the push of an item that the section at this place takes: a question, or a record
+  -- the push of an item that a stage takes: a question, or a record
   abbrev pub ArePushWords : state.Stage → LineWords → Call (Question N) (Record N ScriptData) → Type 0
   ArePushWords InQuestion words (PushQuestion question) = AreQuestionWords words (question_item labels question)
   ArePushWords InAnswer words (PushRecord r) = AreRecordWords labels words r
   ArePushWords InAuthority words (PushRecord r) = AreRecordWords labels words r
   ArePushWords InAdditional words (PushRecord r) = AreRecordWords labels words r
-  ArePushWords place words call = ⊥
+  ArePushWords kind words call = ⊥
 
   -- the call that a verb and the words after it request
-  pub data AreCallWords (place : state.Stage) (header : HeaderFields) (verb : List ℕ) (words : LineWords) (call : Call (Question N) (Record N ScriptData)) : Type 0 where
-    push : verb ≡ codes "push" → ArePushWords place words call → AreCallWords place header verb words call
-    opt : verb ≡ codes "opt" → AreOptWords words call → AreCallWords place header verb words call
-    flags : verb ≡ codes "flags" → AreFlagsWords header words call → AreCallWords place header verb words call
-    short : IsShortCall header verb words call → AreCallWords place header verb words call
+  pub data AreCallWords (kind : state.Stage) (header : HeaderFields) (verb : List ℕ) (words : LineWords) (call : Call (Question N) (Record N ScriptData)) : Type 0 where
+    push : verb ≡ codes "push" → ArePushWords kind words call → AreCallWords kind header verb words call
+    opt : verb ≡ codes "opt" → AreOptWords words call → AreCallWords kind header verb words call
+    flags : verb ≡ codes "flags" → AreFlagsWords header words call → AreCallWords kind header verb words call
+    short : IsShortCall header verb words call → AreCallWords kind header verb words call
 
   -- the call that the words of a line request
   abbrev pub AreLineWords : state.Stage → HeaderFields → LineWords → Call (Question N) (Record N ScriptData) → Type 0
-  AreLineWords place header [] call = ⊥
-  AreLineWords place header (verb ∷ words) call = AreCallWords place header verb.now words call
+  AreLineWords kind header [] call = ⊥
+  AreLineWords kind header (verb ∷ words) call = AreCallWords kind header verb.now words call
+
+  -- The words of a line are those that blanks separate. What is found is the call that they request, if there is one.
+  abbrev pub ReadsLine : state.Stage → HeaderFields → List ℕ → Option (Call (Question N) (Record N ScriptData)) → Type 0
+  ReadsLine kind header line found = (words : LineWords) × (texts words ≡ words_of (without_tabs line)) × ReadsValue (λ call. call) (AreLineWords kind header words) found

@@ -8,7 +8,7 @@ ghost use Rattle.dns_item.specs.Question.{question_item};
 ghost use Rattle.dns_build.specs.State.{State};
 ghost use Rattle.dns_script.specs.Script.{StageRepresents};
 ghost use Rattle.dnsmsg_tool.specs.Lines.{AreQuestionWords, IsNumberChange, IsSkippedLine, changed};
-ghost use Rattle.dnsmsg_tool.specs.ScriptCalls.{AppliesAny, AreCallWords, AreLineWords, ArePushWords, IsCallWord, IsNumberCall, IsShortCall, place_of};
+ghost use Rattle.dnsmsg_tool.specs.ScriptCalls.{AppliesAny, AreCallWords, AreLineWords, ArePushWords, IsCallWord, IsNumberCall, IsShortCall, ReadsLine, stage_kind};
 ghost use Rattle.dnsmsg_tool.specs.ScriptWords.{spaced_words, without_tabs, ReadsValue};
 
 use crate::record_line::ScriptRecord;
@@ -67,7 +67,9 @@ pub(crate) fn call_of<T: Composer>(
     stage: &Stage<T>,
     line: &[u8],
 ) -> Result<Option<ScriptCall>, AllocError>
-    ensures { IfOk result (λ call. IsSome call → IsAscii line.now) }
+    ensures ascii { IfOk result (λ call. IsSome call → IsAscii line.now) }
+    ensures reads { (s : State) → StageRepresents T.rule s stage.now → IsAscii line.now →
+        IfOk result (ReadsLine name_labels s.stage s.header line.now) }
 {
     if !line.is_ascii() {
         return Ok(None);
@@ -212,7 +214,7 @@ fn push_of<T: Composer>(
     words: &[&str],
 ) -> Result<Option<ScriptCall>, AllocError>
     ensures { IfOk result (ReadsValue (λ call. call)
-        (ArePushWords name_labels (place_of stage.now) words.now)) }
+        (ArePushWords name_labels (stage_kind stage.now) words.now)) }
 {
     match stage {
         Stage::Builder(_) => Ok(None),

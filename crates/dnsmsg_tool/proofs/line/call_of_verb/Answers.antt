@@ -1,11 +1,11 @@
 use Rattle.dns_name.specs.NameReading.{name_labels}
-use Rattle.dnsmsg_tool.specs.ScriptCalls.{AreCallWords, place_of}
-use Rattle.dnsmsg_tool.proofs.CallLemmas.{flags_reads, no_opt_call, place_is, push_reads, short_reads}
+use Rattle.dnsmsg_tool.specs.ScriptCalls.{AreCallWords, stage_kind}
+use Rattle.dnsmsg_tool.proofs.CallLemmas.{flags_reads, no_opt_call, stage_kind_is, push_reads, short_reads}
 use Rattle.dnsmsg_tool.proofs.line.call_of_verb.Goals as goal
 
 pub returns-in-push : goal.returns-in-push
 returns-in-push g c = λ s is.
-    push_reads name_labels s.stage s.header c.args.verb.now c.args.words.now (place_of c.args.stage.now) (place_is g.T.Composer.rule s c.args.stage.now is)
+    push_reads name_labels s.stage s.header c.args.verb.now c.args.words.now (stage_kind c.args.stage.now) (stage_kind_is g.T.Composer.rule s c.args.stage.now is)
     c.push_of.result c.in-push.is c.push_of.ensures
 
 pub returns-in-Some : goal.returns-in-Some
