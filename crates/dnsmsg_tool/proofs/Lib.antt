@@ -1,3 +1,4 @@
+mod CallLemmas
 mod EachLemmas
 mod LineLemmas
 mod OptionLemmas

@@ -156,12 +156,13 @@ first_marked [] least e = absurd (omega arith)
 first_marked (mark ∷ []) least e = absurd (omega arith)
 first_marked (mark ∷ size ∷ digits) least e = e
 
--- Fewer words, and words after another first one, have no mark.
+-- Fewer words have no mark.
 pub few_unmarked : (words : LineWords) → length words < 2 → ¬ (AreMarked words)
 few_unmarked [] few are = are
 few_unmarked (mark ∷ []) few are = are
 few_unmarked (mark ∷ size ∷ digits) few are = absurd (omega arith)
 
+-- Words after another first one have no mark.
 pub other_unmarked : (words : LineWords) → word_at words 0 ≢ codes "\\#" → ¬ (AreMarked words)
 other_unmarked [] other are = are
 other_unmarked (mark ∷ []) other are = are
@@ -198,10 +199,11 @@ no_opaque rtype words mark none (Known value) is = is.0 mark
 no_opaque rtype words mark none (Opaque unknown) is = none (unknown_octets unknown) is.1
 
 module _ {N : Type 0} (labels : N → Labels) (owner_word ttl_word class_word rtype_word : List ℕ) (words : LineWords) where
-  -- A word that is no class, and one that is no type.
+  -- A word that is no class.
   pub no_class : {E : Type 0} (e : E) → ReadsNumber (SpellsClass class_word) (Err e) → (r : Record N ScriptData) → ¬ (AreRecordFields labels owner_word ttl_word class_word rtype_word words r)
   no_class e reads r is = let other = (reads (class_of r)).0 is.class in cc other
 
+  -- A word that is no type.
   pub no_rtype : {E : Type 0} (e : E) → ReadsNumber (SpellsType rtype_word) (Err e) → (r : Record N ScriptData) → ¬ (AreRecordFields labels owner_word ttl_word class_word rtype_word words r)
   no_rtype e reads r is = let other = (reads (script_rtype_of (data_of r))).0 is.rtype in cc other
 

@@ -5,8 +5,10 @@ ghost use Rattle.dns_name.specs.NameReading.{name_labels};
 ghost use Rattle.dns_code.specs.Flags.{flags_read};
 ghost use Rattle.dns_code.specs.Header.{fields};
 ghost use Rattle.dns_item.specs.Question.{question_item};
+ghost use Rattle.dns_build.specs.State.{State};
+ghost use Rattle.dns_script.specs.Script.{StageRepresents};
 ghost use Rattle.dnsmsg_tool.specs.Lines.{AreQuestionWords, IsNumberChange, IsSkippedLine, changed};
-ghost use Rattle.dnsmsg_tool.specs.ScriptCalls.{IsCallWord};
+ghost use Rattle.dnsmsg_tool.specs.ScriptCalls.{AppliesAny, AreCallWords, AreLineWords, ArePushWords, IsCallWord, IsNumberCall, IsShortCall, ReadsLine, stage_kind};
 ghost use Rattle.dnsmsg_tool.specs.ScriptWords.{spaced_words, without_tabs, ReadsValue};
 
 use crate::record_line::ScriptRecord;
@@ -65,7 +67,9 @@ pub(crate) fn call_of<T: Composer>(
     stage: &Stage<T>,
     line: &[u8],
 ) -> Result<Option<ScriptCall>, AllocError>
-    ensures { IfOk result (λ call. IsSome call → IsAscii line.now) }
+    ensures ascii { IfOk result (λ call. IsSome call → IsAscii line.now) }
+    ensures reads { (s : State) → StageRepresents T.rule s stage.now → IsAscii line.now →
+        IfOk result (ReadsLine name_labels s.stage s.header line.now) }
 {
     if !line.is_ascii() {
         return Ok(None);
@@ -91,25 +95,60 @@ fn call_of_words<T: Composer>(
     alloc: Global,
     stage: &Stage<T>,
     words: &[&str],
-) -> Result<Option<ScriptCall>, AllocError> {
+) -> Result<Option<ScriptCall>, AllocError>
+    ensures { (s : State) → StageRepresents T.rule s stage.now → IfOk result
+        (ReadsValue (λ call. call) (AreLineWords name_labels s.stage s.header words.now)) }
+{
     let [verb, words @ ..] = words else {
         return Ok(None);
     };
-    match *verb {
+    call_of_verb(alloc, stage, verb, words)
+}
+
+fn call_of_verb<T: Composer>(
+    alloc: Global,
+    stage: &Stage<T>,
+    verb: &str,
+    words: &[&str],
+) -> Result<Option<ScriptCall>, AllocError>
+    ensures { (s : State) → StageRepresents T.rule s stage.now → IfOk result
+        (ReadsValue (λ call. call)
+        (AreCallWords name_labels s.stage s.header verb.now words.now)) }
+{
+    match verb {
         "push" => push_of(alloc, stage, words),
-        "opt" => Ok(opt_line::plan(alloc, words)?.map(Call::PushOpt)),
+        "opt" => match opt_line::plan(alloc, words)? {
+            Some(plan) => Ok(Some(Call::PushOpt(plan))),
+            None => Ok(None),
+        },
         "flags" => Ok(header_call(stage, flags_change(alloc, words)?)),
         _ => Ok(short_call(stage, verb, words)),
     }
 }
 
 /// The call that a word requests alone, or with a number after it.
-fn short_call<T: Composer>(stage: &Stage<T>, verb: &str, words: &[&str]) -> Option<ScriptCall> {
+fn short_call<T: Composer>(stage: &Stage<T>, verb: &str, words: &[&str]) -> Option<ScriptCall>
+    ensures { (s : State) → StageRepresents T.rule s stage.now →
+        ReadsValue (λ call. call) (IsShortCall s.header verb.now words.now) result }
+{
     match words {
         [] => call_of_word(verb),
-        [digits] if verb == "limit" => number(digits, usize::MAX).map(Call::SetLimit),
-        [digits] => header_call(stage, number_change(verb, digits)),
+        [digits] => number_call(stage, verb, digits),
         _ => None,
+    }
+}
+
+/// The call that a word requests with a number after it.
+fn number_call<T: Composer>(stage: &Stage<T>, verb: &str, digits: &str) -> Option<ScriptCall>
+    ensures { (s : State) → StageRepresents T.rule s stage.now →
+        ReadsValue (λ call. call) (IsNumberCall s.header verb.now digits.now) result }
+{
+    match verb {
+        "limit" => {
+            let limit = number(digits, usize::MAX)?;
+            Some(Call::SetLimit(limit))
+        }
+        _ => header_call(stage, number_change(verb, digits)),
     }
 }
 
@@ -131,8 +170,11 @@ fn call_of_word(word: &str) -> Option<ScriptCall>
 }
 
 /// The call that applies a change to the header of this stage.
-fn header_call<T: Composer>(stage: &Stage<T>, change: Option<Change>) -> Option<ScriptCall> {
-    Some(Call::SetHeader(change?.made_to(stage.header())))
+fn header_call<T: Composer>(stage: &Stage<T>, change: Option<Change>) -> Option<ScriptCall>
+    ensures { (s : State) → StageRepresents T.rule s stage.now → AppliesAny s.header change result }
+{
+    let change = change?;
+    Some(Call::SetHeader(change.made_to(stage.header())))
 }
 
 /// The change to the flags with these names.
@@ -170,12 +212,21 @@ fn push_of<T: Composer>(
     alloc: Global,
     stage: &Stage<T>,
     words: &[&str],
-) -> Result<Option<ScriptCall>, AllocError> {
+) -> Result<Option<ScriptCall>, AllocError>
+    ensures { IfOk result (ReadsValue (λ call. call)
+        (ArePushWords name_labels (stage_kind stage.now) words.now)) }
+{
     match stage {
         Stage::Builder(_) => Ok(None),
-        Stage::Question(_) => Ok(question(alloc, words)?.map(Call::PushQuestion)),
+        Stage::Question(_) => match question(alloc, words)? {
+            Some(question) => Ok(Some(Call::PushQuestion(question))),
+            None => Ok(None),
+        },
         Stage::Answer(_) | Stage::Authority(_) | Stage::Additional(_) => {
-            Ok(record_line::record(alloc, words)?.map(Call::PushRecord))
+            match record_line::record(alloc, words)? {
+                Some(record) => Ok(Some(Call::PushRecord(record))),
+                None => Ok(None),
+            }
         }
     }
 }

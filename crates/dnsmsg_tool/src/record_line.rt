@@ -90,7 +90,8 @@ fn fields(
     rtype: Rtype,
     words: &[&str],
 ) -> Result<Option<KnownData<Name<Vec<u8>>>>, AllocError>
-    ensures { IfOk result (ReadsValue (λ value. value) (AreFieldWords name_labels rtype words.now)) }
+    ensures { IfOk result (ReadsValue (λ value. value)
+        (AreFieldWords name_labels rtype words.now)) }
 {
     match rtype {
         Rtype::A => match only_address(alloc, words)? {
