@@ -15,9 +15,9 @@ ghost use Rattle.dns_edit.specs.declared.change.TtlChange.TheVariants.{Age, Cap}
 use crate::change::{TtlChange, has_ttl};
 use crate::entries::{check_questions, check_records};
 use crate::error::EditError;
-use crate::labels::POINTER_END;
 use crate::span::span_at;
-use dns_code::{HeaderCounts, Ttl};
+use dns_code::{HeaderCounts, HeaderSection, Ttl};
+use dns_name::Head;
 use dns_octets::{Octets, OctetsMut, ParseError};
 use dns_read::Message;
 
@@ -154,7 +154,7 @@ fn check(octets: &[u8]) -> Result<usize, EditError>
     if octets.len() <= SHORT {
         check_with(octets, &mut [false; SHORT])
     } else {
-        check_with(octets, &mut [false; POINTER_END])
+        check_with(octets, &mut [false; Head::POINTER_END])
     }
 }
 
@@ -165,7 +165,7 @@ fn check_with(octets: &[u8], marks: &mut [bool]) -> Result<usize, EditError>
     ensures accepts { IfOk result (AcceptsFrom octets.now) }
     ensures refuses { IfErr result (RefusesTtls octets.now) }
 {
-    let start = check_questions(octets, 12, questions_in(octets), marks)?;
+    let start = check_questions(octets, HeaderSection::LEN, questions_in(octets), marks)?;
     check_records(octets, start, record_count(octets), marks)?;
     Ok(start)
 }

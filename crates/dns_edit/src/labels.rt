@@ -6,9 +6,6 @@ ghost use Rattle.dns_edit.specs.Pointers.{AcceptsName, RefusesName};
 use crate::error::EditError;
 use dns_name::Head;
 
-/// The range of pointers.
-pub(crate) const POINTER_END: usize = 16_384;
-
 /// Marks offset `at`, if there is a mark for it.
 fn mark(marks: &mut [bool], at: usize)
     ensures { marks.new ≡ slice_set marks.old at true }

@@ -497,6 +497,7 @@ entry_at item (suc (suc (suc n))) is small question records =
     let r = records Additional (omega arith) in
     (Record (section_at item.section) r.0, (omega arith, omega arith, refl, r.1))
 
+-- If the items of each section can be converted, they are entries.
 pub all_entries : (items : List NewItem) → All (λ item. item.section ≤ 3) items → AreQuestions items → ((which : Section) → AreRecords which items) → (xs : List NewEntry) × AllMean items xs
 all_entries [] sections questions records = ([], tt)
 all_entries (item ∷ items) sections questions records =

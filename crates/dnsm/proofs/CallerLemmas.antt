@@ -42,5 +42,6 @@ module _ (out : List ℕ) (len status : ℕ) (none : len ≡ 0) where
 pub moved_octets : {old mid new : List ℕ} {len status : ℕ} → WritesOctets mid new len status → length mid ≡ length old → WritesOctets old new len status
 moved_octets w same = record { same_length = w.same_length ∙ same; within = w.within; empty = w.empty }
 
+-- the same of a text
 pub moved_text : {old mid new : List ℕ} {len status : ℕ} → WritesText mid new len status → length mid ≡ length old → WritesText old new len status
 moved_text w same = record { octets = moved_octets w.octets same; within = w.within }

@@ -3,10 +3,9 @@ use Rattle.std.proofs.Common.{◌≡◌, ℕ, zero, suc, ◌<◌, List, [], ◌�
 use Rattle.std.specs.Prelude.{IsTrue, Result, Err}
 use Rattle.std.specs.Str.{IsAscii, IsUtf8}
 use Rattle.std.proofs.lemmas.Bool.Decides.{nat_tests}
-use Rattle.std.proofs.lemmas.List.Elements.{All-nil}
 use Rattle.std.proofs.lemmas.Str.{IsUtf8-from_ascii}
 use Rattle.dns_octets.specs.declared.octets.Octets.{Ghosts}
-use Rattle.dns_name.specs.Names.{Labels, IsLabel, IsName}
+use Rattle.dns_name.specs.Names.{Labels}
 use Rattle.dns_name.specs.NameTexts.{dot, is_graphic, is_plain, is_digit, SpellsOctet, SpellsLabel, SpellsLabels, SpellsName}
 use Rattle.dns_name.specs.NameReading.{ReadsName}
 use Rattle.dns_name.specs.declared.name.Name.{Name}

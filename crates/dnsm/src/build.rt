@@ -18,7 +18,7 @@ use dns_build::{Builder, MessageBuilder, QuestionBuilder, RecordStage};
 use dns_code::{Header, Ttl};
 use dns_iana::{Class, Rtype};
 use dns_target::TreeCompressor;
-use dns_wire::Composer;
+use dns_wire::{Composer, MAX_OCTETS};
 use std::alloc::Global;
 
 /// The number of the question section.
@@ -26,9 +26,6 @@ const QUESTION: u8 = 0;
 
 /// The number of the additional section, the last one.
 const ADDITIONAL: u8 = 3;
-
-/// The most octets that RDATA can have.
-const MOST_DATA: usize = 65535;
 
 /// A question or a record to write.
 #[repr(C)]
@@ -83,7 +80,7 @@ fn record_of<'a>(item: &NewItem<'a>) -> Result<NewRecord<'a>, CallError>
     ensures none { IfErr result (λ fault. LacksFields item.now (number_of fault)) }
 {
     let name = name_of(item.name)?;
-    if item.rdata.len() > MOST_DATA {
+    if item.rdata.len() > MAX_OCTETS {
         return Err(CallError::LongData);
     }
     let fields = fields_of(item)?;

@@ -20,7 +20,7 @@ use crate::code::CallError;
 use crate::walk::parser_at;
 use arrayvec::ArrayVec;
 use dns_build::MessageBuilder;
-use dns_code::{Header, Ttl};
+use dns_code::{Header, HeaderSection, Ttl};
 use dns_data::A;
 use dns_iana::{Class, Opcode, Rcode, Rtype};
 use dns_item::Question;
@@ -100,7 +100,7 @@ fn first_question(query: &[u8]) -> Result<Question<ParsedName<'_>>, ParseError>
     ensures none { IfErr result (λ error.
         QuestionFaultAt query.now header_size (fault_of error)) }
 {
-    let mut parser = parser_at(query, 12)?;
+    let mut parser = parser_at(query, HeaderSection::LEN)?;
     Question::parse(&mut parser)
 }
 

@@ -11,6 +11,7 @@ use crate::code::CallError;
 use crate::data_name::data_end;
 use crate::sink::{End, START, append_octets};
 use crate::walk::Item;
+use dns_wire::MAX_OCTETS;
 
 /// The record type of OPT.
 const OPT_RTYPE: u16 = 41;
@@ -162,7 +163,7 @@ pub(crate) fn option(code: u16, data: &[u8], out: &mut [u8]) -> Result<End, Call
     ensures long { IfErr result (λ fault. (fault ≡ CallError.LongData)
         × (65535 < length «data».now)) }
 {
-    if data.len() > 65535 {
+    if data.len() > MAX_OCTETS {
         return Err(CallError::LongData);
     }
     Ok(append_option(code, data.len() as u16, data, out))

@@ -15,6 +15,7 @@ ghost use Rattle.dnsm.specs.Walk.{count_at};
 
 use crate::code;
 use crate::code::CallError;
+use dns_code::HeaderSection;
 use dns_item::{Question, RecordHeader};
 use dns_name::{ParsedName, Parser};
 use dns_octets::ParseError;
@@ -116,7 +117,7 @@ pub(crate) fn open(octets: &[u8], header: &mut Header, cursor: &mut Cursor) -> u
     };
     *header = header_of(&message);
     *cursor = Cursor {
-        place: 12,
+        place: HeaderSection::LEN,
         left: count_of(&message, 0),
         section: 0,
         status: 0,

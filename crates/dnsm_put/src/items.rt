@@ -1,6 +1,7 @@
 //! Checks items, and writes them at the end of a message (RFC 1035 sections 4.1.2 and 4.1.3).
 ghost use Rattle.std.specs.Prelude.{◌≡◌, ◌≢◌, ℕ, ◌+◌, ◌-◌, ◌<◌, ◌≤◌, ◌++◌, ◌^◌, ◌∷◌, [], length, take, min, IfSome, IsSome, IfErr, OnOk, OnErr};
 ghost use Rattle.std.specs.Int.{to_be_bytes, w16, w32};
+ghost use Rattle.dns_code.specs.HeaderSection.{header_size};
 ghost use Rattle.dns_name.specs.Uncompressed.{IsUncompressed};
 ghost use Rattle.dns_item.specs.Questions.{QuestionItem};
 ghost use Rattle.dns_item.specs.Items.{RecordItem};
@@ -11,17 +12,16 @@ ghost use Rattle.dnsm_put.specs.Refusals.{IsAcceptable, IsRefused};
 
 use crate::draft::{Draft, PutError, PutItem};
 use crate::names::{is_name, put_name};
-use crate::octets::{HEADER_LEN, put_octets};
+use crate::octets::put_octets;
 use crate::rdata::{has_fields, put_rdata};
+use dns_code::HeaderSection;
+use dns_wire::MAX_OCTETS;
 
 /// The number of the question section.
 const QUESTION: u8 = 0;
 
 /// The number of the additional section, the last one.
 const ADDITIONAL: u8 = 3;
-
-/// The maximum length of RDATA, in octets.
-const MOST_DATA: usize = 65_535;
 
 /// The offset that an item has to end at or before.
 #[inline(always)]
@@ -70,7 +70,7 @@ fn put_question(
 ) -> Option<usize>
     requires most { most ≤ length out.old }
     requires at { at ≤ most }
-    requires after_header { 12 ≤ at }
+    requires after_header { header_size ≤ at }
     requires name { IsUncompressed item.now.name.now }
     ensures holds { IfSome result (λ end. (x : QuestionItem) → IsQuestionOf item.now x
         → HoldsQuestion out.new at end x) }
@@ -96,7 +96,7 @@ fn put_record(
 ) -> Option<usize>
     requires most { most ≤ length out.old }
     requires at { at ≤ most }
-    requires after_header { 12 ≤ at }
+    requires after_header { header_size ≤ at }
     requires name { IsUncompressed item.now.name.now }
     requires short { length item.now.rdata.now ≤ 65535 }
     requires fields { HasFields (layout_of item.now) item.now.rdata.now }
@@ -129,7 +129,7 @@ fn put_item(
 ) -> Option<usize>
     requires most { most ≤ length out.old }
     requires at { at ≤ most }
-    requires after_header { 12 ≤ at }
+    requires after_header { header_size ≤ at }
     requires name { IsUncompressed item.now.name.now }
     requires short { item.now.section ≢ 0 → length item.now.rdata.now ≤ 65535 }
     requires fields { item.now.section ≢ 0
@@ -176,7 +176,7 @@ fn check(draft: &Draft, item: &PutItem<'_>) -> Result<(), PutError>
         return Err(PutError::BadName);
     }
     let is_record = item.section != QUESTION;
-    if is_record && item.rdata.len() > MOST_DATA {
+    if is_record && item.rdata.len() > MAX_OCTETS {
         return Err(PutError::LongData);
     }
     if is_record && !has_fields(item) {
@@ -210,7 +210,7 @@ pub(crate) fn append(draft: &mut Draft, out: &mut [u8], item: &PutItem<'_>) -> R
     }
     let most = most_of(draft, out.len());
     let at = draft.len;
-    if at < HEADER_LEN || at > most {
+    if at < HeaderSection::LEN || at > most {
         return Err(PutError::NoRoom);
     }
     let Some(end) = put_item(&mut draft.hints, out, at, most, item) else {

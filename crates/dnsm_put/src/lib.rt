@@ -29,8 +29,9 @@ ghost use Rattle.dnsm_put.specs.Drafts.{Adds, DraftsStay, IsDraftOf, header_of, 
 ghost use Rattle.dnsm_put.specs.Refusals.{IsAcceptable, IsRefused};
 ghost use Rattle.dnsm_put.specs.declared.draft.Draft.{Draft};
 
+use dns_code::HeaderSection;
 pub use draft::{Draft, PutError, PutItem};
-use octets::{HEADER_LEN, put_octets};
+use octets::put_octets;
 
 /// Begins a message without items, in a buffer of at least 12 octets. There is no limit, no octet is
 /// reserved, and no hint of an older draft is left. Writes nothing to the buffer.
@@ -44,10 +45,10 @@ pub fn begin(draft: &mut Draft, out: &[u8], id: u16, flags: u16) -> Result<(), P
         × (length out.now < header_size)) }
     ensures same { OnErr result (draft.new ≡ draft.old) }
 {
-    if out.len() < HEADER_LEN {
+    if out.len() < HeaderSection::LEN {
         return Err(PutError::NoRoom);
     }
-    draft.len = HEADER_LEN;
+    draft.len = HeaderSection::LEN;
     draft.limit = usize::MAX;
     draft.reserved = 0;
     draft.id = id;
@@ -79,7 +80,7 @@ pub fn put(draft: &mut Draft, out: &mut [u8], item: &PutItem<'_>) -> Result<(), 
 }
 
 /// The header section of a draft.
-fn header_section(draft: &Draft) -> [u8; 12]
+fn header_section(draft: &Draft) -> [u8; HeaderSection::LEN]
     ensures octets { result ≡ header_octets_of draft.now }
     ensures small { HasSmallCounts draft.now }
 {
@@ -108,9 +109,9 @@ pub fn finish(draft: &Draft, out: &mut [u8]) -> Result<usize, PutError>
     ensures length { length out.new ≡ length out.old }
     ensures stay { (d : Draft) (s : State) → IsDraftOf out.old d s → IsDraftOf out.new d s }
 {
-    if draft.len < HEADER_LEN || draft.len > out.len() {
+    if draft.len < HeaderSection::LEN || draft.len > out.len() {
         return Err(PutError::NoRoom);
     }
-    let _header = put_octets(out, 0, HEADER_LEN, &header_section(draft));
+    let _header = put_octets(out, 0, HeaderSection::LEN, &header_section(draft));
     Ok(draft.len)
 }

@@ -1,13 +1,15 @@
 //! Writes names, and compresses them by hints (RFC 1035 section 4.1.4).
 ghost use Rattle.std.specs.Prelude.{◌≡◌, ◌+◌, ◌<◌, ◌≤◌, length, take, get_or, true, false, IfSome, IsSome};
-ghost use Rattle.dns_name.specs.Names.{Labels, IsName, uncompressed};
+ghost use Rattle.dns_code.specs.HeaderSection.{header_size};
+ghost use Rattle.dns_name.specs.Names.{Labels, IsName, pointer_end, uncompressed};
 ghost use Rattle.dns_name.specs.Uncompressed.{IsUncompressed};
 ghost use Rattle.dns_wire.specs.Encoders.{pointer};
 ghost use Rattle.dns_wire.specs.TargetLaws.{NameAtWithin};
 ghost use Rattle.dnsm_put.specs.Writing.{IsNamed, LeadsTo};
 
-use crate::octets::{HEADER_LEN, put_octets, same};
-use dns_name::Name;
+use crate::octets::{put_octets, same};
+use dns_code::HeaderSection;
+use dns_name::{Head, Name};
 
 /// The number of hints.
 const HINTS: usize = 64;
@@ -20,9 +22,6 @@ const SPREAD: u32 = 0x9E37_79B1;
 
 /// How many labels and pointers of an earlier name are compared.
 const MOST_STEPS: usize = 64;
-
-/// A pointer leads to an offset below this one, since it has 14 bits (RFC 1035 section 4.1.4).
-const POINTER_END: usize = 16_384;
 
 /// Whether the octets are exactly one uncompressed name.
 pub(crate) fn is_name(octets: &[u8]) -> bool
@@ -39,12 +38,12 @@ pub(crate) fn is_name(octets: &[u8]) -> bool
 /// section. False also after 64 labels and pointers.
 fn leads_to(octets: &[u8], offset: usize, name: &[u8]) -> bool
     ensures { result ≡ true → (n : Labels) → IsName n → name.now ≡ uncompressed n
-        → NameAtWithin octets.now 12 (length octets.now) offset n }
+        → NameAtWithin octets.now header_size (length octets.now) offset n }
 {
     let mut at = offset;
     let mut i = 0;
     for _step in 0..MOST_STEPS {
-        if at < HEADER_LEN || at >= octets.len() || i >= name.len() {
+        if at < HeaderSection::LEN || at >= octets.len() || i >= name.len() {
             return false;
         }
         let n = octets[at];
@@ -82,11 +81,11 @@ fn leads_to(octets: &[u8], offset: usize, name: &[u8]) -> bool
 /// pointer. First tries the usual case, that the octets of `name` are there.
 #[inline(always)]
 fn is_at(octets: &[u8], offset: usize, name: &[u8]) -> bool
-    requires after_header { 12 ≤ offset }
+    requires after_header { header_size ≤ offset }
     requires within { offset < length octets.now }
     requires some { 0 < length name.now }
     ensures name { result ≡ true → (n : Labels) → IsName n → name.now ≡ uncompressed n
-        → NameAtWithin octets.now 12 (length octets.now) offset n }
+        → NameAtWithin octets.now header_size (length octets.now) offset n }
     ensures first { result ≡ true → get_or octets.now offset 0 ≡ get_or name.now 0 0 }
 {
     if octets[offset] != name[0] {
@@ -123,17 +122,17 @@ fn find(hints: &mut [u16; 64], before: &[u8], name: &[u8], own: usize) -> Option
         let slot = (first + k) % HINTS;
         let hint = hints[slot];
         let offset = usize::from(hint);
-        if offset < HEADER_LEN || offset >= own {
-            if own < POINTER_END {
+        if offset < HeaderSection::LEN || offset >= own {
+            if own < Head::POINTER_END {
                 hints[slot] = own as u16;
             }
             return None;
         }
-        if offset < before.len() && offset < POINTER_END && is_at(before, offset, name) {
+        if offset < before.len() && offset < Head::POINTER_END && is_at(before, offset, name) {
             return Some(hint);
         }
     }
-    if own < POINTER_END {
+    if own < Head::POINTER_END {
         hints[(first + own / 2 % TRIES) % HINTS] = own as u16;
     }
     None
@@ -141,7 +140,7 @@ fn find(hints: &mut [u16; 64], before: &[u8], name: &[u8], own: usize) -> Option
 
 /// A pointer to `offset`.
 fn pointer_to(offset: u16) -> [u8; 2]
-    requires { offset < POINTER_END }
+    requires { offset < pointer_end }
     ensures { result ≡ pointer offset }
 {
     [192 + (offset / 256) as u8, (offset % 256) as u8]
@@ -159,7 +158,7 @@ pub(crate) fn put_name(
 ) -> Option<usize>
     requires most { most ≤ length out.old }
     requires at { at ≤ most }
-    requires after_header { 12 ≤ at }
+    requires after_header { header_size ≤ at }
     requires top { top ≤ at }
     requires name { IsUncompressed name.now }
     ensures named { IfSome result (λ end. (n : Labels) → IsName n → name.now ≡ uncompressed n

@@ -2,9 +2,6 @@
 ghost use Rattle.std.specs.Prelude.{◌≡◌, ◌+◌, ◌≤◌, length, true, IsSome, IfSome, IfNone};
 ghost use Rattle.dnsm_put.specs.Writing.{IsPut};
 
-/// The length of the header section, in octets.
-pub(crate) const HEADER_LEN: usize = 12;
-
 /// Whether the octets are equal.
 #[inline(always)]
 pub(crate) fn same(a: &[u8], b: &[u8]) -> bool

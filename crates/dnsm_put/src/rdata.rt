@@ -1,5 +1,6 @@
 //! The RDATA of record types of RFC 1035 that have names in it (sections 3.3.1 to 3.3.14).
 ghost use Rattle.std.specs.Prelude.{◌≡◌, ◌+◌, ◌≤◌, ◌++◌, List, ℕ, length, take, true, false, IfSome, IsSome};
+ghost use Rattle.dns_code.specs.HeaderSection.{header_size};
 ghost use Rattle.dns_name.specs.Names.{Labels, IsName, uncompressed};
 ghost use Rattle.dns_wire.specs.Parts.{AreParts, Part};
 ghost use Rattle.dnsm_put.specs.Rdata.{AreDataOf, HasFields, layout_of, type_layout};
@@ -110,7 +111,7 @@ fn put_named(
     requires most { most ≤ length out.old }
     requires at { at ≤ most }
     requires top { top ≤ at }
-    requires after_header { 12 ≤ at }
+    requires after_header { header_size ≤ at }
     requires fields { HasFields (Layout.Name before) rdata.now }
     ensures written { IfSome result (λ end. (parts : List Part) → AreParts parts
         → AreDataOf (Layout.Name before) rdata.now parts
@@ -140,7 +141,7 @@ fn put_two_names(
     requires most { most ≤ length out.old }
     requires at { at ≤ most }
     requires top { top ≤ at }
-    requires after_header { 12 ≤ at }
+    requires after_header { header_size ≤ at }
     requires fields { HasFields (Layout.TwoNames after) rdata.now }
     ensures written { IfSome result (λ end. (parts : List Part) → AreParts parts
         → AreDataOf (Layout.TwoNames after) rdata.now parts
@@ -174,7 +175,7 @@ pub(crate) fn put_rdata(
     requires most { most ≤ length out.old }
     requires at { at ≤ most }
     requires top { top ≤ at }
-    requires after_header { 12 ≤ at }
+    requires after_header { header_size ≤ at }
     requires fields { HasFields (layout_of item.now) item.now.rdata.now }
     ensures written { IfSome result (λ end. (parts : List Part) → AreParts parts
         → AreDataOf (layout_of item.now) item.now.rdata.now parts

@@ -20,7 +20,8 @@ use Rattle.fields_read_records.proofs.ListsBack.{gateway_back, gateway_unmarked,
 use Rattle.fields_read_records.proofs.ListsBack.{parameters_unmarked, prefixes_back, prefixes_unmarked, relay_back, relay_unmarked, small_map_back}
 use Rattle.fields_read_records.proofs.ListsBack.{small_map_unmarked, type_map_back, type_map_unmarked}
 use Rattle.fields_read_records.proofs.PrintedLaws.{PrintedLaws}
-use Rattle.fields_read_records.proofs.WordsBack.{base64_back, base64_unmarked, hexadecimal_back, hexadecimal_unmarked, sized_back, sized_unmarked, strings_back, strings_unmarked, word_back, word_unmarked}
+use Rattle.fields_read_records.proofs.WordsBack.{base64_back, base64_unmarked, hexadecimal_back, hexadecimal_unmarked, sized_back, sized_unmarked, strings_back}
+use Rattle.fields_read_records.proofs.WordsBack.{strings_unmarked, word_back, word_unmarked}
 
 -- an opaque field has no text
 no_text : (part : Part) (own : Words) → IsFieldPart kinds.Opaque part → HasWords kinds.Opaque part own → ⊥

@@ -89,16 +89,6 @@ of_may All kind words octets is = words_may kind words octets is
 pub field_may : (kind : Kind) (words : Words) (octets : List ℕ) → IsField kind words octets → MayBeField kind words
 field_may kind words octets is = of_may (extent_of kind) kind words octets is
 
--- of fields
-pub fields_may : (kinds : List Kind) (words : Words) (octets : List ℕ) → AreFields kinds words octets → MayBeFields kinds words
-fields_may [] words octets are = are.0
-fields_may (kind ∷ kinds) words octets are = (are.own, are.after, are.split, field_may kind are.own are.field are.is_field)
-
--- of RDATA
-pub data_may : (rtype : ℕ) (words : Words) (octets : List ℕ) → AreDataWords rtype words octets → MayBeData rtype words
-data_may rtype words octets (inl is) = inl is.0
-data_may rtype words octets (inr is) = inr (is.0, fields_may (kinds_of rtype) words octets is.1)
-
 -- what reading RDATA returns, by its first word
 pub marked_read : (rtype : ℕ) (words digits : Words) (b : Bool) (result : Result (Vec ℕ) TextError) → IsTrue b ↔ IsMarked words → b ≡ true → digits ≡ drop 1 words
     → ReadsOctets (AreCountedDigits digits) result → ReadsWordsIf (MayBeData rtype words) (AreDataWords rtype words) result

@@ -3,13 +3,12 @@ use Rattle.std.proofs.Common.{◌≡◌, ◌∙◌, ℕ, List, [], ◌∷◌, �
 use Rattle.std.specs.Prelude.{Result, Ok, Err}
 use Rattle.std.specs.Borrow.{Bor}
 use Rattle.std.specs.Str.Parse.{digits_value}
-use Rattle.dns_data.proofs.theory.DataReading.{one_rdata}
-use Rattle.fields_octets.specs.FieldData.{type_layout}
 use Rattle.fields_octets.specs.Table.{kinds_of}
 use Rattle.fields_octets.specs.declared.kind.Kind.{Kind}
 use Rattle.fields_octets.specs.declared.kind.Kind.TheVariants as kinds
-use Rattle.fields_octets.specs.OwnedData.{owned_parts_of}
+use Rattle.fields_octets.specs.UncompressedData.{IsUncompressedData}
 use Rattle.fields_octets.specs.declared.owned.OwnedFieldData.{OwnedFieldData}
+use Rattle.fields_octets.proofs.theory.UncompressedOctets.{one_uncompressed}
 use Rattle.fields_read.specs.Base32Words.{last_octets}
 use Rattle.fields_read.specs.Laws.{RepresentsOne}
 use Rattle.fields_read.specs.SizedWords.{IsSizedWords}
@@ -22,11 +21,11 @@ use Rattle.fields_read.proofs.theory.StringLemmas.{one_string}
 use Rattle.fields_read.proofs.theory.TypeMapLaws.{one_word}
 use Rattle.fields_read_parameters.proofs.theory.OneParameters.{one_parameters}
 use Rattle.fields_text.specs.declared.text_error.TextError.{TextError}
-use Rattle.fields_read_records.specs.DataWords.{AreCountedDigits, AreDataWords, AreFields, IsDataText, ReadsData, MayBeData}
+use Rattle.fields_read_records.specs.DataWords.{AreCountedDigits, AreDataWords, AreFields, IsDataText, ReadsData}
 use Rattle.fields_read_records.specs.Extents.{extent_of}
 use Rattle.fields_read.specs.LengthOctets.{counted}
 use Rattle.fields_read_records.specs.FieldWords.{AreFieldWords, AreStrings, IsField, IsFieldOf, IsFieldWord, IsHash, IsNumberIn, IsOne, IsSalt, IsString, IsTime, IsType, Words}
-use Rattle.fields_read_records.specs.Rdata.{IsRdata, ReadsRdata}
+use Rattle.fields_read_records.specs.Rdata.{ReadsRdata}
 use Rattle.fields_read_records.specs.declared.extent.Extent.{Extent}
 use Rattle.fields_read_records.specs.declared.extent.Extent.TheVariants.{One, OneOrTwo, All}
 
@@ -174,19 +173,14 @@ one_data rtype words xs ys (inr a) (inr b) = one_fields (kinds_of rtype) words x
 pub one_parts : (rtype : ℕ) → RepresentsOne (IsDataText rtype)
 one_parts rtype words xs ys a b =
     let same = one_data rtype words a.octets b.octets a.are b.are in
-    let own = subst (λ (octets : List ℕ). IsRdata rtype octets xs) same a.rdata in
-    (one_rdata b.octets (type_layout rtype) 0 (length b.octets) (length b.octets) xs ys own.fields b.rdata.fields).1
+    one_uncompressed rtype b.octets xs ys (subst (λ (octets : List ℕ). IsUncompressedData rtype octets xs) same a.rdata) b.rdata
 
 -- RDATA of the octets that the words represent
-pub data_read : (rtype : ℕ) (words : Words) (octets slice : List ℕ) (result : Result OwnedFieldData TextError) → MayBeData rtype words
-    → AreDataWords rtype words octets → slice ≡ octets → ReadsRdata rtype slice result
+pub data_read : (rtype : ℕ) (words : Words) (octets : List ℕ) (result : Result OwnedFieldData TextError) → AreDataWords rtype words octets → ReadsRdata rtype octets result
     → ReadsData rtype words result
-data_read rtype words octets slice (Ok value) may are same reads =
-    (reads.0, record { octets = octets; are = are; rdata = subst (λ (os : List ℕ). IsRdata rtype os (owned_parts_of value)) same reads.1 })
-data_read rtype words octets slice (Err e) may are same (inl memory) = inl (memory, may)
-data_read rtype words octets slice (Err e) may are same (inr bad) =
+data_read rtype words octets (Ok value) are reads = (reads.0, record { octets = octets; are = are; rdata = reads.1 })
+data_read rtype words octets (Err e) are bad =
     inr (
       bad.0,
-      λ parts is.
-          bad.1 parts (subst (λ (os : List ℕ). IsRdata rtype os parts) (one_data rtype words is.octets octets is.are are ∙ sym same) is.rdata),
+      λ parts is. bad.1 parts (subst (λ (os : List ℕ). IsUncompressedData rtype os parts) (one_data rtype words is.octets octets is.are are) is.rdata),
     )

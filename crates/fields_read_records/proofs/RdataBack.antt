@@ -12,10 +12,10 @@ use Rattle.fields_octets.specs.DataOrders.{octets_of_parts}
 use Rattle.fields_octets.specs.EncodedData.{data_is_there}
 use Rattle.fields_octets.specs.FieldData.{type_layout}
 use Rattle.fields_octets.specs.LaidOut.{encoded_parts}
+use Rattle.fields_octets.specs.UncompressedData.{IsUncompressedData}
 use Rattle.fields_octets.specs.declared.field_data.FieldData.{FieldData}
 use Rattle.fields_octets.proofs.theory.PartOctets.{plain_octets}
 use Rattle.fields_read_records.specs.Laws.{HasOctets}
-use Rattle.fields_read_records.specs.Rdata.{IsRdata}
 
 -- the names among the parts of a view are names
 pub are_parts : (fields : FieldData) → AreParts (parts_of fields)
@@ -35,5 +35,5 @@ parts_read layout parts are laid =
     subst (λ (seen : List ℕ). DataAt seen layout 0 (length octets) parts) (take_all (length octets) octets (omega arith)) read
 
 -- The octets of fields are RDATA of their type, with these parts.
-pub rdata_back : (fields : FieldData) → HasOctets fields → IsRdata (rtype_of fields) (octets_of_parts (parts_of fields)) (parts_of fields)
+pub rdata_back : (fields : FieldData) → HasOctets fields → IsUncompressedData (rtype_of fields) (octets_of_parts (parts_of fields)) (parts_of fields)
 rdata_back fields bytes = record { fields = parts_read (type_layout (rtype_of fields)) (parts_of fields) (are_parts fields) (any_laid_out fields); uncompressed = refl }

@@ -3,6 +3,7 @@ use Rattle.std.specs.Prelude.{◌≡◌, ◌⊎◌, ℕ, List, [], ◌∷◌, �
 use Rattle.std.specs.Net.Grammar.{IsNumber}
 use Rattle.fields_octets.specs.OwnedData.{owned_parts_of, owned_rtype_of}
 use Rattle.fields_octets.specs.Table.{kinds_of}
+use Rattle.fields_octets.specs.UncompressedData.{IsUncompressedData}
 use Rattle.fields_octets.specs.declared.kind.Kind.{Kind}
 use Rattle.fields_octets.specs.declared.owned.OwnedFieldData.{OwnedFieldData}
 use Rattle.fields_read.specs.JoinedWords.{AreHex}
@@ -12,7 +13,6 @@ use Rattle.dns_wire.specs.Parts.{Part}
 use Rattle.fields_read_records.specs.Extents.{extent_of}
 use Rattle.fields_read_records.specs.FieldWords.{IsField, Words}
 use Rattle.fields_read_records.specs.MayBe.{MayBeFields}
-use Rattle.fields_read_records.specs.Rdata.{IsRdata}
 use Rattle.fields_read_records.specs.declared.extent.Extent.TheVariants.{All}
 
 -- the first words are a field of this kind, and the others are `Others`
@@ -55,7 +55,7 @@ MayBeData rtype words = IsMarked words ⊎ (¬ (IsMarked words) × MayBeFields (
 pub record IsDataText (rtype : ℕ) (words : Words) (parts : List Part) : Type 0 where
   pub octets : List ℕ
   pub are : AreDataWords rtype words octets
-  pub rdata : IsRdata rtype octets parts
+  pub rdata : IsUncompressedData rtype octets parts
 
 -- RDATA of this type that the words represent. Else `BadWord` if they represent none, or `OutOfMemory` if an allocation fails, which happens only to words of which `MayBeData` holds.
 abbrev pub ReadsData : ℕ → Words → Result OwnedFieldData TextError → Type 0

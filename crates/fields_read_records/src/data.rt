@@ -5,7 +5,7 @@ ghost use Rattle.fields_read.specs.Reading.{ReadsWordsIf};
 ghost use Rattle.fields_text.specs.Reading.{ReadsOctets};
 
 use crate::fields::read_fields;
-use crate::rdata::owned_data;
+use crate::rdata::read_rdata;
 use dns_iana::Rtype;
 use fields_octets::OwnedFieldData;
 use fields_read::read_hex_words;
@@ -53,7 +53,7 @@ pub fn from_text(alloc: Global, rtype: Rtype, words: &[&str]) -> Result<OwnedFie
     ensures { ReadsData rtype words.now result }
 {
     match read_octets(alloc, rtype.to_int(), words) {
-        Ok(octets) => owned_data(alloc, rtype, octets.as_slice()),
+        Ok(octets) => read_rdata(rtype, octets),
         Err(error) => Err(error),
     }
 }
