@@ -114,6 +114,7 @@ run dnsview_odd 1 '' 'the number of hexadecimal digits is odd' dnsview <<<000
 run dnsview_no_option 2 '' $'dnsview: unexpected argument "--long"\n'"$usage" dnsview --long </dev/null
 run dnsview_no_text 2 '' $'dnsview: an argument is not UTF-8\n'"$usage" dnsview $'\xff' </dev/null
 run dnsview_no_file 3 '' $'dnsview: can\'t open "examples/no file": ' dnsview 'examples/no file' <examples/answer.txt
+run dnsview_no_such_name 3 '' $'dnsview: can\'t open "examples/no\\010\\027file": ' dnsview $'examples/no\n\efile' <examples/answer.txt
 run dnsview_folder 3 '' 'dnsview: reading failed: ' dnsview examples <examples/answer.txt
 run dnsview_empty 4 '' 'dnsview: the input is empty' dnsview </dev/null
 full dnsview_full_disk 3 "dnsview: printing failed: $disk" dnsview <examples/answer.txt

@@ -107,7 +107,7 @@ impl<'a> Run<'a> {
         let mut input = self.input.as_slice();
         let status = match program {
             "dnsmsg" => dnsmsg_tool::tool(alloc, &words, input, &mut output),
-            "dnsview" => dnsview_tool::tool(alloc, &words, &mut input, &mut output, &mut errors),
+            "dnsview" => dnsview_tool::tool(alloc, &words, &mut input, &mut output, &mut errors)?,
             _ => u8::MAX,
         };
         Ok(Ended {

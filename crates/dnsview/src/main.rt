@@ -6,8 +6,10 @@
 //! `dnsview_tool::tool` does the work. It is proved to be safe and to terminate on every input.
 #![tactic(auto)]
 
-use dnsview_tool::{USAGE, file_of, tool};
-use fields_text::Quoted;
+#[cfg(test)]
+mod tests;
+
+use dnsview_tool::{USAGE, file_of, print_unopened, tool};
 use std::fs::File;
 use std::io::{BufWriter, ErrorKind, Read};
 use std::process::ExitCode;
@@ -24,16 +26,14 @@ fn view<R: Read + Drop>(rt: &HostRuntime, words: &[String], reader: R) -> io::Re
     let mut reader = reader;
     let mut writer = BufWriter::new(rt.alloc(), rt.stdout())?;
     let mut errors = rt.stderr();
-    let status = tool(rt.alloc(), words, &mut reader, &mut writer, &mut errors);
-    Ok(status)
+    tool(rt.alloc(), words, &mut reader, &mut writer, &mut errors)
 }
 
 fn view_file(rt: &HostRuntime, words: &[String], file: &str) -> io::Result<u8> {
     match File::open(rt, file) {
         Ok(reader) => view(rt, words, reader),
         Err(error) => {
-            let name = Quoted(file.as_bytes());
-            eprintln!(rt; "dnsview: can't open {name}: {error}")?;
+            print_unopened(rt.alloc(), &mut rt.stderr(), file, &error)?;
             Ok(FAILED)
         }
     }

@@ -91,6 +91,7 @@ cause_of_head : (first second : Option ℕ) (cause : FormError) → head_of firs
 cause_of_head None second cause h = cc h
 cause_of_head (Some first) second cause h = cause_of_octet first second cause (nat_lt first 1) (nat_lt first 64) (nat_lt first 192) h
 
+-- Octets that begin nothing, though they are there, have the fault of a bad label.
 pub bad_cause : (b : List ℕ) (p : ℕ) (cause : FormError) → head_at b p ≡ Err (Form cause) → cause ≡ BAD_LABEL
 unfolding head_at
 bad_cause b p cause h = cause_of_head (slice_get b p) (slice_get b (p + 1)) cause h
@@ -127,6 +128,7 @@ stops_cut b of start p it there unlike none w =
       | inr h ↦ let clash = h.is_long in cc clash
     ]
 
+-- A label that is malformed makes the name too long.
 pub stops_long : (b : List ℕ) (of : NameOf) (start p : ℕ) (it : Head) (cause : FormError) → head_at b p ≡ Ok it → ((t : ℕ) → it ≡ Pointer t → ⊥) → ((n : ℕ) → IsLabelAt b p (p - start) n → ⊥)
     → Faulty b p (p - start) (Form cause) → StopsName b of start p faults.LongName
 stops_long b of start p it cause there unlike none w =

@@ -5,7 +5,8 @@ use Rattle.std.specs.Prelude.{Result, Ok, Err}
 use Rattle.dns_name.specs.Names.{Fault}
 use Rattle.dns_name.specs.Names.Fault.{ShortInput}
 use Rattle.dns_name.specs.Parsers.{number_at}
-use Rattle.dnsview_rows.specs.Data.{layout_type, ShowsData}
+use Rattle.fields_octets.specs.LayoutTypes.{layout_type}
+use Rattle.dnsview_rows.specs.Data.{ShowsData}
 use Rattle.dnsview_rows.specs.Walks.StopsWithin.{missing, stopped}
 use Rattle.dns_item.specs.AfterNames.FieldsFaultAt.{name as name_fault, short as short_fields}
 use Rattle.dns_code.specs.HeaderCounts.{Counts}

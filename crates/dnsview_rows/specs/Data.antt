@@ -3,7 +3,7 @@
 -- `b` is the octets of the message up to the end of the RDATA.
 use Rattle.dns_name.specs.Parsers.{number_at}
 use Rattle.std.specs.Int.{w16}
-use Rattle.std.specs.Prelude.{◌≡◌, ℕ, ◌+◌, ◌<◌, ◌≤◌, ◌==◌, ◌||◌, ◌&&◌, if◌then◌else◌, List, [], ◌∷◌, ◌++◌, length, slice_get, Option, Some, None, nat_lt}
+use Rattle.std.specs.Prelude.{◌≡◌, ℕ, ◌+◌, ◌<◌, ◌≤◌, if◌then◌else◌, List, [], ◌∷◌, ◌++◌, length, slice_get, Option, Some, None, nat_lt}
 use Rattle.dns_name.specs.Names.{Fault, Labels, NameAt, NameEndsAt}
 use Rattle.fields_octets.specs.Table as table
 use Rattle.dnsview_rows.specs.Faults.{LacksName}
@@ -127,14 +127,6 @@ pub data ShowsOptions (b : List ℕ) (p : ℕ) : Option rows.RowFault → ℕ �
 -- the type of OPT records. RFC 6891 section 6.1.1.
 abbrev pub opt_type : ℕ
 opt_type = 41
-
--- the type of NULL records, whose RDATA may be any octets. RFC 1035 section 3.3.10.
-abbrev pub null_type : ℕ
-null_type = 10
-
--- The type whose fields RDATA of `len` octets has: its own. But it is NULL if the class is NONE (254) or ANY (255) and there are no octets, as an update deletes or asks by it. RFC 2136 section 2.4.
-abbrev pub layout_type : ℕ → ℕ → ℕ → ℕ
-layout_type class len rtype = if ((class == 254) || (class == 255)) && (len == 0) then null_type else rtype
 
 -- The rows of the RDATA of a record of this type, from p to q: those of options, or those of the fields that the type has by its definition. If there is a
 -- fault, the rows end where the field that can't be read begins, or where a name can't be read further.

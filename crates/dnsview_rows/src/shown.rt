@@ -11,11 +11,8 @@ ghost use Rattle.dns_read.specs.Sections.{question_count, answer_count, authorit
 use crate::row::{Row, RowFault, RowKind};
 use crate::tile;
 use crate::walk::{Stop, Walk};
-use dns_code::HeaderCounts;
+use dns_code::{HeaderCounts, HeaderSection};
 use std::alloc::{AllocError, Global};
-
-/// The length of a header section in octets.
-const HEADER_LEN: usize = 12;
 
 /// The rows of any octets, each octet in exactly one of them. There is one row for each field of
 /// the message up to the first that can't be read, one for the fault there, and one for the
@@ -32,7 +29,7 @@ pub fn rows(alloc: Global, octets: &[u8]) -> Result<Vec<Row>, AllocError>
     ensures shows { header_size ≤ length octets.now
         → IfOk result (λ rows. ShowsMessage octets.now rows.items) }
 {
-    if octets.len() < HEADER_LEN {
+    if octets.len() < HeaderSection::LEN {
         return short_rows(alloc, octets.len());
     }
     message_rows(alloc, octets)

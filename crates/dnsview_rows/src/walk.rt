@@ -2,7 +2,7 @@
 //! section 6.1.2).
 ghost use Rattle.std.specs.Prelude.{◌≡◌, ◌+◌, ◌<◌, ◌≤◌, ◌∷◌, ◌++◌, ℕ, [], IsNone, OnOk, IfOk, IfSome, IsTrue, Ok, ◌-◌, length, slice_get, slice_index, Some, None};
 ghost use Rattle.std.specs.Int.{w16};
-ghost use Rattle.dns_name.specs.Names.{fault_of, head_at, Faulty, Reads};
+ghost use Rattle.dns_name.specs.Names.{fault_of, head_at, max_size, Faulty, Reads};
 ghost use Rattle.dns_name.specs.declared.head.Head.TheVariants as Head;
 ghost use Rattle.dns_name.specs.Parsers.{input, offset, seen, number_at};
 ghost use Rattle.dns_code.specs.HeaderCounts.{counts};
@@ -11,39 +11,23 @@ ghost use Rattle.dnsview_rows.specs.Faults.{StopsName};
 ghost use Rattle.dnsview_rows.specs.Fields.{items_at, IsField, field_row};
 ghost use Rattle.dnsview_rows.specs.Forms.{form_at, rest_form};
 ghost use Rattle.dnsview_rows.specs.Entries.{all_parts, class_rows, holds_records, item_row, number_rows, opt_rows};
-ghost use Rattle.dnsview_rows.specs.Data.{layout_type};
 ghost use Rattle.dnsview_rows.specs.Walks.{at, octets, items, sum_of, AreCountsOf, IsMarked, Comes, CutsFields, Adds, OnFault, OnFaultOf, LacksField, LacksFields, IsEnd, IsLabelAt, HasName, CoversAllLabels, CoversEnd, CoversName, CoversItemName, MissesName, MissesItemName, MissesOption, CoversNumbers, MarksItem, MarksStop, MarksFirst, MarksAmong, MarksParts, MarksData, MarksFields, MarksOptions, MarksWithin, StopsData, StopsFields, StopsOptions, StopsWithin, CoversAllTexts, CoversField, CoversOctets, CoversOption, MissesField, MissesOctets, MissesText};
 
 use crate::form::Form;
 use crate::row::{NameOf, Part, Row, RowFault, RowField};
 use crate::tile;
-use dns_code::HeaderCounts;
-use dns_iana::Rtype;
+use dns_code::{HeaderCounts, HeaderSection};
+use dns_iana::{Class, Rtype};
 use dns_name::{Head, ParsedName, Parser};
 use dns_octets::ParseError;
-use fields_octets::{Kind, Shape, fields_of};
+use fields_octets::{Kind, Shape, fields_of, layout_type};
 use std::alloc::Global;
-
-/// The maximum size of a name's labels in octets: 255 without the root's zero octet (RFC 1035
-/// section 2.3.4).
-const MAX_SIZE: usize = 254;
 
 /// Why a walk ends early.
 #[derive(Clone, Copy)]
 pub(crate) enum Stop {
     Fault(RowFault),
     Memory,
-}
-
-/// The type whose fields RDATA of `len` octets has. It is NULL for RDATA of no octets in class NONE
-/// or ANY, as an update deletes or asks by it (RFC 2136 section 2.4).
-fn layout_type(rtype: Rtype, class: u16, len: u16) -> Rtype
-    ensures { result ≡ layout_type class len rtype }
-{
-    if matches!(class, 254 | 255) && len == 0 {
-        return Rtype::NULL;
-    }
-    rtype
 }
 
 /// An offset in a message, after its header section, with the rows of the fields before it.
@@ -65,7 +49,7 @@ impl<'a> Walk<'a> {
         ensures input { input result.parser ≡ octets.now }
     {
         let mut parser = Parser::new(octets);
-        parser.advance(12).unwrap();
+        parser.advance(HeaderSection::LEN).unwrap();
         Walk {
             parser,
             rows: Vec::new(alloc),
@@ -187,7 +171,7 @@ impl<'a> Walk<'a> {
     /// octet. Returns `None` if no label begins here, if it runs past the end, or if the name is
     /// too long with it.
     fn label_len(&self, size: usize) -> Option<usize>
-        requires { size ≤ MAX_SIZE }
+        requires { size ≤ max_size }
         ensures some { IfSome result (λ len. IsLabelAt (octets self.now) (at self.now) size len) }
         ensures none { IsNone result → (len : ℕ)
             → IsLabelAt (octets self.now) (at self.now) size len → ⊥ }
@@ -196,7 +180,7 @@ impl<'a> Walk<'a> {
             return None;
         };
         let len = usize::from(octet);
-        if len >= self.parser.remaining() || size + len >= MAX_SIZE {
+        if len >= self.parser.remaining() || size + len >= Head::MAX_SIZE {
             return None;
         }
         Some(len)
@@ -373,8 +357,9 @@ impl<'a> Walk<'a> {
         self.item(part, number, NameOf::Owner)?;
         match self.record_fields() {
             Ok(numbers) => {
-                let rtype = layout_type(numbers.0, numbers.1, numbers.2);
-                self.within(rtype, usize::from(numbers.2))?;
+                let len = usize::from(numbers.2);
+                let rtype = layout_type(numbers.0, Class::from_int(numbers.1), len);
+                self.within(rtype, len)?;
                 Ok(())
             }
             Err(stop) => Err(stop),

@@ -7,6 +7,7 @@ mod PageLines
 mod PageTexts
 mod Printables
 mod PrintableTexts
+mod Reported
 mod StyleRules
 mod TextLines
 mod Viewed

@@ -44,6 +44,12 @@ pub keeps_same : (a : Option (List ℕ)) → Keeps a a
 keeps_same None = tt
 keeps_same (Some xs) = refl
 
+-- a form is printed, and then flushed
+pub form_flushed : {X E : Type 0} (r : Result X E) (form : Form) (octets : List ℕ) (a b c : Option (List ℕ)) → PrintsForm form octets a b → Keeps b c
+    → OnOk r (PrintsForm form octets a c)
+form_flushed (Ok x) form octets a b c p k = form_kept form octets a b c p k
+form_flushed (Err e) form octets a b c p k = tt
+
 module _ {X E : Type 0} (r : Result X E) (octets : List ℕ) {rows given : List Row} (a b : Option (List ℕ)) (are : AreRowsOf octets rows) (same : given ≡ rows) where
   -- rows are printed as text
   pub text_printed : OnOk r (PrintsEach (IsRowText octets) given a b) → OnOk r (PrintsForm Text octets a b)

@@ -2,13 +2,11 @@
 ghost use Rattle.std.specs.Prelude.{◌≡◌, ◌≤◌, length};
 ghost use Rattle.dnsview_tool.specs.Pages.{escaped_octet, front_within, limits_words, words_limit};
 
+use dns_code::HeaderSection;
 use dnsview_rows::Row;
 
 /// The octets of `...`, which stands for what is left out.
 pub(crate) const ELLIPSIS_LEN: u128 = 3;
-
-/// The octets of a header section.
-const HEADER_SECTION_LEN: usize = 12;
 
 /// The octets that the words for a row may take at least, if they are limited.
 const LEAST: u128 = 60;
@@ -24,7 +22,7 @@ const LIMIT_PER_OCTET: u128 = 9;
 pub(crate) fn limits_words(is_brief: bool, row: &Row) -> bool
     ensures { result ≡ limits_words is_brief row.now }
 {
-    is_brief && row.start >= HEADER_SECTION_LEN
+    is_brief && row.start >= HeaderSection::LEN
 }
 
 /// How many octets the words for some octets may take.

@@ -7,6 +7,7 @@ use dns_code::Header;
 use dns_iana::{Class, OptRcode, Rtype};
 use dns_name::{ParsedName, Parser};
 use dnsview_rows::{NameOf, Part, Row, RowFault, RowField, RowKind, octets_of, target_of};
+use fields_octets::layout_type;
 use fields_print::Strings;
 use fields_text::Quoted;
 use std::fmt;
@@ -137,24 +138,21 @@ impl<'a> Meaning<'a> {
     fn write_length<W: fmt::Write>(&self, f: &mut fmt::Formatter<W>) -> fmt::Result {
         let len = short_of(self.octets());
         write!(f, "data length {len}")?;
-        if lacks_last_field(self.layout_type(len).to_int(), usize::from(len)) {
+        if self.lacks_octets(usize::from(len)) {
             f.write_str(", malformed")?;
         }
         Ok(())
     }
 
-    /// The record type by whose fields the RDATA after this RDLENGTH is shown. It is NULL for RDATA
-    /// of no octets in class NONE or ANY, as in `rows` (RFC 2136 section 2.4).
-    fn layout_type(&self, len: u16) -> Rtype {
+    /// Whether the last field of RDATA of this length, after this RDLENGTH, lacks octets.
+    fn lacks_octets(&self, len: usize) -> bool {
         let numbers = self.row.start.saturating_sub(NUMBERS_LEN);
         let [a, b, c, d, ..] = self.message.get(numbers..).unwrap_or(&[]) else {
-            return Rtype::NULL;
+            return false;
         };
+        let rtype = Rtype::from_int(u16::from_be_bytes([*a, *b]));
         let class = Class::from_int(u16::from_be_bytes([*c, *d]));
-        if len == 0 && (class == Class::NONE || class == Class::ANY) {
-            return Rtype::NULL;
-        }
-        Rtype::from_int(u16::from_be_bytes([*a, *b]))
+        lacks_last_field(layout_type(rtype, class, len).to_int(), len)
     }
 
     /// Prints where a pointer leads, and the whole name that it ends.

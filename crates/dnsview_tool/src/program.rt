@@ -1,8 +1,9 @@
 //! The work of the program `dnsview`.
-ghost use Rattle.std.specs.Prelude.{◌≡◌, ◌||◌, ◌⊎◌, IfOk, IfSome, MatchOption, OnOk, Some};
+ghost use Rattle.std.specs.Prelude.{◌≡◌, ◌||◌, ◌⊎◌, ℕ, IfErr, IfOk, IfSome, List, MatchOption, OnOk, Some};
 ghost use Rattle.std.specs.Char.{is_ascii_hexdigit, is_ascii_whitespace};
 ghost use Rattle.std.specs.Io.KnownBytes.{Appends};
-ghost use Rattle.dns_lines.specs.Digits.{unspaced};
+ghost use Rattle.dnsview_tool.specs.Failures.{IsFailureText, IsPrintingFailure, IsReportingFailure, PrintsBefore, ReportsFailure};
+ghost use Rattle.dnsview_tool.specs.Printed.{Prints};
 ghost use Rattle.dnsview_tool.specs.Requests.{asked};
 ghost use Rattle.dnsview_tool.specs.Viewing.{is_digits, lines_text, named_text, wrong_text, CanEnd, Gives, IsOdd, IsPrinted, IsViewed, PrintsForm, Reports};
 
@@ -10,7 +11,7 @@ use crate::failure::{Failure, print_failure};
 use crate::html::print_page;
 use crate::request::{Form, Request, wrong_word};
 use crate::text::print_text;
-use dns_lines::print_zone_lines;
+use dns_lines::{print_zone_lines, unspaced};
 use dns_read::Message;
 use dnsview_rows::rows;
 use fields_text::Quoted;
@@ -62,26 +63,41 @@ const VERSION: &str = "dnsview 2.0.0\n";
 /// `file_of` returns. If the input is hexadecimal digits and ASCII white space alone, it is read as
 /// digits. The exit status is 0; 1 if the number of digits is odd; 2 for a wrong argument; 3 if
 /// reading, writing or an allocation fails; and 4 if the input has no octets.
+///
+/// If something fails, the line that is printed to `errors` begins with `dnsview: reading failed`
+/// or `dnsview: printing failed`. Returns an error only if `errors` can't be written.
 pub fn tool<R: Read, W: Write, E: Write>(
     alloc: Global,
     args: &[String],
     reader: &mut R,
     writer: &mut W,
     errors: &mut E,
-) -> u8
-    ensures status { (result ≡ 3) ⊎ CanEnd (asked args.now) result }
-    ensures views { (result ≡ 3) ⊎ IfSome (R.remaining reader.old)
+) -> io::Result<u8>
+    ensures status { IfOk result (λ status. (status ≡ 3) ⊎ CanEnd (asked args.now) status) }
+    ensures views { IfOk result (λ status. (status ≡ 3) ⊎ IfSome (R.remaining reader.old)
         (λ input. IsViewed args.now input (W.contents writer.old) (W.contents writer.new)
-        (E.contents errors.old) (E.contents errors.new) result) }
-    ensures reports { IfSome (R.remaining reader.old) (λ input. Reports args.now input result) }
+        (E.contents errors.old) (E.contents errors.new) status)) }
+    ensures fails { IfOk result (λ status. status ≡ 3 → ReportsFailure (W.contents writer.old)
+        (W.contents writer.new) (E.contents errors.old) (E.contents errors.new)) }
+    ensures reports { IfOk result (λ status. IfSome (R.remaining reader.old)
+        (λ input. Reports args.now input status)) }
 {
     match view(alloc, args, reader, writer, errors) {
-        Ok(status) => status,
-        Err(failure) => {
-            let _ = print_failure(alloc, errors, failure.words(), failure.error());
-            FAILED
-        }
+        Ok(status) => Ok(status),
+        Err(Failure::Reading(error)) => fail(alloc, errors, "reading failed", &error),
+        Err(Failure::Printing(error)) => fail(alloc, errors, "printing failed", &error),
+        Err(Failure::Reporting(error)) => Err(error),
     }
+}
+
+/// Says what failed, and why, and returns the exit status.
+fn fail<E: Write>(alloc: Global, errors: &mut E, what: &str, error: &io::Error) -> io::Result<u8>
+    ensures status { IfOk result (λ status. status ≡ 3) }
+    ensures text { OnOk result (Prints (IsFailureText what.now)
+        (E.contents errors.old) (E.contents errors.new)) }
+{
+    print_failure(alloc, errors, what, error)?;
+    Ok(FAILED)
 }
 
 /// Does what the arguments ask for, and returns the exit status.
@@ -96,6 +112,8 @@ fn view<R: Read, W: Write, E: Write>(
     ensures views { IfOk result (λ status. IfSome (R.remaining reader.old)
         (λ input. IsViewed args.now input (W.contents writer.old) (W.contents writer.new)
         (E.contents errors.old) (E.contents errors.new) status)) }
+    ensures fails { IfErr result (λ failure. PrintsBefore failure (W.contents writer.old)
+        (W.contents writer.new) (E.contents errors.old) (E.contents errors.new)) }
 {
     match Request::of_words(args) {
         Request::View(form) => view_input(alloc, form, reader, writer, errors),
@@ -109,6 +127,7 @@ fn view<R: Read, W: Write, E: Write>(
 fn answer<W: Write>(writer: &mut W, text: &str) -> Result<u8, Failure>
     ensures status { IfOk result (λ status. status ≡ 0) }
     ensures text { OnOk result (Appends (W.contents writer.old) (W.contents writer.new) text.now) }
+    ensures fails { IfErr result IsPrintingFailure }
 {
     match print_all(writer, text) {
         Ok(()) => Ok(0),
@@ -128,10 +147,11 @@ fn refuse<E: Write>(args: &[String], errors: &mut E) -> Result<u8, Failure>
     ensures status { IfOk result (λ status. status ≡ 2) }
     ensures text { OnOk result (Appends (E.contents errors.old) (E.contents errors.new)
         (wrong_text args.now)) }
+    ensures fails { IfErr result IsReportingFailure }
 {
     match print_wrong(args, errors) {
         Ok(()) => Ok(USAGE_STATUS),
-        Err(error) => Err(Failure::Printing(error)),
+        Err(error) => Err(Failure::Reporting(error)),
     }
 }
 
@@ -167,15 +187,13 @@ fn view_input<R: Read, W: Write, E: Write>(
     ensures views { IfOk result (λ status. IfSome (R.remaining reader.old)
         (λ input. IsPrinted form input (W.contents writer.old) (W.contents writer.new)
         (E.contents errors.old) (E.contents errors.new) status)) }
+    ensures fails { IfErr result (λ failure. PrintsBefore failure (W.contents writer.old)
+        (W.contents writer.new) (E.contents errors.old) (E.contents errors.new)) }
 {
     let mut input = Vec::new(alloc);
     match reader.read_to_end(&mut input) {
-        Ok(_) => {}
-        Err(error) => return Err(Failure::Reading(error)),
-    }
-    match print_input(alloc, form, input, writer, errors) {
-        Ok(status) => Ok(status),
-        Err(error) => Err(Failure::Printing(error)),
+        Ok(_) => print_input(alloc, form, input, writer, errors),
+        Err(error) => Err(Failure::Reading(error)),
     }
 }
 
@@ -187,21 +205,70 @@ fn print_input<W: Write, E: Write>(
     input: Vec<u8>,
     writer: &mut W,
     errors: &mut E,
-) -> io::Result<u8>
-    ensures { IfOk result (IsPrinted form input.items (W.contents writer.old)
+) -> Result<u8, Failure>
+    ensures prints { IfOk result (IsPrinted form input.items (W.contents writer.old)
+        (W.contents writer.new) (E.contents errors.old) (E.contents errors.new)) }
+    ensures fails { IfErr result (λ failure. PrintsBefore failure (W.contents writer.old)
         (W.contents writer.new) (E.contents errors.old) (E.contents errors.new)) }
 {
-    let Some(message) = message_of(alloc, input)? else {
-        errors.write_all(b"dnsview: the number of hexadecimal digits is odd\n")?;
-        return Ok(BAD_HEX);
-    };
-    if message.is_empty() {
-        errors.write_all(b"dnsview: the input is empty\n")?;
-        return Ok(EMPTY);
+    match message_of(alloc, input) {
+        Ok(Some(message)) => print_message(alloc, form, &message, writer, errors),
+        Ok(None) => report(
+            errors,
+            "dnsview: the number of hexadecimal digits is odd\n",
+            BAD_HEX,
+        ),
+        Err(AllocError) => Err(Failure::Printing(io::Error::from(AllocError))),
     }
-    print_form(alloc, form, &message, writer)?;
-    writer.flush()?;
-    Ok(0)
+}
+
+/// Prints a message in a form, or that it has no octets, and returns the exit status.
+fn print_message<W: Write, E: Write>(
+    alloc: Global,
+    form: Form,
+    message: &[u8],
+    writer: &mut W,
+    errors: &mut E,
+) -> Result<u8, Failure>
+    ensures prints { (input : List ℕ) → Gives input message.now
+        → IfOk result (IsPrinted form input (W.contents writer.old)
+        (W.contents writer.new) (E.contents errors.old) (E.contents errors.new)) }
+    ensures fails { IfErr result (λ failure. PrintsBefore failure (W.contents writer.old)
+        (W.contents writer.new) (E.contents errors.old) (E.contents errors.new)) }
+{
+    if message.is_empty() {
+        return report(errors, "dnsview: the input is empty\n", EMPTY);
+    }
+    match print_whole(alloc, form, message, writer) {
+        Ok(()) => Ok(0),
+        Err(error) => Err(Failure::Printing(error)),
+    }
+}
+
+/// Prints a text to standard error, and returns the exit status.
+fn report<E: Write>(errors: &mut E, text: &str, status: u8) -> Result<u8, Failure>
+    ensures status { IfOk result (λ ended. ended ≡ status) }
+    ensures text { OnOk result (Appends (E.contents errors.old) (E.contents errors.new) text.now) }
+    ensures fails { IfErr result IsReportingFailure }
+{
+    match errors.write_all(text.as_bytes()) {
+        Ok(()) => Ok(status),
+        Err(error) => Err(Failure::Reporting(error)),
+    }
+}
+
+/// Prints a message in a form, and flushes the output.
+fn print_whole<W: Write>(
+    alloc: Global,
+    form: Form,
+    message: &[u8],
+    writer: &mut W,
+) -> io::Result<()>
+    ensures { OnOk result (PrintsForm form message.now
+        (W.contents writer.old) (W.contents writer.new)) }
+{
+    print_form(alloc, form, message, writer)?;
+    writer.flush()
 }
 
 /// Prints a message in a form.
@@ -261,17 +328,6 @@ fn message_of(alloc: Global, input: Vec<u8>) -> Result<Option<Vec<u8>>, AllocErr
         // all are digits, so an allocation failed
         Err(_) => Err(AllocError),
     }
-}
-
-/// The octets that aren't ASCII white space.
-fn unspaced(alloc: Global, octets: &[u8]) -> Result<Vec<u8>, AllocError>
-    ensures { IfOk result (λ others. others.items ≡ unspaced octets.now) }
-{
-    octets
-        .iter()
-        .copied()
-        .filter(|octet| !octet.is_ascii_whitespace())
-        .collect(alloc)
 }
 
 /// Whether all octets are hexadecimal digits or ASCII white space.

@@ -6,13 +6,10 @@ ghost use Rattle.dnsview_tool.specs.Summaries.{additional_index, begins_addition
 use crate::codes::Mnemonic;
 use crate::counts::octet_count;
 use crate::meaning::{FaultWords, number_of, write_name};
-use dns_code::Header;
+use dns_code::{Header, HeaderSection};
 use dns_iana::{Class, Opcode, OptRcode, Rtype};
 use dnsview_rows::{NameOf, Part, Row, RowField, RowKind, octets_of};
 use std::fmt;
-
-/// The octets of a header section.
-const HEADER_SECTION_LEN: usize = 12;
 
 /// A message in one line, in ASCII: whether it is a query or a response, its ID, its first
 /// question, its RCODE, how many answers it counts, and its fault if it has one.
@@ -25,7 +22,7 @@ pub(crate) struct Summary<'a> {
 
 impl fmt::Display for Summary<'_> {
     fn fmt<W: fmt::Write>(&self, f: &mut fmt::Formatter<W>) -> fmt::Result {
-        if self.message.len() < HEADER_SECTION_LEN {
+        if self.message.len() < HeaderSection::LEN {
             let count = octet_count(self.message.len());
             return write!(f, "{count}, too short for a header section");
         }

@@ -1,21 +1,22 @@
-use Rattle.std.proofs.Common.{◌∙◌, List, ℕ, subst, sym}
-use Rattle.dnsview_tool.specs.Viewing.{PrintsForm}
-use Rattle.dnsview_tool.specs.Viewing.IsPrinted.{shown, bad_hex, empty}
-use Rattle.dnsview_tool.proofs.Viewed.{given_empty, given_some, keeps_same, form_kept}
+use Rattle.std.proofs.Common.{ℕ, List, subst, sym}
+use Rattle.dnsview_tool.specs.Viewing.{Gives}
+use Rattle.dnsview_tool.specs.Viewing.IsPrinted.{bad_hex}
+use Rattle.dnsview_tool.proofs.Appended.{on_ok}
+use Rattle.dnsview_tool.proofs.Reported.{before_reporting, ends_in}
+use Rattle.dnsview_tool.proofs.Viewed.{keeps_same}
 use Rattle.dnsview_tool.proofs.program.print_input.Goals as goal
 
-pub returns-in_default : goal.returns-in_default
-returns-in_default g c = bad_hex (rw c.in_default.is at c.in_ok-message.ensures) (keeps_same _) c.in_ok-write_all.ensures.bytes
+pub returns-in-Ok-Some-clause-prints : goal.returns-in-Ok-Some-clause-prints
+returns-in-Ok-Some-clause-prints g c =
+    let gives = rw c.in-Ok-Some.field-0-is at c.in-Ok-Some.ensures in
+    c.print_message.ensures.prints c.args.input.items (subst (λ (octets : List ℕ). Gives c.args.input.items octets) (sym c.deref.ensures.value) gives)
 
-pub returns-then-is_empty : goal.returns-then-is_empty
-returns-then-is_empty g c =
-    empty (given_empty c.args.input.items c.in-Some.message.items _ c.in-Some.message.ok.0 (rw c.in-Some.is at c.in_ok-message.ensures)
-    (sym c.is_empty.ensures ∙ c.if-is_empty.true)) (keeps_same _) c.in_ok-write_all-2.ensures.bytes
+pub returns-in-Ok-None-clause-prints : goal.returns-in-Ok-None-clause-prints
+returns-in-Ok-None-clause-prints g c =
+    ends_in c.report.result 1 _ c.report.ensures.status (on_ok c.report.result (λ p. bad_hex (rw c.in-Ok-None.field-0-is at c.in-Ok-None.ensures) (keeps_same _) p) c.report.ensures.text)
 
-pub returns : goal.returns
-returns g c =
-    let rows = subst (λ (octets : List ℕ). PrintsForm c.args.form octets (g.W.Write.contents c.args.writer.now) (g.W.Write.contents c.print_form.new.writer))
-    c.deref.ensures.value c.in_ok-print_form.ensures in
-    shown c.in-Some.message.items (rw c.in-Some.is at c.in_ok-message.ensures)
-    (given_some c.in-Some.message.items _ c.in-Some.message.ok.0 (sym c.is_empty.ensures ∙ c.if-is_empty.false))
-    (form_kept c.args.form c.in-Some.message.items _ _ _ rows c.in_ok-flush.ensures.bytes) (keeps_same _)
+pub returns-in-Ok-None-clause-fails : goal.returns-in-Ok-None-clause-fails
+returns-in-Ok-None-clause-fails g c = before_reporting c.report.result _ _ _ _ c.report.ensures.fails
+
+pub returns-in-Err-clause-fails : goal.returns-in-Err-clause-fails
+returns-in-Err-clause-fails g c = keeps_same _

@@ -1,0 +1,70 @@
+//! What is printed to standard error if something fails: printable ASCII, whatever the reason is.
+use dnsview_tool::{print_unopened, tool};
+use std::io;
+use std::io::{Read, Write};
+
+/// Why something fails, with an octet outside ASCII, an escape and a line feed.
+const REASON: &str = "no \u{e9}\x1b\n";
+
+/// Input that can't be read, and output that can't be written.
+#[derive(Drop)]
+struct Broken;
+
+impl Read for Broken {
+    fn read(&mut self, _buf: &mut [u8]) -> io::Result<usize> {
+        Err(io::Error::other(REASON))
+    }
+}
+
+impl Write for Broken {
+    fn write(&mut self, _buf: &[u8]) -> io::Result<usize> {
+        Err(io::Error::other(REASON))
+    }
+
+    fn flush(&mut self) -> io::Result<()> {
+        Err(io::Error::other(REASON))
+    }
+}
+
+#[test]
+fn says_which_file_cannot_be_opened(rt: HostRuntime) {
+    let mut errors = Vec::new(rt.alloc());
+    print_unopened(
+        rt.alloc(),
+        &mut errors,
+        "a \"b\"\n",
+        &io::Error::other(REASON),
+    )
+    .expect(&rt, "memory");
+    let expected = b"dnsview: can't open \"a \\\"b\\\"\\010\": no \\195\\169\\027\\010\n";
+    assert_eq!(rt; errors.as_slice(), expected.as_slice());
+}
+
+#[test]
+fn says_that_reading_failed(rt: HostRuntime) {
+    let (mut output, mut errors) = (Vec::new(rt.alloc()), Vec::new(rt.alloc()));
+    let status = tool(rt.alloc(), &[], &mut Broken, &mut output, &mut errors).expect(&rt, "memory");
+    let expected = b"dnsview: reading failed: no \\195\\169\\027\\010\n";
+    assert_eq!(rt; status, 3);
+    assert_eq!(rt; errors.as_slice(), expected.as_slice());
+    assert!(rt; output.is_empty());
+}
+
+#[test]
+fn says_that_printing_failed(rt: HostRuntime) {
+    let mut errors = Vec::new(rt.alloc());
+    let mut input = b"00".as_slice();
+    let status = tool(rt.alloc(), &[], &mut input, &mut Broken, &mut errors).expect(&rt, "memory");
+    let expected = b"dnsview: printing failed: no \\195\\169\\027\\010\n";
+    assert_eq!(rt; status, 3);
+    assert_eq!(rt; errors.as_slice(), expected.as_slice());
+}
+
+/// A failure of standard error itself is the caller's.
+#[test]
+fn fails_if_standard_error_does(rt: HostRuntime) {
+    let mut input = b"0".as_slice();
+    let mut output = Vec::new(rt.alloc());
+    let ended = tool(rt.alloc(), &[], &mut input, &mut output, &mut Broken);
+    assert!(rt; ended.is_err());
+}
