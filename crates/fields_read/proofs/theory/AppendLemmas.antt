@@ -30,5 +30,6 @@ starts_more (x ∷ old) more [] is = cc is
 starts_more (x ∷ old) more (y ∷ new) is =
     (λ i. get_or (is i) 0 0 ∷ take (length old) new) ∙ ap (λ (xs : List ℕ). x ∷ xs) (starts_more old more new (ap (drop 1) is))
 
+-- what begins with octets to which others were appended begins with the octets before
 pub starts_after : (old more middle new : List ℕ) → middle ≡ old ++ more → IsStartOf middle new → IsStartOf old new
 starts_after old more middle new e is = starts_more old more new (subst (λ (xs : List ℕ). IsStartOf xs new) e is)

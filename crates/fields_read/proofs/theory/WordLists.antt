@@ -22,6 +22,7 @@ pub bad_only : {A : Type 0} (May : Type 0) (Represents : A → Type 0) (e : Text
 bad_only May Represents e bad (inl memory) value is = absurd (cc (bad, memory.0))
 bad_only May Represents e bad (inr none) value is = none.1 value is
 
+-- If an allocation fails, this is known of the words.
 pub full_only : {A : Type 0} (May : Type 0) (Represents : A → Type 0) (e : TextError) → e ≡ OutOfMemory → FailsIf May Represents e → May
 full_only May Represents e full (inl memory) = memory.1
 full_only May Represents e full (inr none) = absurd (cc (full, none.0))
