@@ -30,4 +30,5 @@ pub returns-in-Err-Printing-clause-reports : goal.returns-in-Err-Printing-clause
 returns-in-Err-Printing-clause-reports g c = failed_reports c.fail-in-Err-Printing.result _ _ c.fail-in-Err-Printing.ensures.status
 
 pub returns-in-Err-Printing-clause-fails : goal.returns-in-Err-Printing-clause-fails
-returns-in-Err-Printing-clause-fails g c = printing_reported c.fail-in-Err-Printing.result _ _ _ _ _ (rw c.in-Err-Printing.field-0-is at c.in-Err-Printing.ensures.fails) c.fail-in-Err-Printing.ensures.text
+returns-in-Err-Printing-clause-fails g c =
+    printing_reported c.fail-in-Err-Printing.result _ _ _ _ _ (rw c.in-Err-Printing.field-0-is at c.in-Err-Printing.ensures.fails) c.fail-in-Err-Printing.ensures.text
