@@ -73,7 +73,7 @@ impl<'a, W: Write + Drop> Report<'a, W> {
         writeln!(self.writer, "FAILED {} | bad line: {line}", self.name)
     }
 
-    /// Prints the counts, if there was a case.
+    /// Prints the counts, or that there was no case.
     pub fn finish(&mut self) -> io::Result<()>
         ensures text { OnOk result (Appends (W.contents self.old.writer)
             (W.contents self.new.writer) (counts_text self.old.counts)) }
@@ -84,16 +84,16 @@ impl<'a, W: Write + Drop> Report<'a, W> {
     }
 }
 
-/// Prints the counts, if there was a case.
+/// Prints the counts, or that there was no case, which is a failure.
 fn print_counts<W: Write>(writer: &mut W, counts: Counts) -> io::Result<()>
     ensures { OnOk result (Appends (W.contents writer.old) (W.contents writer.new)
         (counts_text counts)) }
 {
     let (cases, checks, failures) = (counts.cases, counts.checks, counts.failures);
     if cases > 0 {
-        writeln!(writer, "{cases} cases, {checks} checks, {failures} failed")?;
+        return writeln!(writer, "{cases} cases, {checks} checks, {failures} failed");
     }
-    Ok(())
+    writeln!(writer, "FAILED no case")
 }
 
 /// What is printed for octets that have no further line.

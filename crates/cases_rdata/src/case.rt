@@ -10,21 +10,33 @@ use fields_read_words::split_words;
 use std::alloc::Global;
 use std::io;
 
-/// The RDATA of a case: its type, octets, and where among them the RDATA starts.
+/// The parts of a case: the type of the RDATA, its octets, and where among them it starts; the type
+/// of RDATA that it is compared with, what precedes it in a record but its length; and a text of
+/// lines. `has_texts` says that checks were of texts alone, which have no type.
 #[derive(Drop)]
 pub(crate) struct Case {
     pub(crate) rtype: u16,
     pub(crate) octets: Vec<u8>,
     pub(crate) start: usize,
+    pub(crate) other: u16,
+    pub(crate) header: Vec<u8>,
+    pub(crate) lines: Vec<u8>,
+    pub(crate) has_lines: bool,
+    pub(crate) has_texts: bool,
 }
 
 impl Case {
-    /// A case with no RDATA yet.
+    /// A case with no part yet.
     pub(crate) fn new(alloc: Global) -> Case {
         Case {
             rtype: 0,
             octets: Vec::new(alloc),
             start: 0,
+            other: 0,
+            header: Vec::new(alloc),
+            lines: Vec::new(alloc),
+            has_lines: false,
+            has_texts: false,
         }
     }
 
@@ -43,7 +55,7 @@ impl Case {
     }
 
     /// The RDATA. An error if an octet is left over.
-    fn data(&self) -> Result<FieldData<'_>, ParseError> {
+    pub(crate) fn data(&self) -> Result<FieldData<'_>, ParseError> {
         let mut parser = self.parser();
         let data = FieldData::parse_any_rdata(Rtype::from_int(self.rtype), &mut parser)?;
         if parser.remaining() == 0 {
@@ -133,7 +145,7 @@ impl Case {
 }
 
 /// The digits of RDATA as it is written.
-fn digits_written<D: ComposeRecordData>(alloc: Global, data: &D) -> io::Result<String> {
+pub(crate) fn digits_written<D: ComposeRecordData>(alloc: Global, data: &D) -> io::Result<String> {
     let mut target = Vec::new(alloc);
     match data.compose_rdata(&mut target) {
         Ok(()) => Ok(hex::encode(alloc, target.as_slice())?),
@@ -142,7 +154,7 @@ fn digits_written<D: ComposeRecordData>(alloc: Global, data: &D) -> io::Result<S
 }
 
 /// An error as text.
-fn error_text(alloc: Global, error: ParseError) -> io::Result<String> {
+pub(crate) fn error_text(alloc: Global, error: ParseError) -> io::Result<String> {
     Ok(format!(in alloc; "{error}")?)
 }
 

@@ -1,17 +1,20 @@
-//! The program `cases_runs` runs cases of `dnsmsg` and `dnsview`:
+//! The program `cases_runs` runs cases of `dnsmsg` and `dnsview`, and of calls for a message:
 //!
 //!     cases_runs < CASES
 //!
-//! Each case of standard input is a run: the arguments, the input, and what is printed. The program
-//! prints a line for each check that fails, and the counts. Its page says what the keys are.
+//! A case of standard input is a run: the arguments, the input, and what is printed; or it is a
+//! message, and what calls of the library return for it. The program prints a line for each check
+//! that fails, and the counts. Its page says what the keys are.
 #![tactic(auto)]
 
+mod message;
 mod opt;
 mod part;
 mod run;
 
+use crate::message::check_call;
 use crate::part::check_part;
-use crate::run::{Ended, Run};
+use crate::run::Run;
 use cases_files::{Report, blocks, case_of};
 use std::alloc::Global;
 use std::io;
@@ -33,7 +36,7 @@ fn check_blocks<W: Write + Drop>(alloc: Global, writer: W, blocks: &[Vec<&str>])
     report.finish()
 }
 
-/// Runs the case that a block has.
+/// Checks the case that a block has. One without a check fails.
 fn check_block<'a, W: Write + Drop>(
     alloc: Global,
     report: &mut Report<'a, W>,
@@ -43,10 +46,20 @@ fn check_block<'a, W: Write + Drop>(
         return refuse_lines(report, block);
     };
     report.begin(name);
+    let checks = report.counts.checks;
     let run = read_run(alloc, report, lines)?;
-    let ended = run.end(alloc)?;
-    run.check(alloc, report, &ended)?;
-    check_parts(alloc, report, &run, &ended, lines)
+    for line in lines {
+        check_call(alloc, report, &run, line.trim_ascii_start())?;
+    }
+    if run.has_program() {
+        check_run(alloc, report, &run, lines)?;
+    } else if run.has_printed() {
+        report.bad_line("no run")?;
+    }
+    if report.counts.checks == checks {
+        report.bad_line("no check")?;
+    }
+    Ok(())
 }
 
 /// Prints lines that are in no case.
@@ -76,16 +89,17 @@ fn read_run<'a, W: Write + Drop>(
     Ok(run)
 }
 
-/// Checks the lines that say a part of what is printed.
-fn check_parts<W: Write + Drop>(
+/// Checks what a run prints.
+fn check_run<W: Write + Drop>(
     alloc: Global,
     report: &mut Report<'_, W>,
     run: &Run<'_>,
-    ended: &Ended,
     lines: &[&str],
 ) -> io::Result<()> {
+    let ended = run.end(alloc)?;
+    run.check(alloc, report, &ended)?;
     for line in lines {
-        check_part(alloc, report, run, ended, line.trim_ascii_start())?;
+        check_part(alloc, report, &ended, line.trim_ascii_start())?;
     }
     Ok(())
 }

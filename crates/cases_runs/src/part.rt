@@ -1,6 +1,5 @@
 //! Parts of what is printed.
-use crate::opt::opt_line;
-use crate::run::{Ended, Run};
+use crate::run::Ended;
 use cases_files::{Report, key_of};
 use std::alloc::{AllocError, Global};
 use std::io;
@@ -10,7 +9,6 @@ use std::io::Write;
 pub(crate) fn check_part<W: Write + Drop>(
     alloc: Global,
     report: &mut Report<'_, W>,
-    run: &Run<'_>,
     ended: &Ended,
     line: &str,
 ) -> io::Result<()> {
@@ -28,10 +26,6 @@ pub(crate) fn check_part<W: Write + Drop>(
         }
         "count" => check_count(alloc, report, line, output, text),
         "line" => check_line(report, line, output, text),
-        "opt" => {
-            let shown = opt_line(alloc, run.input.as_slice())?;
-            report.check(line, rest.as_bytes(), shown.as_bytes())
-        }
         _ => Ok(()),
     }
 }

@@ -1,4 +1,5 @@
 //! A run of a program.
+use crate::message::is_call;
 use cases_files::{Report, key_of, octets_of, push_times};
 use std::alloc::{AllocError, Global};
 use std::io;
@@ -6,11 +7,13 @@ use std::io::Write;
 
 /// A run: the program and its arguments, its input, and what it prints. `has_whole` says that lines
 /// of the case are about `printed`, all of it after the skipped lines, `has_parts` that lines are
-/// about parts of it.
+/// about parts of it. `message` is what calls of the library are given, and `other` a second one.
 #[derive(Drop)]
 pub(crate) struct Run<'a> {
     words: &'a str,
     pub(crate) input: Vec<u8>,
+    pub(crate) message: Vec<u8>,
+    pub(crate) other: Vec<u8>,
     printed: Vec<u8>,
     errors: Vec<u8>,
     status: &'a str,
@@ -33,6 +36,8 @@ impl<'a> Run<'a> {
         Run {
             words: "",
             input: Vec::new(alloc),
+            message: Vec::new(alloc),
+            other: Vec::new(alloc),
             printed: Vec::new(alloc),
             errors: Vec::new(alloc),
             status: "0",
@@ -54,7 +59,9 @@ impl<'a> Run<'a> {
             "<x" => return push_octets(alloc, &mut self.input, text),
             ">" | ">." | ">x" | "skip" => return self.take_printed(alloc, key, text),
             "starts" | "ends" | "has" | "count" | "line" | "most" => self.has_parts = true,
-            "opt" => {}
+            "message" => return push_octets(alloc, &mut self.message, text),
+            "other" => return push_octets(alloc, &mut self.other, text),
+            _ if is_call(key) => {}
             _ => return self.take_repeated(alloc, key, text),
         }
         Ok(true)
@@ -70,6 +77,16 @@ impl<'a> Run<'a> {
             _ => return Ok(self.take_skipped(text)),
         }
         Ok(true)
+    }
+
+    /// Whether the case has a run.
+    pub(crate) fn has_program(&self) -> bool {
+        !self.words.is_empty()
+    }
+
+    /// Whether lines of the case are about what is printed.
+    pub(crate) fn has_printed(&self) -> bool {
+        self.has_whole || self.has_parts
     }
 
     /// Whether lines about parts of what is printed are beside lines about all of it, which aren't
@@ -156,7 +173,7 @@ fn push_octets(alloc: Global, octets: &mut Vec<u8>, digits: &str) -> Result<bool
 }
 
 /// Arguments that are separated by spaces, as a program takes them.
-fn words_of(alloc: Global, words: &str) -> Result<Vec<String>, AllocError> {
+pub(crate) fn words_of(alloc: Global, words: &str) -> Result<Vec<String>, AllocError> {
     let mut strings = Vec::new(alloc);
     for word in words.split_ascii_whitespace() {
         strings.push(String::from_str(alloc, word)?)?;

@@ -3,8 +3,9 @@
 ghost use Rattle.std.specs.Prelude.{◌<◌};
 
 use crate::asserts::{EXAMPLE_COM, LETTER_A, ROOT, assert_holds, assert_octets};
+use crate::encoding::encoding_after;
 use crate::steps::Answer::{Done, ShortBuf};
-use crate::steps::{ADDRESS, Ask, Call, Case, EMPTY, push_question, run};
+use crate::steps::{ADDRESS, Ask, Call, Case, EMPTY, push_question, run, run_on};
 use arrayvec::ArrayVec;
 use dns_build::{MessageBuilder, QuestionBuilder};
 use dns_code::Rtype;
@@ -14,6 +15,7 @@ use dns_target::{
 use dns_wire::{AppendError, CloneTarget, Composer, FreezeBuilder, Name};
 use std::alloc::Global;
 use std::process::Abort;
+use tests_plain::Rule;
 
 /// A target.
 #[derive(Clone, Copy)]
@@ -48,22 +50,42 @@ impl Target {
     }
 }
 
+/// Makes the calls of a case on an empty target. Fails unless it has the encoding, by this rule, of
+/// the message's items then.
+fn run_by<T: Composer>(
+    rt: &impl Abort,
+    alloc: Global,
+    row: &str,
+    rule: Rule,
+    target: T,
+    case: &Case,
+) {
+    let builder = MessageBuilder::from_target(target).expect(rt, row);
+    let target = run_on(rt, alloc, row, builder, case);
+    let expected = encoding_after(rt, alloc, rule, case);
+    assert_octets(rt, row, target.as_slice(), &expected);
+}
+
 /// Makes the calls of a case on an empty target.
 fn run_over(rt: &impl Abort, alloc: Global, row: &str, target: Target, case: &Case) {
     let vector = Vec::new(alloc);
     match target {
-        Target::Plain => run(rt, alloc, row, vector, case),
-        Target::Static => run(rt, alloc, row, StaticCompressor::new(vector), case),
-        Target::Tree => run(rt, alloc, row, TreeCompressor::new(alloc, vector), case),
-        Target::Hash => run(rt, alloc, row, HashCompressor::new(alloc, vector), case),
+        Target::Plain => run_by(rt, alloc, row, Rule::Plain, vector, case),
+        Target::Static => {
+            let target = StaticCompressor::new(vector);
+            run_by(rt, alloc, row, Rule::Static, target, case);
+        }
+        Target::Tree => {
+            let target = TreeCompressor::new(alloc, vector);
+            run_by(rt, alloc, row, Rule::Tree, target, case);
+        }
+        Target::Hash => {
+            let target = HashCompressor::new(alloc, vector);
+            run_by(rt, alloc, row, Rule::Hash, target, case);
+        }
         Target::Fingerprint => {
-            run(
-                rt,
-                alloc,
-                row,
-                FingerprintCompressor::new(alloc, vector),
-                case,
-            );
+            let target = FingerprintCompressor::new(alloc, vector);
+            run_by(rt, alloc, row, Rule::Tree, target, case);
         }
     }
 }
@@ -430,26 +452,29 @@ fn forgets_a_refused_record(rt: HostRuntime) {
     let alloc = rt.alloc();
     let case = &REFUSED_RECORD;
     let target = StaticCompressor::new(ArrayVec::<u8, 60>::new());
-    run(
+    run_by(
         &rt,
         alloc,
         "A refused record forgets only itself, over a static compressor",
+        Rule::Static,
         target,
         case,
     );
     let target = TreeCompressor::new(alloc, ArrayVec::<u8, 60>::new());
-    run(
+    run_by(
         &rt,
         alloc,
         "A refused record forgets only itself, over a tree compressor",
+        Rule::Tree,
         target,
         case,
     );
     let target = HashCompressor::new(alloc, ArrayVec::<u8, 60>::new());
-    run(
+    run_by(
         &rt,
         alloc,
         "A refused record forgets only itself, over a hash compressor",
+        Rule::Hash,
         target,
         case,
     );
@@ -493,9 +518,9 @@ fn assert_within<const N: usize>(rt: &impl Abort, alloc: Global)
     let row = format!(in alloc; "an array of {N} octets").expect(rt, "memory");
     match N {
         0..12 => assert_no_header(rt, &row, target),
-        12..29 => run(rt, alloc, &row, target, &NO_QUESTION),
-        29..45 => run(rt, alloc, &row, target, &NO_ANSWER),
-        _ => run(rt, alloc, &row, target, &CAPACITY_FOR_ALL),
+        12..29 => run_by(rt, alloc, &row, Rule::Static, target, &NO_QUESTION),
+        29..45 => run_by(rt, alloc, &row, Rule::Static, target, &NO_ANSWER),
+        _ => run_by(rt, alloc, &row, Rule::Static, target, &CAPACITY_FOR_ALL),
     }
 }
 

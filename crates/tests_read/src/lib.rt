@@ -1,5 +1,6 @@
 //! Tests of reading messages: sections, cursors, iterators and searches. The expected values come
-//! from outside this library.
+//! from outside this library. Canonical names, sole questions, answers to queries, OPT records and
+//! changed TTLs are in the cases of `cases_runs`.
 //!
 //! Nothing is exported. A module tests what it is named after, and `hostile` untrusted input beside
 //! a plain reader; `asserts` has what many of the others use, and `callers` proved callers. The
@@ -10,8 +11,6 @@
 mod asserts;
 #[cfg(test)]
 mod callers;
-#[cfg(test)]
-mod canonical_name;
 #[cfg(test)]
 mod hostile;
 #[cfg(test)]

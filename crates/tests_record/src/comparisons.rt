@@ -1,14 +1,13 @@
-//! Comparisons of questions, records, their headers and their RDATA: equality, and two orders, that
-//! of values and that of canonical forms.
-use crate::asserts::{SliceName, assert_alike, assert_less, assert_same, name_of, opaque, options};
+//! Comparisons of questions, headers of records and RDATA: equality, and two orders, that of values
+//! and that of canonical forms. Records, and RDATA as fields, are compared in the cases of
+//! `cases_rdata`.
+use crate::asserts::{assert_alike, assert_less, assert_same, name_of, opaque, options};
 use dns_code::{Class, Rtype};
-use dns_data::{A, Cname, Ns, Soa, UnknownRecordData};
-use dns_item::{Question, Record, RecordHeader, Ttl};
+use dns_data::{A, Cname, Ns, Soa};
+use dns_item::{Question, RecordHeader, Ttl};
 use dns_wire::CanonicalOrd;
 use std::cmp::Ordering;
 use std::process::Abort;
-
-type Opaque = UnknownRecordData<&'static [u8]>;
 
 /// Fails unless the first value precedes the second in canonical order, and each equals itself.
 fn assert_canonical_order<T: CanonicalOrd>(rt: &impl Abort, row: &str, first: &T, second: &T) {
@@ -19,23 +18,6 @@ fn assert_canonical_order<T: CanonicalOrd>(rt: &impl Abort, row: &str, first: &T
     ];
     let expected = [Ordering::Less, Ordering::Greater, Ordering::Equal];
     assert_same(rt, row, orders, expected);
-}
-
-/// A record of 1.2.3.4.
-fn address(rt: &impl Abort, owner: &'static [u8], ttl: Ttl) -> Record<SliceName, A> {
-    Record::new(
-        name_of(rt, owner),
-        Class::IN,
-        ttl,
-        A::from_octets(1, 2, 3, 4),
-    )
-}
-
-#[test]
-fn equality_leaves_out_ttl_and_case(rt: HostRuntime) {
-    let record = address(&rt, b"\x07example\x03com\x00", Ttl::MINUTE);
-    let same = address(&rt, b"\x07EXAMPLE\x03com\x00", Ttl::HOUR);
-    assert_alike(&rt, "Equality leaves out TTL and case", &record, &same);
 }
 
 #[test]
@@ -49,35 +31,6 @@ fn orders_questions_in_two_ways(rt: HostRuntime) {
         &short,
         &long,
     );
-}
-
-/// A record of 1.2.3.4 as opaque data.
-fn record(rt: &impl Abort, owner: &'static [u8], class: Class) -> Record<SliceName, Opaque> {
-    let data = opaque(rt, Rtype::A, b"\x01\x02\x03\x04");
-    Record::new(name_of(rt, owner), class, Ttl::HOUR, data)
-}
-
-#[test]
-fn orders_records_in_two_ways(rt: HostRuntime) {
-    let last_name = record(&rt, b"\x01z\x00", Class::IN);
-    let last_class = record(&rt, b"\x01a\x00", Class::CH);
-    assert_less(
-        &rt,
-        "Two orders of records: by owner",
-        &last_class,
-        &last_name,
-    );
-    assert_canonical_order(
-        &rt,
-        "Two orders of records: by class",
-        &last_name,
-        &last_class,
-    );
-    let first_class = record(&rt, b"\x01A\x00", Class::IN);
-    assert_less(&rt, "classes of one owner", &first_class, &last_class);
-    let ending = record(&rt, b"\x01b\x00", Class::IN);
-    let longer = record(&rt, b"\x01a\x01b\x00", Class::IN);
-    assert_canonical_order(&rt, "owners from the root leftwards", &ending, &longer);
 }
 
 #[test]

@@ -6,6 +6,7 @@ use dns_edns::{BadOptData, LongOptData};
 use dns_item::record::RecordParseError;
 use dns_item::{Record, Ttl};
 use dns_wire::{Name, ParseError, ParsedName, Parser, ShortBuf};
+use fields_text::{Base32, TextError};
 use std::process::Abort;
 
 /// Whether the type `D` accepts the RDATA of this record type.
@@ -68,6 +69,8 @@ fn prints_opaque_data(rt: HostRuntime) {
     assert_prints(&rt, rt.alloc(), "a record", &record, text);
     let data = opaque(&rt, Rtype::TXT, b"");
     assert_prints(&rt, rt.alloc(), "no octet", &data, "\\# 0");
+    // RFC 4648 section 10. No RDATA has a hash without octets.
+    assert_prints(&rt, rt.alloc(), "no octet in base32", &Base32(b""), "");
 }
 
 type ReadingError = RecordParseError<ParseError, LongRecordData>;
@@ -79,6 +82,8 @@ fn prints_errors(rt: HostRuntime) {
     assert_prints(&rt, alloc, "a name", &name, "unexpected end of input");
     let data = ReadingError::Data(LongRecordData);
     assert_prints(&rt, alloc, "RDATA", &data, "record data too long");
+    let memory = TextError::OutOfMemory;
+    assert_prints(&rt, alloc, "a text", &memory, "out of memory");
 }
 
 #[test]

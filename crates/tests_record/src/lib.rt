@@ -1,5 +1,7 @@
-//! Tests of items and OPT records: questions, record data, data types of the tests' own, OPT
-//! records and what is gathered for one. The expected values come from outside this library.
+//! Tests of items and OPT records: questions, record data, data types of the tests' own, RDATA from
+//! native values, OPT records and what is gathered for one. The expected values come from outside
+//! this library. Texts of questions, octets of options, and RDATA of each type are in the cases of
+//! `cases_rdata`.
 //!
 //! Nothing is exported. A module tests what it is named after; `asserts` has what many tests use,
 //! and `char_str` and `fields` what the data types of the tests' own share. The rows of a table
@@ -27,6 +29,8 @@ mod items;
 #[cfg(test)]
 mod lp;
 #[cfg(test)]
+mod many_words;
+#[cfg(test)]
 mod mx;
 #[cfg(test)]
 mod naptr;
@@ -34,3 +38,5 @@ mod naptr;
 mod opt;
 #[cfg(test)]
 mod questions;
+#[cfg(test)]
+mod values_made;

@@ -1,6 +1,5 @@
-//! Readers of many words. The cases of `cases_rdata` have all other words, which reach the readers
-//! by the type of the RDATA.
-use crate::text::asserts::assert_octets;
+//! Readers of many words and values, which take time and stack that don't grow faster.
+use crate::asserts::assert_octets;
 use fields_read::{push_type_map, read_host_identity, read_prefixes, read_small_type_map};
 use fields_read_parameters::read_parameters;
 use std::alloc::Global;

@@ -1,17 +1,15 @@
-//! RDATA from native values, against octets of the RFCs.
+//! RDATA from native values, against octets of the RFCs. Values of all types, from their cases, are
+//! made into RDATA in `cases_rdata`.
+use crate::asserts::{assert_octets, assert_prints, name_of};
 use dns_code::Rtype;
 use dns_data::ComposeRecordData;
+use dns_message::fields::{
+    AddressPrefix, NewValue, OwnedFieldData, TypeMap, ValueError, from_values,
+};
+use dns_message::make::{aaaa, caa, ds, https, mx, srv, text, txt};
 use dns_wire::{Name, ToName};
-use fields_octets::OwnedFieldData;
-use fields_print::{AddressPrefix, TypeMap};
-use fields_values::{NewValue, ValueError, aaaa, caa, ds, from_values, https, mx, srv, text, txt};
 use std::alloc::Global;
 use std::process::Abort;
-
-/// The name of these octets.
-fn name(rt: &impl Abort, octets: &'static [u8]) -> Name<&'static [u8]> {
-    Name::from_octets(octets).expect(rt, "a name")
-}
 
 /// The data has these octets.
 fn assert_made(
@@ -24,14 +22,14 @@ fn assert_made(
     let owned = made.expect(rt, row);
     let mut octets = Vec::new(alloc);
     owned.compose_rdata(&mut octets).expect(rt, row);
-    assert_eq!(rt; octets.as_slice(), expected, "{row}");
+    assert_octets(rt, row, octets.as_slice(), expected);
 }
 
 #[test]
 fn makes_one_type(rt: HostRuntime) {
     let alloc = rt.alloc();
     // RFC 1035 section 5.3
-    let host = name(&rt, b"\x06VENERA\x03ISI\x03EDU\x00");
+    let host = name_of(&rt, b"\x06VENERA\x03ISI\x03EDU\x00");
     let mail = b"\x00\x0a\x06VENERA\x03ISI\x03EDU\x00";
     assert_made(&rt, alloc, "mx", mx(alloc, 10, &host), mail);
     let address = *b"\x20\x01\x0d\xb8\x00\x00\x00\x00\x00\x00\x00\x00\x00\x00\x00\x01";
@@ -40,7 +38,7 @@ fn makes_one_type(rt: HostRuntime) {
     let made = txt(alloc, &strings);
     assert_made(&rt, alloc, "txt", made, b"\x06v=spf1\x00\x04-all");
     // RFC 2782: foobar in example.com, old-slow-box
-    let server = name(&rt, b"\x0cold-slow-box\x07example\x03com\x00");
+    let server = name_of(&rt, b"\x0cold-slow-box\x07example\x03com\x00");
     let service = b"\x00\x00\x00\x01\x00\x09\x0cold-slow-box\x07example\x03com\x00";
     assert_made(&rt, alloc, "srv", srv(alloc, 0, 1, 9, &server), service);
     // RFC 8659 section 4
@@ -52,7 +50,7 @@ fn makes_one_type(rt: HostRuntime) {
         b"\xec\x45\x05\x01\x2b\xb1\x83\xaf\x5f\x22\x58\x81\x79\xa5\x3b\x0a\x98\x63\x1f\xad\x1a\x29\x21\x18";
     assert_made(&rt, alloc, "ds", ds(alloc, 60485, 5, 1, sum), digest);
     // RFC 9460 appendix D.2, figure 4
-    let target = name(&rt, b"\x03foo\x07example\x03com\x00");
+    let target = name_of(&rt, b"\x03foo\x07example\x03com\x00");
     let made = https(alloc, 16, &target, &[(3, b"\x00\x35")]);
     let endpoint = b"\x00\x10\x03foo\x07example\x03com\x00\x00\x03\x00\x02\x00\x35";
     assert_made(&rt, alloc, "https", made, endpoint);
@@ -62,7 +60,7 @@ fn makes_one_type(rt: HostRuntime) {
 fn makes_lists(rt: HostRuntime) {
     let alloc = rt.alloc();
     // RFC 4034 section 4.3, the types in another order
-    let next = name(&rt, b"\x04host\x07example\x03com\x00");
+    let next = name_of(&rt, b"\x04host\x07example\x03com\x00");
     let types = [
         Rtype::from_int(1234),
         Rtype::NSEC,
@@ -127,7 +125,7 @@ fn assert_refused(
 #[test]
 fn says_what_is_wrong(rt: HostRuntime) {
     let alloc = rt.alloc();
-    let root = name(&rt, b"\x00");
+    let root = name_of(&rt, b"\x00");
     let one = [NewValue::Name(root.as_parsed())];
     assert_refused(&rt, alloc, Rtype::MX, &one, ValueError::WrongCount);
     let large = [NewValue::Number(65536), NewValue::Number(1)];
@@ -151,7 +149,7 @@ fn refuses_long_strings(rt: HostRuntime) {
     let strings: [&[u8]; 2] = [&long[..0], &long[..256]];
     let made = txt(alloc, &strings);
     assert_eq!(rt; made.err(), Some(ValueError::OutOfRange(0)));
-    let root = name(&rt, b"\x00");
+    let root = name_of(&rt, b"\x00");
     let parameters: [(u16, &[u8]); 2] = [(3, &long[..2]), (7, &long)];
     let made = https(alloc, 1, &root, &parameters);
     assert_eq!(rt; made.err(), Some(ValueError::OutOfRange(2)));
@@ -177,25 +175,6 @@ fn refuses_long_prefixes(rt: HostRuntime) {
     assert_refused(&rt, alloc, Rtype::APL, &values, ValueError::OutOfRange(0));
 }
 
-/// RDATA of TSIG (RFC 8945 section 4.2).
-#[test]
-fn makes_tsig(rt: HostRuntime) {
-    let alloc = rt.alloc();
-    let root = Name::root_slice();
-    let values = [
-        NewValue::Name(root.as_parsed()),
-        NewValue::Number(0x010203040506),
-        NewValue::Number(300),
-        NewValue::Sized(b"mac"),
-        NewValue::Number(0x1234),
-        NewValue::Number(16),
-        NewValue::Sized(b""),
-    ];
-    let octets = b"\x00\x01\x02\x03\x04\x05\x06\x01\x2c\x00\x03mac\x12\x34\x00\x10\x00\x00";
-    let made = from_values(alloc, Rtype::TSIG, &values);
-    assert_made(&rt, alloc, "TSIG", made, octets);
-}
-
 /// One octet more than a length of 16 bits counts.
 const LONG: &[u8] = &[97; 65536];
 
@@ -216,84 +195,19 @@ fn refuses_a_long_mac(rt: HostRuntime) {
     assert_refused(&rt, alloc, Rtype::TSIG, &values, ValueError::OutOfRange(3));
 }
 
-/// RDATA of TKEY (RFC 2930 section 2).
-#[test]
-fn makes_tkey(rt: HostRuntime) {
-    let alloc = rt.alloc();
-    let root = Name::root_slice();
-    let values = [
-        NewValue::Name(root.as_parsed()),
-        NewValue::Number(0x01020303),
-        NewValue::Number(0x01020304),
-        NewValue::Number(3),
-        NewValue::Number(0),
-        NewValue::Sized(b"key"),
-        NewValue::Sized(b""),
-    ];
-    let octets = b"\x00\x01\x02\x03\x03\x01\x02\x03\x04\x00\x03\x00\x00\x00\x03key\x00\x00";
-    let made = from_values(alloc, Rtype::TKEY, &values);
-    assert_made(&rt, alloc, "TKEY", made, octets);
-}
-
-/// RDATA of SIG and RRSIG (RFC 4034 section 3.1).
-#[test]
-fn makes_signatures(rt: HostRuntime) {
-    let alloc = rt.alloc();
-    let root = Name::root_slice();
-    let values = [
-        NewValue::RecordType(Rtype::A),
-        NewValue::Number(5),
-        NewValue::Number(3),
-        NewValue::Number(86400),
-        NewValue::Number(0x01020304),
-        NewValue::Number(0x01020303),
-        NewValue::Number(2642),
-        NewValue::Name(root.as_parsed()),
-        NewValue::Octets(b"signature"),
-    ];
-    let octets =
-        b"\x00\x01\x05\x03\x00\x01\x51\x80\x01\x02\x03\x04\x01\x02\x03\x03\x0a\x52\x00signature";
-    for rtype in [Rtype::SIG, Rtype::RRSIG] {
-        let made = from_values(alloc, rtype, &values);
-        assert_made(&rt, alloc, "a signature", made, octets);
-    }
-}
-
-/// RDATA with IPv4 addresses (RFC 1035 section 3.4.1, RFC 6742 section 2.2).
-#[test]
-fn makes_addresses(rt: HostRuntime) {
-    let alloc = rt.alloc();
-    let made = from_values(alloc, Rtype::A, &[NewValue::Ipv4([192, 0, 2, 1])]);
-    assert_made(&rt, alloc, "A", made, b"\xc0\x00\x02\x01");
-    let values = [NewValue::Number(10), NewValue::Ipv4([10, 1, 2, 0])];
-    let made = from_values(alloc, Rtype::L32, &values);
-    assert_made(&rt, alloc, "L32", made, b"\x00\x0a\x0a\x01\x02\x00");
-}
-
-/// An error prints this.
-fn assert_prints(rt: &impl Abort, alloc: Global, error: ValueError, expected: &str) {
-    let printed = format!(in alloc; "{error}").expect(rt, "memory");
-    assert_eq!(rt; printed.as_str(), expected);
-}
-
 #[test]
 fn prints_errors(rt: HostRuntime) {
     let alloc = rt.alloc();
-    assert_prints(&rt, alloc, ValueError::WrongCount, "wrong number of values");
-    assert_prints(
-        &rt,
-        alloc,
-        ValueError::WrongKind(1),
-        "wrong kind of value 1",
-    );
-    assert_prints(
-        &rt,
-        alloc,
-        ValueError::OutOfRange(2),
-        "value 2 out of range",
-    );
-    assert_prints(&rt, alloc, ValueError::TooLong, "record data too long");
-    assert_prints(&rt, alloc, ValueError::OutOfMemory, "out of memory");
+    let count = ValueError::WrongCount;
+    assert_prints(&rt, alloc, "a count", &count, "wrong number of values");
+    let kind = ValueError::WrongKind(1);
+    assert_prints(&rt, alloc, "a kind", &kind, "wrong kind of value 1");
+    let range = ValueError::OutOfRange(2);
+    assert_prints(&rt, alloc, "a range", &range, "value 2 out of range");
+    let length = ValueError::TooLong;
+    assert_prints(&rt, alloc, "a length", &length, "record data too long");
+    let memory = ValueError::OutOfMemory;
+    assert_prints(&rt, alloc, "memory", &memory, "out of memory");
 }
 
 #[test]

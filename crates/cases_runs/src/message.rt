@@ -1,0 +1,164 @@
+//! What calls of the library return for a message, or for arguments.
+ghost use Rattle.std.specs.Prelude.{◌<◌, IfOk, IsTrue, length};
+
+use crate::opt::opt_line;
+use crate::run::{Run, words_of};
+use cases_files::{Report, key_of, octets_of};
+use dns_edit::{EditError, TtlChange, age_ttls, cap_ttls, change_ttls, min_ttl};
+use dns_item::Ttl;
+use dns_read::Message;
+use dnsview_tool::{file_of, rows};
+use std::alloc::{AllocError, Global};
+use std::io;
+use std::io::Write;
+
+/// Whether a key is one of the checks here.
+pub(crate) fn is_call(key: &str) -> bool {
+    matches!(
+        key,
+        "opt"
+            | "rcode"
+            | "canonical"
+            | "sole"
+            | "is-answer"
+            | "same-questions"
+            | "age"
+            | "cap"
+            | "change-cap"
+            | "least"
+            | "file"
+            | "rows"
+    )
+}
+
+/// Checks a line of a case that says what a call returns, if it is one.
+pub(crate) fn check_call<W: Write + Drop>(
+    alloc: Global,
+    report: &mut Report<'_, W>,
+    run: &Run<'_>,
+    line: &str,
+) -> io::Result<()> {
+    let (key, text) = key_of(line);
+    if !is_call(key) {
+        return Ok(());
+    }
+    let shown = match key {
+        "opt" => opt_line(alloc, run.input.as_slice())?,
+        "file" => file_shown(alloc, text)?,
+        "rows" => rows_shown(alloc, text)?,
+        _ => message_shown(alloc, run, key, text)?,
+    };
+    report.check(line, text.as_bytes(), shown.as_bytes())
+}
+
+/// Arguments of `dnsview`, and after `=` the file that they ask a view of.
+fn file_shown(alloc: Global, text: &str) -> io::Result<String> {
+    let (words, _) = text.split_once('=').unwrap_or((text, ""));
+    let arguments = words_of(alloc, words)?;
+    let file = file_of(&arguments).map_or("", |file| file.as_str());
+    let space = if file.is_empty() { "" } else { " " };
+    Ok(format!(in alloc; "{words}={space}{file}")?)
+}
+
+/// Whether one row shows the whole message. It does if the message has fewer than 12 octets.
+fn is_one_row(alloc: Global, octets: &[u8]) -> Result<bool, AllocError>
+    ensures { length octets.now < 12 → IfOk result (λ one. IsTrue one) }
+{
+    Ok(rows(alloc, octets)?.len() == 1)
+}
+
+/// Octets, and after `=` whether one row shows them, or more.
+fn rows_shown(alloc: Global, text: &str) -> io::Result<String> {
+    let (digits, _) = text.split_once('=').unwrap_or((text, ""));
+    let Some(octets) = octets_of(alloc, digits)? else {
+        return Ok(String::from_str(alloc, "bad digits")?);
+    };
+    let number = if is_one_row(alloc, octets.as_slice())? {
+        "one"
+    } else {
+        "more"
+    };
+    Ok(format!(in alloc; "{digits}= {number}")?)
+}
+
+/// What a call returns for the message of a case.
+fn message_shown(alloc: Global, run: &Run<'_>, key: &str, text: &str) -> io::Result<String> {
+    let Ok(message) = Message::from_slice(run.message.as_slice()) else {
+        return Ok(String::from_str(alloc, "short message")?);
+    };
+    match key {
+        "rcode" => Ok(format!(in alloc; "{}", message.opt_rcode().to_int())?),
+        "canonical" => canonical_shown(alloc, &message),
+        "sole" => sole_shown(alloc, &message),
+        "least" => least_shown(alloc, &message),
+        "age" | "cap" | "change-cap" => changed_shown(alloc, run, key, text),
+        _ => Ok(String::from_str(alloc, pair_word(run, key, &message))?),
+    }
+}
+
+/// The canonical name, or "none".
+fn canonical_shown(alloc: Global, message: &Message<&[u8]>) -> io::Result<String> {
+    match message.canonical_name() {
+        Some(name) => Ok(format!(in alloc; "{name}.")?),
+        None => Ok(String::from_str(alloc, "none")?),
+    }
+}
+
+/// The type of the sole question, or why there is none.
+fn sole_shown(alloc: Global, message: &Message<&[u8]>) -> io::Result<String> {
+    match message.sole_question() {
+        Ok(question) => Ok(format!(in alloc; "{}", question.qtype().to_int())?),
+        Err(error) => Ok(format!(in alloc; "{error}")?),
+    }
+}
+
+/// The least TTL in seconds, "none", or why it can't be read.
+fn least_shown(alloc: Global, message: &Message<&[u8]>) -> io::Result<String> {
+    match min_ttl(message) {
+        Ok(Some(ttl)) => Ok(format!(in alloc; "{}", ttl.as_secs())?),
+        Ok(None) => Ok(String::from_str(alloc, "none")?),
+        Err(error) => Ok(format!(in alloc; "{error}")?),
+    }
+}
+
+/// Whether the message is an answer to the other one, or their questions are the same.
+fn pair_word(run: &Run<'_>, key: &str, message: &Message<&[u8]>) -> &'static str {
+    let Ok(other) = Message::from_slice(run.other.as_slice()) else {
+        return "short message";
+    };
+    let holds = if key == "is-answer" {
+        message.is_answer(&other)
+    } else {
+        message.question().same_questions(&other.question())
+    };
+    if holds { "yes" } else { "no" }
+}
+
+/// A number of seconds, and after `=` the message with its TTLs changed by it, or why they can't
+/// be.
+fn changed_shown(alloc: Global, run: &Run<'_>, key: &str, text: &str) -> io::Result<String> {
+    let (number, _) = text.split_once(' ').unwrap_or((text, ""));
+    let Ok(seconds) = number.parse::<u32>() else {
+        return Ok(String::from_str(alloc, "bad number")?);
+    };
+    let Ok(mut message) = Message::from_octets(Vec::from_slice(alloc, run.message.as_slice())?)
+    else {
+        return Ok(String::from_str(alloc, "short message")?);
+    };
+    match change(&mut message, key, seconds) {
+        Ok(()) => {
+            let digits = hex::encode(alloc, message.as_slice())?;
+            Ok(format!(in alloc; "{number} = {digits}")?)
+        }
+        Err(error) => Ok(format!(in alloc; "{number} = {error}")?),
+    }
+}
+
+/// Changes the TTLs of a message by the call that the key says.
+fn change(message: &mut Message<Vec<u8>>, key: &str, seconds: u32) -> Result<(), EditError> {
+    match key {
+        "age" => age_ttls(message, seconds),
+        "cap" => cap_ttls(message, Ttl::from_secs(seconds)),
+        _ => change_ttls(message, TtlChange::Cap(Ttl::from_secs(seconds))),
+    }
+}
