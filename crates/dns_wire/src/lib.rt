@@ -1,8 +1,10 @@
-//! Octets of DNS messages and the names in them: what is read (`dns_octets`, `dns_name`), and the
-//! targets that messages are written to.
+//! What messages are written to: [`Composer`], the trait of all targets, and those that don't
+//! compress names: vectors, arrays and [`StreamTarget`]. What is written to a target reads back
+//! unchanged, under every rule of compression (RFC 1035 section 4.1.4): [`target_laws`].
 //!
-//! What is written to a target reads back unchanged, under every rule of compression (RFC 1035
-//! section 4.1.4).
+//! [`ToNameExt`] compares names, and writes their canonical form. [`CanonicalOrd`] is the
+//! canonical order of record data, records and questions (RFC 4034 section 6). What reads octets
+//! and names is exported from `dns_octets` and `dns_name`.
 #![tactic(auto)]
 
 mod canonical_ord;

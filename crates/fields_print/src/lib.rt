@@ -1,5 +1,10 @@
-//! Record data of each type of the table of `fields_octets` in presentation format (RFC 1035 section 5.1).
-//! Printing allocates no memory. It goes to any `TextWriter`, and fails only if the writer does.
+//! Records and their RDATA as text, as in a zone file (RFC 1035 section 5.1): the fields of each
+//! type in the table of `fields_octets`, or octets in hexadecimal digits if a field has no text
+//! (RFC 3597 section 5). Printing allocates no memory. It goes to any `TextWriter`, and fails only
+//! if the writer does, or for an address prefix without a text.
+//!
+//! [`Strings`], [`Types`], [`Parameters`] and [`AddressPrefixes`] iterate over the items of a
+//! field.
 #![tactic(auto)]
 
 mod address;

@@ -1,5 +1,4 @@
-//! EUI-48 and EUI-64 addresses (RFC 7043), and 64-bit locators (RFC 6742 section 2.1.2). The addresses
-//! of IPv4 and IPv6 are std's.
+//! EUI-48 and EUI-64 addresses (RFC 7043), and 64-bit locators (RFC 6742 section 2.1.2).
 ghost use Rattle.std.specs.Prelude.{OnErr, Some, ◌≤◌, length};
 ghost use Rattle.std.specs.List.{flat_map};
 ghost use Rattle.dns_print.specs.Printing.{PrintsOnOk};

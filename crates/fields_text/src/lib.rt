@@ -1,9 +1,11 @@
-//! Values of record data in presentation format: each is printed by its `Display`, and to any
-//! `TextWriter` by a function that fails only if the writer does, without allocating memory. What is
-//! printed is a definition of specs/. Numbers, octets and strings are read from a word.
+//! Values of record data in presentation format: hexadecimal and base32 digits, quoted strings,
+//! tags, times, locations, EUI addresses and 64-bit locators. Each is printed by its `Display`,
+//! and to any `TextWriter` by a function that fails only if the writer does, without allocating
+//! memory. What is printed is a definition of specs/. Numbers, strings, and hexadecimal and base64
+//! digits are read from a word.
 //!
-//! Addresses of IPv4 and IPv6 are std's, base64 is that of the crate `base64`, and names are those of
-//! `dns_name`.
+//! Other crates print the rest: `dns_print` numbers and IPv4 addresses; `fields_print` IPv6
+//! addresses, base64 and names.
 #![tactic(auto)]
 
 mod address;
