@@ -9,7 +9,7 @@ use dns_wire::Composer;
 /// The first twelve octets of a message: the header, then the counts (RFC 1035 section 4.1.1).
 #[derive(Clone, Copy, Debug, PartialEq, Eq)]
 pub struct HeaderSection {
-    octets: [u8; 12],
+    octets: [u8; HeaderSection::LEN],
 }
 
 /// All bits are 0, as in `HeaderSection::new`.
@@ -38,7 +38,9 @@ impl HeaderSection {
     pub fn new() -> Self
         ensures { section_octets result ≡ replicate header_size 0 }
     {
-        HeaderSection { octets: [0; 12] }
+        HeaderSection {
+            octets: [0; HeaderSection::LEN],
+        }
     }
 
     /// Copies the header section of a message, its first twelve octets.
@@ -46,7 +48,7 @@ impl HeaderSection {
         requires { header_size ≤ length message.now }
         ensures { section_octets result ≡ take header_size message.now }
     {
-        let mut octets = [0; 12];
+        let mut octets = [0; HeaderSection::LEN];
         octets.copy_from_slice(&message[..HeaderSection::LEN]);
         HeaderSection { octets }
     }

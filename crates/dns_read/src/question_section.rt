@@ -8,7 +8,7 @@ ghost use Rattle.dns_read.specs.Skipping.{SkipsAll};
 
 use crate::record_section::RecordSection;
 use crate::section::Section;
-use dns_code::HeaderCounts;
+use dns_code::{HeaderCounts, HeaderSection};
 use dns_item::Question;
 use dns_name::{CachedName, ParsedName, Parser, cached_at};
 use dns_octets::ParseError;
@@ -46,7 +46,7 @@ impl<'a> QuestionSection<'a> {
             ≡ questions_from octets.now (question_count octets.now) header_size }
     {
         let mut parser = Parser::new(octets);
-        parser.advance(12).unwrap();
+        parser.advance(HeaderSection::LEN).unwrap();
         QuestionSection {
             parser,
             left: Ok(HeaderCounts::for_message_slice(octets).qdcount()),

@@ -14,10 +14,7 @@ use dns_data::{ComposeRecordData, ParseAnyRecordData, RecordData};
 use dns_iana::Rtype;
 use dns_name::Parser;
 use dns_octets::{AppendError, ParseError};
-use dns_wire::Composer;
-
-/// The maximum size of RDATA, in octets.
-pub(crate) const MOST: usize = 65535;
+use dns_wire::{Composer, MAX_OCTETS};
 
 /// RDATA of any record type, as a view of the message. Nothing is copied.
 #[derive(Clone, Copy, Debug)]
@@ -89,7 +86,7 @@ impl<'a> ParseAnyRecordData<'a> for FieldData<'a> {
     fn parse_any_rdata(rtype: Rtype, parser: &mut Parser<'a>) -> Result<Self, ParseError> {
         let fields = fields_of(rtype.to_int());
         let skipped = skip(fields, *parser)?;
-        if skipped.size > MOST {
+        if skipped.size > MAX_OCTETS {
             return Err(ParseError::ShortInput);
         }
         let data = FieldData {

@@ -6,7 +6,6 @@ ghost use Rattle.fields_octets.specs.Layouts.{most, rest_is_last};
 ghost use Rattle.fields_octets.specs.Table.{Definition, definitions, kinds_in};
 
 use crate::compose::compose;
-use crate::field_data::MOST;
 use crate::fields::Fields;
 use crate::kind::Kind;
 use crate::skip::skip;
@@ -14,7 +13,7 @@ use dns_data::{ComposeRecordData, ParseRecordData, RecordData};
 use dns_iana::Rtype;
 use dns_name::Parser;
 use dns_octets::{AppendError, ParseError};
-use dns_wire::Composer;
+use dns_wire::{Composer, MAX_OCTETS};
 use std::alloc::AllocError;
 use std::fmt::{self, Write};
 use std::marker::PhantomData;
@@ -93,7 +92,7 @@ impl<'a, T: RecordFields> ParseRecordData<'a> for DataOf<'a, T> {
             return Ok(None);
         }
         let skipped = skip(T::fields(), *parser)?;
-        if skipped.size > MOST {
+        if skipped.size > MAX_OCTETS {
             return Err(ParseError::ShortInput);
         }
         let data = DataOf {

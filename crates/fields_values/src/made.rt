@@ -8,12 +8,10 @@ use crate::new_value::NewValue;
 use crate::push::push_value;
 use crate::value_error::{Refusal, ValueError};
 use dns_iana::Rtype;
+use dns_wire::MAX_OCTETS;
 use fields_octets::laws::{made_parts_read_back, rest_fields_are_last};
 use fields_octets::{Kind, OwnedFieldData, fields_of, owned_data};
 use std::alloc::Global;
-
-/// The maximum length of RDATA, in octets (RFC 1035 section 3.2.1).
-const MOST: usize = 65535;
 
 /// The error of the value at this index.
 fn error_at(refusal: Refusal, index: usize) -> ValueError
@@ -75,7 +73,7 @@ pub fn from_values(
     if let Err(error) = push_values(alloc, &mut octets, fields, values, 0) {
         return Err(error);
     }
-    if octets.len() > MOST {
+    if octets.len() > MAX_OCTETS {
         return Err(ValueError::TooLong);
     }
     Ok(owned_data(rtype, octets))

@@ -4,9 +4,9 @@ use Rattle.fields_octets.specs.Table.{definitions_of}
 use Rattle.fields_values.proofs.MadeLemmas.{error_of, have_values, short, there, too_long, whole_octets}
 use Rattle.fields_values.proofs.made.from_values.Goals as goal
 
-pub returns-then-len-gt-MOST : goal.returns-then-len-gt-MOST
-returns-then-len-gt-MOST c =
-    let many : most < length c.push_values.new.octets.items = omega (arith, c.len.ensures, c.if-len-gt-MOST.true, c.push_values.new.octets.ok.0) in
+pub returns-then-len-gt-MAX_OCTETS : goal.returns-then-len-gt-MAX_OCTETS
+returns-then-len-gt-MAX_OCTETS c =
+    let many : most < length c.push_values.new.octets.items = omega (arith, c.len.ensures, c.if-len-gt-MAX_OCTETS.true, c.push_values.new.octets.ok.0) in
     too_long c.made_parts_read_back.ensures c.rest_fields_are_last.ensures c.args.rtype c.args.values.now c.push_values.new.octets.items
     (whole_octets c.args.rtype c.fields_of-fields.result.now c.args.values.now c.new-octets.result.items c.push_values.new.octets.items
     (c.fields_of-fields.ensures ∙ ap definitions_of c.to_int.ensures) c.new-octets.ensures.items c.in_default.ensures) many
@@ -19,7 +19,7 @@ owned_data-requires-clause-encoded c =
 
 pub owned_data-requires-clause-short : goal.owned_data-requires-clause-short
 owned_data-requires-clause-short c =
-    let few : length c.push_values.new.octets.items ≤ most = omega (arith, c.len.ensures, c.if-len-gt-MOST.false, c.push_values.new.octets.ok.0) in
+    let few : length c.push_values.new.octets.items ≤ most = omega (arith, c.len.ensures, c.if-len-gt-MAX_OCTETS.false, c.push_values.new.octets.ok.0) in
     short c.made_parts_read_back.ensures c.rest_fields_are_last.ensures c.args.rtype c.args.values.now c.push_values.new.octets.items
     (whole_octets c.args.rtype c.fields_of-fields.result.now c.args.values.now c.new-octets.result.items c.push_values.new.octets.items
     (c.fields_of-fields.ensures ∙ ap definitions_of c.to_int.ensures) c.new-octets.ensures.items c.in_default.ensures) few

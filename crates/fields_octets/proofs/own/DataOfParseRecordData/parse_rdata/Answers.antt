@@ -6,11 +6,11 @@ use Rattle.fields_octets.proofs.own.DataOfParseRecordData.parse_rdata.Goals as g
 
 pub invariant_of-data : goal.invariant_of-data
 invariant_of-data g c =
-    let d = skipped_data c.fields.result.now _ (ap kinds_in c.fields.ensures.defined) c.args.parser.now c.in_ok-skipped.skipped c.in_ok-skipped.ensures c.if-skipped-gt-MOST.false in
+    let d = skipped_data c.fields.result.now _ (ap kinds_in c.fields.ensures.defined) c.args.parser.now c.in_ok-skipped.skipped c.in_ok-skipped.ensures c.if-skipped-gt-MAX_OCTETS.false in
     record { encoded = d.there; short = d.short }
 
 pub returns : goal.returns
 returns g c =
-    let d = skipped_data c.fields.result.now _ (ap kinds_in c.fields.ensures.defined) c.args.parser.now c.in_ok-skipped.skipped c.in_ok-skipped.ensures c.if-skipped-gt-MOST.false in
+    let d = skipped_data c.fields.result.now _ (ap kinds_in c.fields.ensures.defined) c.args.parser.now c.in_ok-skipped.skipped c.in_ok-skipped.ensures c.if-skipped-gt-MAX_OCTETS.false in
     let is : c.args.rtype ≡ g.T.RecordFields.number = search rules in
     rw (eq-eqb c.args.rtype g.T.RecordFields.number is) (sym is, d.encoded, d.moves)
