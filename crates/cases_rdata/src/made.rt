@@ -4,7 +4,7 @@ use dns_data::RecordData;
 use dns_wire::{AppendError, FlattenInto, OctetsFrom};
 use fields_octets::{FieldData, Fields, OwnedFieldData, Value, fields_of};
 use fields_values::{NewValue, from_values};
-use std::alloc::{AllocError, Global};
+use std::alloc::Global;
 use std::io;
 
 impl Case {
@@ -17,7 +17,7 @@ impl Case {
     }
 
     /// Whether copies own the RDATA: "copied", or what is wrong.
-    pub(crate) fn copied(&self, alloc: Global) -> Result<&'static str, AllocError> {
+    pub(crate) fn copied(&self, alloc: Global) -> io::Result<&'static str> {
         match self.data() {
             Ok(data) => copies(alloc, &data),
             Err(_) => Ok("malformed"),
@@ -81,14 +81,14 @@ fn address(octets: &[u8]) -> NewValue<'_> {
 }
 
 /// Copies RDATA in each way: "copied", or which copy isn't the same.
-fn copies(alloc: Global, data: &FieldData<'_>) -> Result<&'static str, AllocError> {
-    if !is_copy(OwnedFieldData::from_field_data(alloc, data), data)? {
+fn copies(alloc: Global, data: &FieldData<'_>) -> io::Result<&'static str> {
+    if !is_copy(alloc, OwnedFieldData::from_field_data(alloc, data), data)? {
         return Ok("not by from_field_data");
     }
-    if !is_copy(OwnedFieldData::try_octets_from(alloc, *data), data)? {
+    if !is_copy(alloc, OwnedFieldData::try_octets_from(alloc, *data), data)? {
         return Ok("not by try_octets_from");
     }
-    if !is_copy(data.try_flatten_into(alloc), data)? {
+    if !is_copy(alloc, data.try_flatten_into(alloc), data)? {
         return Ok("not by try_flatten_into");
     }
     Ok("copied")
@@ -96,16 +96,21 @@ fn copies(alloc: Global, data: &FieldData<'_>) -> Result<&'static str, AllocErro
 
 /// Whether a copy and a clone of it are the same RDATA.
 fn is_copy(
+    alloc: Global,
     copy: Result<OwnedFieldData, AppendError>,
     data: &FieldData<'_>,
-) -> Result<bool, AllocError> {
+) -> io::Result<bool> {
     let Ok(copy) = copy else {
         return Ok(false);
     };
     let clone = copy.clone()?;
-    Ok(
-        copy.rtype() == data.rtype()
-            && copy.as_field_data() == *data
-            && clone.as_field_data() == *data,
-    )
+    Ok(is_same(alloc, &copy, data)? && is_same(alloc, &clone, data)?)
+}
+
+/// Whether RDATA has the type of other RDATA, is equal to it, and is written as it is.
+fn is_same(alloc: Global, owned: &OwnedFieldData, data: &FieldData<'_>) -> io::Result<bool> {
+    if owned.rtype() != data.rtype() || owned.as_field_data() != *data {
+        return Ok(false);
+    }
+    Ok(digits_written(alloc, owned)? == digits_written(alloc, data)?)
 }

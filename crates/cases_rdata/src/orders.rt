@@ -34,6 +34,7 @@ impl Case {
 pub(crate) enum Compared {
     In(Ordering),
     UnlikeEquality,
+    UnlikePartial,
     UnlikeReverse,
 }
 
@@ -54,6 +55,7 @@ impl Compared {
             Compared::In(Ordering::Equal) => "equal",
             Compared::In(Ordering::Greater) => "greater",
             Compared::UnlikeEquality => "another order than equality",
+            Compared::UnlikePartial => "another partial order",
             Compared::UnlikeReverse => "another order both ways",
         }
     }
@@ -62,14 +64,24 @@ impl Compared {
 /// How two values compare. Keys that begin with `canonical` are of the canonical order.
 pub(crate) fn order_of<T: Ord + Hash + CanonicalOrd>(key: &str, first: &T, second: &T) -> Compared {
     if key.starts_with("canonical") {
-        return Compared::both(first.canonical_cmp(second), second.canonical_cmp(first));
+        return canonical_order_of(first, second);
     }
     let order = first.cmp(second);
     let is_equal = order.is_eq();
     if (first == second) != is_equal || (hash_of(first) == hash_of(second)) != is_equal {
         return Compared::UnlikeEquality;
     }
+    if first.partial_cmp(second) != Some(order) {
+        return Compared::UnlikePartial;
+    }
     Compared::both(order, second.cmp(first))
+}
+
+fn canonical_order_of<T: CanonicalOrd>(first: &T, second: &T) -> Compared {
+    if first.canonical_cmp(first).is_ne() {
+        return Compared::UnlikeEquality;
+    }
+    Compared::both(first.canonical_cmp(second), second.canonical_cmp(first))
 }
 
 fn hash_of<T: Hash>(value: &T) -> u64 {

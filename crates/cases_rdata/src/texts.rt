@@ -127,9 +127,10 @@ fn shown_many(alloc: Global, line: &str, word: &str) -> io::Result<String> {
     Ok(format!(in alloc; "{} {word}", words.len())?)
 }
 
-/// The words of a line with `|` between them, or why it has none.
+/// The words of a line with `|` between them, `(none)` for no words, or why they are malformed.
 fn shown_words(alloc: Global, line: &str) -> io::Result<String> {
     match split_words(alloc, line) {
+        Ok(words) if words.is_empty() => Ok(String::from_str(alloc, "(none)")?),
         Ok(words) => Ok(words.as_slice().join(alloc, "|")?),
         Err(error) => Ok(format!(in alloc; "{error}")?),
     }
