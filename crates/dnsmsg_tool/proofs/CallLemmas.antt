@@ -158,19 +158,7 @@ IsRecordStage InAdditional = ⊤
 module _ {N : Type 0} (labels : N → Labels) where
   -- Before the sections, no item is pushed.
   none_before : (words : LineWords) → (call : Call (Question N) (Record N ScriptData)) → ¬ (ArePushWords labels InBuilder words call)
-  none_before words ToBuilder is = is
-  none_before words ToQuestion is = is
-  none_before words ToAnswer is = is
-  none_before words ToAuthority is = is
-  none_before words ToAdditional is = is
-  none_before words Rewind is = is
-  none_before words TcRewind is = is
-  none_before words ClearLimit is = is
-  none_before words (PushQuestion x) is = is
-  none_before words (PushRecord x) is = is
-  none_before words (PushOpt plan) is = is
-  none_before words (SetHeader new) is = is
-  none_before words (SetLimit n) is = is
+  none_before words call is = is
 
   -- The same, by the kind of the stage.
   pub no_push_before : (kind : state.Stage) (words : LineWords) → kind ≡ InBuilder → (call : Call (Question N) (Record N ScriptData)) → ¬ (ArePushWords labels kind words call)
@@ -232,32 +220,8 @@ module _ {N : Type 0} (labels : N → Labels) where
   no_push_record InBuilder words here none call is = absurd here
   no_push_record InQuestion words here none call is = absurd here
   no_push_record InAnswer words here none call is = no_push_at words none call is
-  no_push_record InAuthority words here none ToBuilder is = is
-  no_push_record InAuthority words here none ToQuestion is = is
-  no_push_record InAuthority words here none ToAnswer is = is
-  no_push_record InAuthority words here none ToAuthority is = is
-  no_push_record InAuthority words here none ToAdditional is = is
-  no_push_record InAuthority words here none Rewind is = is
-  no_push_record InAuthority words here none TcRewind is = is
-  no_push_record InAuthority words here none ClearLimit is = is
-  no_push_record InAuthority words here none (PushQuestion x) is = is
-  no_push_record InAuthority words here none (PushRecord x) is = none x is
-  no_push_record InAuthority words here none (PushOpt plan) is = is
-  no_push_record InAuthority words here none (SetHeader new) is = is
-  no_push_record InAuthority words here none (SetLimit n) is = is
-  no_push_record InAdditional words here none ToBuilder is = is
-  no_push_record InAdditional words here none ToQuestion is = is
-  no_push_record InAdditional words here none ToAnswer is = is
-  no_push_record InAdditional words here none ToAuthority is = is
-  no_push_record InAdditional words here none ToAdditional is = is
-  no_push_record InAdditional words here none Rewind is = is
-  no_push_record InAdditional words here none TcRewind is = is
-  no_push_record InAdditional words here none ClearLimit is = is
-  no_push_record InAdditional words here none (PushQuestion x) is = is
-  no_push_record InAdditional words here none (PushRecord x) is = none x is
-  no_push_record InAdditional words here none (PushOpt plan) is = is
-  no_push_record InAdditional words here none (SetHeader new) is = is
-  no_push_record InAdditional words here none (SetLimit n) is = is
+  no_push_record InAuthority words here none call is = no_push_at words none call is
+  no_push_record InAdditional words here none call is = no_push_at words none call is
 
   module _ (kind : state.Stage) (header : HeaderFields) (verb : List ℕ) (words : LineWords) where
     abbrev Requests : Call (Question N) (Record N ScriptData) → Type 0

@@ -27,6 +27,6 @@ IsNumberChange field digits (Opcode code) = (field ≡ codes "opcode") × IsNumb
 IsNumberChange field digits (Rcode code) = (field ≡ codes "rcode") × IsNumberUpTo 15 digits code
 IsNumberChange field digits (Flags flags) = ⊥
 
--- words that a question is read from
+-- words that a question is read from; other white space within them separates, too
 abbrev pub AreQuestionWords : LineWords → QuestionItem → Type 0
 AreQuestionWords words question = ReadsText (spaced_words words) (Ok question)

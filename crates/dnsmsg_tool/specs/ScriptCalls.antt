@@ -48,7 +48,7 @@ module _ {Q R : Type 0} where
   Applies header change (SetHeader new) = fields new ≡ changed header change
   Applies header change call = ⊥
 
-  -- what applying a change to this header returns, if there is one
+  -- the call that applies the change to this header; none if there is no change
   abbrev pub AppliesAny : HeaderFields → Option Change → Option (Call Q R) → Type 0
   AppliesAny header (Some change) (Some call) = Applies header change call
   AppliesAny header None None = ⊤
@@ -75,13 +75,23 @@ module _ {Q R : Type 0} where
   AreOptWords words call = ⊥
 
 module _ {N : Type 0} (labels : N → Labels) where
+  -- the push of a question
+  abbrev pub IsQuestionPush : LineWords → Call (Question N) (Record N ScriptData) → Type 0
+  IsQuestionPush words (PushQuestion question) = AreQuestionWords words (question_item labels question)
+  IsQuestionPush words call = ⊥
+
+  -- the push of a record
+  abbrev pub IsRecordPush : LineWords → Call (Question N) (Record N ScriptData) → Type 0
+  IsRecordPush words (PushRecord r) = AreRecordWords labels words r
+  IsRecordPush words call = ⊥
+
   -- the push of an item that a stage takes: a question, or a record
   abbrev pub ArePushWords : state.Stage → LineWords → Call (Question N) (Record N ScriptData) → Type 0
-  ArePushWords InQuestion words (PushQuestion question) = AreQuestionWords words (question_item labels question)
-  ArePushWords InAnswer words (PushRecord r) = AreRecordWords labels words r
-  ArePushWords InAuthority words (PushRecord r) = AreRecordWords labels words r
-  ArePushWords InAdditional words (PushRecord r) = AreRecordWords labels words r
-  ArePushWords kind words call = ⊥
+  ArePushWords InBuilder words call = ⊥
+  ArePushWords InQuestion words call = IsQuestionPush words call
+  ArePushWords InAnswer words call = IsRecordPush words call
+  ArePushWords InAuthority words call = IsRecordPush words call
+  ArePushWords InAdditional words call = IsRecordPush words call
 
   -- the call that a verb and the words after it request
   pub data AreCallWords (kind : state.Stage) (header : HeaderFields) (verb : List ℕ) (words : LineWords) (call : Call (Question N) (Record N ScriptData)) : Type 0 where
@@ -95,6 +105,6 @@ module _ {N : Type 0} (labels : N → Labels) where
   AreLineWords kind header [] call = ⊥
   AreLineWords kind header (verb ∷ words) call = AreCallWords kind header verb.now words call
 
-  -- The words of a line are those that blanks separate. What is found is the call that they request, if there is one.
+  -- The words of a line are those that spaces and tabs separate. What is found is the call that they request, if there is one.
   abbrev pub ReadsLine : state.Stage → HeaderFields → List ℕ → Option (Call (Question N) (Record N ScriptData)) → Type 0
   ReadsLine kind header line found = (words : LineWords) × (texts words ≡ words_of (without_tabs line)) × ReadsValue (λ call. call) (AreLineWords kind header words) found

@@ -3,11 +3,12 @@ use Rattle.std.proofs.Common.{◌≡◌, ◌∙◌, ℕ, ◌+◌, ◌/◌, ◌%�
 use Rattle.std.specs.Prelude.{if◌then◌else◌}
 use Rattle.std.specs.Int.{is_in_range}
 use Rattle.std.specs.List.{flat_map}
-use Rattle.std.proofs.lemmas.Bool.{or_cases}
+use Rattle.std.proofs.lemmas.Bool.{and_parts, or_cases}
 use Rattle.std.proofs.lemmas.List.Elements.{All-head, All-tail}
 use Rattle.std.proofs.lemmas.List.Folds.{list_all-append}
 use Rattle.fields_text.specs.String.{backslash, decimal_text, quote, quoted, string_octet}
-use Rattle.dnsview_tool.specs.Printable.{are_lines, is_printable}
+use Rattle.dnsview_tool.specs.Failures.{IsFailureText}
+use Rattle.dnsview_tool.specs.Printable.{are_lines, are_printable, is_printable}
 use Rattle.dnsview_tool.proofs.Printables.{both_true, printable_number}
 
 abbrev in_line : ℕ → Bool
@@ -63,3 +64,18 @@ quoted_in_line octets h = lines_both (quote ∷ flat_map string_octet octets) (q
 pub named_in_line : (octets : List ℕ) → All (λ o. o < 256) octets → are_lines (codes "dnsview: unexpected argument " ++ quoted octets ++ codes "\n") ≡ true
 named_in_line octets h =
     lines_both (codes "dnsview: unexpected argument " ++ quoted octets) (codes "\n") (lines_both (codes "dnsview: unexpected argument ") (quoted octets) refl (quoted_in_line octets h)) refl
+
+-- printable words are in a line
+words_in_line : (words : List ℕ) → are_printable words ≡ true → are_lines words ≡ true
+words_in_line [] h = refl
+words_in_line (o ∷ words) h =
+    let parts = and_parts (is_printable o) (are_printable words) h in
+    both_true (in_line o) (are_lines words) (printable_in_line o parts.0) (words_in_line words parts.1)
+
+-- the line for a file that can't be opened
+pub unopened_in_line : (file text : List ℕ) → All (λ o. o < 256) file → IsFailureText (codes "can't open " ++ quoted file) text → are_lines text ≡ true
+unopened_in_line file text h is =
+    let after = codes ": " ++ is.0 ++ 10 ∷ [] in
+    let reason : are_lines after ≡ true = lines_both (codes ": ") (is.0 ++ 10 ∷ []) refl (lines_both is.0 (10 ∷ []) (words_in_line is.0 is.1.0) refl) in
+    let what : are_lines (codes "can't open " ++ quoted file) ≡ true = lines_both (codes "can't open ") (quoted file) refl (quoted_in_line file h) in
+    ap are_lines is.1.1 ∙ lines_both (codes "dnsview: ") ((codes "can't open " ++ quoted file) ++ after) refl (lines_both (codes "can't open " ++ quoted file) after what reason)

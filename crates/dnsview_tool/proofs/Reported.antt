@@ -25,12 +25,12 @@ before_printing (Err (Reading error)) a b c h = absurd h
 before_printing (Err (Printing error)) a b c h = keeps_same c
 before_printing (Err (Reporting error)) a b c h = absurd h
 
--- if standard error can't be written, nothing is known of what was printed
-pub before_reporting : (r : Result ℕ Failure) (a b c d : Option (List ℕ)) → IfErr r IsReportingFailure → IfErr r (λ failure. PrintsBefore failure a b c d)
-before_reporting (Ok status) a b c d h = tt
-before_reporting (Err (Reading error)) a b c d h = absurd h
-before_reporting (Err (Printing error)) a b c d h = absurd h
-before_reporting (Err (Reporting error)) a b c d h = tt
+-- if standard error can't be written, nothing was printed to standard output
+pub before_reporting : (r : Result ℕ Failure) (a c d : Option (List ℕ)) → IfErr r IsReportingFailure → IfErr r (λ failure. PrintsBefore failure a a c d)
+before_reporting (Ok status) a c d h = tt
+before_reporting (Err (Reading error)) a c d h = absurd h
+before_reporting (Err (Printing error)) a c d h = absurd h
+before_reporting (Err (Reporting error)) a c d h = keeps_same a
 
 appends_after : (a b c : Option (List ℕ)) (xs : List ℕ) → Keeps a b → Appends b c xs → Appends a c xs
 appends_after None b c xs k h = tt

@@ -1,4 +1,5 @@
 //! Theorems on pages. The functions do nothing: the contract of each is a theorem.
+ghost use Rattle.dnsview_tool.specs.Failures.{UnopenedIsPrintable};
 ghost use Rattle.dnsview_tool.specs.Heads.{ColoursAreNamed, ColoursHaveRules, HeadsAreSelfContained, PartsHaveRules};
 ghost use Rattle.dnsview_tool.specs.Viewing.{ArgumentsArePrintable, TextsArePrintable};
 ghost use Rattle.dnsview_tool.specs.Links.{IdsAreUnique, JoinedRowsKeepOctets, JoinedRowsTile, LinesHaveRows, WordsAreBounded};
@@ -24,10 +25,12 @@ pub fn words_are_bounded()
 {}
 
 /// What `dnsview` prints besides a message is lines of printable ASCII: the help, the version, the
-/// usage, and the line that names a wrong argument, whatever octets the argument has.
+/// usage, and the lines that name a wrong argument or a file that can't be opened, whatever octets
+/// these have.
 pub fn words_are_printable()
     ensures texts { TextsArePrintable }
     ensures arguments { ArgumentsArePrintable }
+    ensures unopened { UnopenedIsPrintable }
 {}
 
 /// The fixed texts of a page, with its style, have no script and refer to no other file. All other

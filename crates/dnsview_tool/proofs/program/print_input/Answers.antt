@@ -16,7 +16,7 @@ returns-in-Ok-None-clause-prints g c =
     ends_in c.report.result 1 _ c.report.ensures.status (on_ok c.report.result (λ p. bad_hex (rw c.in-Ok-None.field-0-is at c.in-Ok-None.ensures) (keeps_same _) p) c.report.ensures.text)
 
 pub returns-in-Ok-None-clause-fails : goal.returns-in-Ok-None-clause-fails
-returns-in-Ok-None-clause-fails g c = before_reporting c.report.result _ _ _ _ c.report.ensures.fails
+returns-in-Ok-None-clause-fails g c = before_reporting c.report.result _ _ _ c.report.ensures.fails
 
 pub returns-in-Err-clause-fails : goal.returns-in-Err-clause-fails
 returns-in-Err-clause-fails g c = keeps_same _

@@ -13,7 +13,7 @@ returns-then-is_empty-clause-prints g c =
     ends_in c.report.result 4 (IsPrinted c.args.form input _ _ _ _) c.report.ensures.status (on_ok c.report.result (λ p. empty none (keeps_same _) p) c.report.ensures.text)
 
 pub returns-then-is_empty-clause-fails : goal.returns-then-is_empty-clause-fails
-returns-then-is_empty-clause-fails g c = before_reporting c.report.result _ _ _ _ c.report.ensures.fails
+returns-then-is_empty-clause-fails g c = before_reporting c.report.result _ _ _ c.report.ensures.fails
 
 pub returns-in-Ok-clause-prints : goal.returns-in-Ok-clause-prints
 returns-in-Ok-clause-prints g c =

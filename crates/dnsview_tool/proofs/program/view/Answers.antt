@@ -28,4 +28,4 @@ pub returns-in-Version-clause-fails : goal.returns-in-Version-clause-fails
 returns-in-Version-clause-fails g c = before_printing c.answer-in-Version.result _ _ _ c.answer-in-Version.ensures.fails
 
 pub returns-in-Wrong-clause-fails : goal.returns-in-Wrong-clause-fails
-returns-in-Wrong-clause-fails g c = before_reporting c.refuse.result _ _ _ _ c.refuse.ensures.fails
+returns-in-Wrong-clause-fails g c = before_reporting c.refuse.result _ _ _ c.refuse.ensures.fails
