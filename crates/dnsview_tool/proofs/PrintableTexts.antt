@@ -75,7 +75,10 @@ words_in_line (o ∷ words) h =
 -- the line for a file that can't be opened
 pub unopened_in_line : (file text : List ℕ) → All (λ o. o < 256) file → IsFailureText (codes "can't open " ++ quoted file) text → are_lines text ≡ true
 unopened_in_line file text h is =
-    let after = codes ": " ++ is.0 ++ 10 ∷ [] in
-    let reason : are_lines after ≡ true = lines_both (codes ": ") (is.0 ++ 10 ∷ []) refl (lines_both is.0 (10 ∷ []) (words_in_line is.0 is.1.0) refl) in
-    let what : are_lines (codes "can't open " ++ quoted file) ≡ true = lines_both (codes "can't open ") (quoted file) refl (quoted_in_line file h) in
-    ap are_lines is.1.1 ∙ lines_both (codes "dnsview: ") ((codes "can't open " ++ quoted file) ++ after) refl (lines_both (codes "can't open " ++ quoted file) after what reason)
+    let what = codes "can't open " ++ quoted file in
+    let opening : are_lines what ≡ true = lines_both (codes "can't open ") (quoted file) refl (quoted_in_line file h) in
+    let before : are_lines (codes "dnsview: " ++ what ++ codes ": ") ≡ true =
+      lines_both (codes "dnsview: " ++ what) (codes ": ") (lines_both (codes "dnsview: ") what refl opening) refl
+    in
+    let line = codes "dnsview: " ++ what ++ codes ": " ++ is.0 in
+    ap are_lines is.2 ∙ lines_both line (10 ∷ []) (lines_both (codes "dnsview: " ++ what ++ codes ": ") is.0 before (words_in_line is.0 is.1)) refl
