@@ -68,6 +68,7 @@ impl<'a> Iterator for Fields<'a> {
 
     ghost remaining = { item_count fields_left };
 
+    #[inline(always)]
     fn next(&mut self) -> Option<Field<'a>> {
         let [field, after @ ..] = self.left else {
             return None;
