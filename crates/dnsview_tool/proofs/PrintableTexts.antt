@@ -78,7 +78,7 @@ unopened_in_line file text h is =
     let what = codes "can't open " ++ quoted file in
     let opening : are_lines what ≡ true = lines_both (codes "can't open ") (quoted file) refl (quoted_in_line file h) in
     let before : are_lines (codes "dnsview: " ++ what ++ codes ": ") ≡ true =
-      lines_both (codes "dnsview: " ++ what) (codes ": ") (lines_both (codes "dnsview: ") what refl opening) refl
+    lines_both (codes "dnsview: " ++ what) (codes ": ") (lines_both (codes "dnsview: ") what refl opening) refl
     in
     let line = codes "dnsview: " ++ what ++ codes ": " ++ is.0 in
     ap are_lines is.2 ∙ lines_both line (10 ∷ []) (lines_both (codes "dnsview: " ++ what ++ codes ": ") is.0 before (words_in_line is.0 is.1)) refl
