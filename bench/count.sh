@@ -21,7 +21,7 @@ esac
 command -v valgrind >/dev/null || { echo 'bench/count.sh needs valgrind' >&2; exit 1; }
 [ "${1:-}" != --check ] || [ -s "$kept" ] || { echo 'no bench/instructions: bench/count.sh --write makes it' >&2; exit 1; }
 
-"$here/../examples/c/library" bench >"$build/proof" 2>&1 || { cat "$build/proof" >&2; exit 1; }
+"$here/../bindings/c/library" bench >"$build/proof" 2>&1 || { cat "$build/proof" >&2; exit 1; }
 
 compile() {
   local to=$1

@@ -12,7 +12,7 @@ kit=$(dirname "$(rt doc)")
 build=$(mktemp -d)
 trap 'rm -rf "$build"' EXIT
 
-"$here/../examples/c/library" bench >"$build/proof" 2>&1 || { cat "$build/proof" >&2; exit 1; }
+"$here/../bindings/c/library" bench >"$build/proof" 2>&1 || { cat "$build/proof" >&2; exit 1; }
 
 compile() {
   local to=$1

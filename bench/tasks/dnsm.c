@@ -17,6 +17,7 @@ static struct name www, parent, owners[OWNERS];
 static uint8_t addresses[OWNERS][4];
 static dnsm_new_item texts[1 + OWNERS];
 static uint8_t out[ROOM];
+static struct input w2;
 
 static void set_name(struct name *name, const char *text)
 {
@@ -29,6 +30,7 @@ void prepare(void)
 {
     set_name(&www, "www.example.com.");
     set_name(&parent, "sub.example.com.");
+    w2 = load_input("w2");
     for (int i = 0; i < OWNERS; i++) {
         char text[32];
         snprintf(text, sizeof text, "h%d.sub.example.com.", i);
@@ -120,23 +122,65 @@ static size_t build_owners(void)
     return build(1 + OWNERS, sizeof out);
 }
 
-static size_t repeat(size_t (*one)(void), uint64_t times)
+/* Reads w2, and what `part` says of each item. Returns the offset after the last. */
+enum part { ITEMS, NAMES, TEXTS };
+
+static size_t texts_of(const dnsm_item *item)
 {
-    size_t len = 0;
-    for (uint64_t n = 0; n < times; n++)
-        len = one();
-    return len;
+    char name[DNSM_NAME_TEXT], class_[16], type[16], data[256], line[1400];
+    size_t len;
+    if (dnsm_name_text(w2.octets, w2.len, item->place, name, sizeof name, &len) != DNSM_OK ||
+        dnsm_class_text(item->class_, class_, sizeof class_, &len) != DNSM_OK ||
+        dnsm_type_text(item->type, type, sizeof type, &len) != DNSM_OK ||
+        (item->section != DNSM_QUESTION && dnsm_data_text(w2.octets, w2.len, item, data, sizeof data, &len) != DNSM_OK))
+        return 0;
+    return (size_t)snprintf(line, sizeof line, "%s %u %s %s %s", name, item->ttl, class_, type, data);
+}
+
+static size_t read_message(enum part part)
+{
+    dnsm_header header;
+    dnsm_cursor cursor;
+    dnsm_item item;
+    uint8_t name[DNSM_NAME_OCTETS];
+    size_t len;
+    dnsm_status status = dnsm_open(w2.octets, w2.len, &header, &cursor);
+    while (status == DNSM_OK && (status = dnsm_next(w2.octets, w2.len, &cursor, &item)) == DNSM_OK) {
+        if (part == NAMES)
+            status = dnsm_name_octets(w2.octets, w2.len, item.place, name, sizeof name, &len);
+        if (part == TEXTS && texts_of(&item) == 0)
+            return 0;
+    }
+    return status == DNSM_END ? cursor.place : 0;
+}
+
+static size_t read_items(void) { return read_message(ITEMS); }
+static size_t read_names(void) { return read_message(NAMES); }
+static size_t read_texts(void) { return read_message(TEXTS); }
+
+static size_t write_query(void)
+{
+    size_t len;
+    return dnsm_query(1, true, www.text, www.text_len, 1, 1, out, sizeof out, &len) == DNSM_OK ? len : 0;
 }
 
 static size_t run_put_addresses(uint64_t times) { return repeat(put_addresses, times); }
 static size_t run_put_owners(uint64_t times) { return repeat(put_owners, times); }
 static size_t run_build_addresses(uint64_t times) { return repeat(build_addresses, times); }
 static size_t run_build_owners(uint64_t times) { return repeat(build_owners, times); }
+static size_t run_items(uint64_t times) { return repeat(read_items, times); }
+static size_t run_names(uint64_t times) { return repeat(read_names, times); }
+static size_t run_texts(uint64_t times) { return repeat(read_texts, times); }
+static size_t run_query(uint64_t times) { return repeat(write_query, times); }
 
 const struct task tasks[] = {
     {"20 addresses", "dnsm_put", run_put_addresses},
     {"20 addresses", "dnsm_build", run_build_addresses},
     {"500 owners", "dnsm_put", run_put_owners},
     {"500 owners", "dnsm_build", run_build_owners},
+    {"items of w2", "dnsm_next", run_items},
+    {"items of w2", "and dnsm_name_octets", run_names},
+    {"texts of w2", "dnsm_name_text and others", run_texts},
+    {"query", "dnsm_query", run_query},
     {NULL, NULL, NULL},
 };

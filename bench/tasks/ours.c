@@ -2,10 +2,6 @@
 
 #include "tasks.h"
 
-#include <stdio.h>
-#include <stdlib.h>
-#include <string.h>
-
 size_t dns_bench_age(const uint8_t *octets, size_t octets_len, size_t rounds);
 size_t dns_bench_mx(const uint8_t *exchange, size_t exchange_len, uint32_t text, size_t rounds);
 
@@ -14,39 +10,12 @@ enum { MX_LEN = 20 };
 
 static const uint8_t octets[] = "\4mail\7example\3com", text[] = "mail.example.com.";
 
-/* A message of inputs.py. */
-struct input {
-    uint8_t octets[1 << 16];
-    size_t len;
-};
-
 static struct input w2, f64;
-
-static unsigned digit(char c)
-{
-    return c <= '9' ? (unsigned)(c - '0') : (unsigned)(c - 'a' + 10);
-}
-
-/* Reads the message of a workload from the lines of inputs.py, which the variable INPUTS names. */
-static void load(const char *workload, struct input *input)
-{
-    static char digits[1 << 18];
-    char found[16], sum[32];
-    FILE *file = fopen(getenv("INPUTS"), "r");
-    while (file && fscanf(file, "%15s %31s %262143s", found, sum, digits) == 3)
-        if (!strcmp(found, workload)) {
-            input->len = strlen(digits) / 2;
-            for (size_t i = 0; i < input->len; i++)
-                input->octets[i] = (uint8_t)(digit(digits[2 * i]) << 4 | digit(digits[2 * i + 1]));
-        }
-    if (file)
-        fclose(file);
-}
 
 void prepare(void)
 {
-    load("w2", &w2);
-    load("f64", &f64);
+    w2 = load_input("w2");
+    f64 = load_input("f64");
 }
 
 static size_t run_age_w2(uint64_t times) { return dns_bench_age(w2.octets, w2.len, times); }

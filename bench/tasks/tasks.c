@@ -13,6 +13,37 @@
 
 enum { RUNS = 50 };
 
+static unsigned digit(char c)
+{
+    return c <= '9' ? (unsigned)(c - '0') : (unsigned)(c - 'a' + 10);
+}
+
+struct input load_input(const char *workload)
+{
+    static char digits[1 << 18];
+    char found[16], sum[32];
+    FILE *file = fopen(getenv("INPUTS") ? getenv("INPUTS") : "", "r");
+    while (file && fscanf(file, "%15s %31s %262143s", found, sum, digits) == 3)
+        if (!strcmp(found, workload)) {
+            size_t len = strlen(digits) / 2;
+            uint8_t *octets = malloc(len);
+            for (size_t i = 0; octets && i < len; i++)
+                octets[i] = (uint8_t)(digit(digits[2 * i]) << 4 | digit(digits[2 * i + 1]));
+            fclose(file);
+            return (struct input){octets, len};
+        }
+    fprintf(stderr, "tasks: INPUTS has no message %s\n", workload);
+    exit(1);
+}
+
+size_t repeat(size_t (*one)(void), uint64_t times)
+{
+    size_t len = 0;
+    for (uint64_t n = 0; n < times; n++)
+        len = one();
+    return len;
+}
+
 /* The processor time in nanoseconds, which other work on the machine affects less. */
 static double now(void)
 {

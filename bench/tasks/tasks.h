@@ -19,6 +19,18 @@ extern const struct task tasks[];
 /* Prepares what the tasks use, such as names in wire format. */
 void prepare(void);
 
+/* A message of inputs.py. */
+struct input {
+    const uint8_t *octets;
+    size_t len;
+};
+
+/* The message of a workload, from the lines of inputs.py in the file that the variable INPUTS names. */
+struct input load_input(const char *workload);
+
+/* Does a task `times` times. Returns what it returns the last time. */
+size_t repeat(size_t (*one)(void), uint64_t times);
+
 /* The messages that are written: a question and 20 addresses of one owner, and a question and 500 addresses of different
  * owners, as dig would show them:
  *
@@ -27,6 +39,8 @@ void prepare(void);
  *
  *     sub.example.com.          A     the question of the second
  *     h0.sub.example.com. 3600  A     10.0.0.0, and so on up to h499
+ *
+ * The query that is written asks for www.example.com, type A, with RD and without EDNS. The message that is read is w2.
  */
 enum { ADDRESSES = 20, OWNERS = 500, ADDRESS_TTL = 300, OWNER_TTL = 3600, ROOM = 65535 };
 

@@ -15,12 +15,17 @@ from .release import BINDINGS, HEADER, copy_terms
 UNSET_MODULE = "example.org/dnsm"
 
 
+def module_of(release):
+    """The path of the module, which from version 2 on ends in the major version."""
+    return release.names["go-module"] + (f"/v{release.major}" if int(release.major) > 1 else "")
+
+
 def make(release, built):
     folder = f"{release.dist}/go/dnsm"
     copy_tree(f"{BINDINGS}/go", folder)
     for name in walk(folder):
         if os.path.isfile(f"{folder}/{name}"):
-            write(f"{folder}/{name}", read(f"{folder}/{name}").replace(UNSET_MODULE, release.names["go-module"]))
+            write(f"{folder}/{name}", read(f"{folder}/{name}").replace(UNSET_MODULE, module_of(release)))
     copy(HEADER, f"{folder}/dnsm.h")
     copy_terms(folder)
     copy(built.static, f"{folder}/libdnsm_linux_amd64.a")
@@ -29,7 +34,7 @@ def make(release, built):
 
 def make_proxy(release, folder):
     """GOPROXY=file://.../go/proxy finds the module in these files."""
-    module, version = release.names["go-module"], f"v{release.version}"
+    module, version = module_of(release), f"v{release.version}"
     # On a file system that ignores case, two modules must not share a folder.
     escaped = re.sub(r"[A-Z]", lambda found: f"!{found.group().lower()}", module)
     proxy = f"{release.dist}/go/proxy/{escaped}/@v"

@@ -11,10 +11,10 @@ import zipfile
 from datetime import datetime, timezone
 
 from .files import Problem, copy, is_program, read, read_octets, sha256, walk, write
+from .sources import TOP, below, changed, toolchain
 
-BINDINGS = os.path.dirname(os.path.dirname(os.path.abspath(__file__)))
-TOP = os.path.dirname(BINDINGS)
-HEADER = f"{TOP}/crates/dnsm/dnsm.h"
+BINDINGS = f"{TOP}/bindings"
+HEADER = f"{BINDINGS}/c/dnsm.h"
 LICENSE = f"{TOP}/LICENSE"
 NOTICES = f"{BINDINGS}/NOTICES"
 NAMES = f"{BINDINGS}/release.txt"
@@ -137,37 +137,19 @@ def copy_terms(folder):
     copy(NOTICES, f"{folder}/NOTICES")
 
 
-def crates_of_library():
-    """dnsm and all crates below it, by crates.txt."""
-    used = {}
-    for line in read(f"{TOP}/crates.txt").splitlines():
-        crate, _, below = line.partition("#")[0].partition(":")
-        if crate.strip():
-            used[crate.split()[0]] = below.split()
-    found, left = set(), ["dnsm"]
-    while left:
-        crate = left.pop()
-        if crate in used and crate not in found:
-            found.add(crate)
-            left += used[crate]
-    return found
-
-
 def fresh_archive():
-    """The archive that examples/c/library builds, if no source of its crates is newer."""
+    """The archive that bindings/c/library builds, if no source of its crates is newer."""
     archive = f"{TOP}/crates/dnsm/out/libdnsm.a"
     if not os.path.exists(archive):
-        raise Problem("examples/c/library hasn't built the library")
-    folders = [f"{TOP}/crates/{crate}/{part}" for crate in crates_of_library() for part in ("src", "specs", "proofs")]
-    if max(os.path.getmtime(f"{folder}/{name}") for folder in folders for name in walk(folder)) > os.path.getmtime(archive):
-        raise Problem("the built library is older than its sources: run examples/c/library")
+        raise Problem("bindings/c/library hasn't built the library")
+    if max(map(changed, [*below("dnsm"), "dnsm"])) > os.path.getmtime(archive):
+        raise Problem("the built library is older than its sources: run bindings/c/library")
     return archive
 
 
 def toolchain_runtime():
     """The part of the toolchain that calls malloc, if the toolchain is there."""
     try:
-        page = subprocess.run(["rt", "doc"], stdout=subprocess.PIPE, text=True, check=True).stdout.strip()
-    except (OSError, subprocess.CalledProcessError):
-        raise Problem("give --runtime FILE: there is no toolchain with c/liblibc_c.a on the path") from None
-    return f"{os.path.dirname(page)}/c/liblibc_c.a"
+        return f"{toolchain()}/c/liblibc_c.a"
+    except Problem as problem:
+        raise Problem(f"{problem}: give --runtime FILE, its c/liblibc_c.a") from None

@@ -11,7 +11,7 @@ unpacked() {
   local words program
   export PKG_CONFIG_SYSROOT_DIR=$root PKG_CONFIG_LIBDIR=$root$libraries/pkgconfig
   words=$(pkg-config --cflags --libs dnsm) && mkdir programs || return
-  for program in show write serve; do
+  for program in show write respond; do
     # pkg-config leaves out the folders of the system, which this root isn't.
     $cc -o programs/$program "-I$root/usr/include" "$root/usr/share/doc/libdnsm-dev/examples/$program.c" \
       "-L$root$libraries" $words || return
@@ -52,13 +52,13 @@ installed_there() {
     chroot layer/top sh -euc '
       cd /packages
       dpkg -i *.deb
-      for program in show write serve; do
+      for program in show write respond; do
         cc -o $program /usr/share/doc/libdnsm-dev/examples/$program.c $(pkg-config --cflags --libs dnsm)
       done
       ldconfig -p | grep libdnsm.so.2
       ./show <messages.txt | diff shown.txt -
       ./write | diff written.txt -
-      ./serve <queries.txt | diff served.txt -
+      ./respond <queries.txt | diff responded.txt -
       dpkg -r libdnsm-dev libdnsm2
       ! ./write'
 }

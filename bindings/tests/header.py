@@ -107,7 +107,6 @@ def read(path):
 def main(header, crate, rust_types, go_types):
     numbers, structs, calls = read_c(read(header))
     rust = read_rust(read(crate))
-    numbers.pop("DNSM_WIDEST")
     found = []
 
     def compare(what, wanted, got, where="dnsm.h"):

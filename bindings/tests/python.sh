@@ -4,7 +4,7 @@
 installed() {
   rm -rf venv && "$python" -m venv venv && venv/bin/python -m pip install -q --no-index --find-links "$dist" dnsm &&
     shows venv/bin/python "$tests/examples/show.py" && writes venv/bin/python "$tests/examples/write.py" &&
-    serves venv/bin/python "$tests/examples/serve.py" &&
+    responds venv/bin/python "$tests/examples/respond.py" &&
     (cd "$tests/tests" && "$room/python/venv/bin/python" -W error -m unittest -q test_dnsm test_whole)
 }
 
@@ -23,7 +23,7 @@ quoted_program() {
 # The package by its sources, and a user's program by what the package says of its types.
 typed() {
   mypy --strict --cache-dir mypy venv/lib/python*/site-packages/dnsm &&
-    mypy --strict --cache-dir mypy --python-executable venv/bin/python "$tests/tests/typed.py" "$tests"/examples/serve.py
+    mypy --strict --cache-dir mypy --python-executable venv/bin/python "$tests/tests/typed.py" "$tests"/examples/respond.py
 }
 
 # What the packages for Python and Rust say of the header.

@@ -3,9 +3,9 @@
 
 library=$prefix/lib/libdnsm.so.$version
 strict='-std=c99 -Wall -Wextra -Wconversion -Wpedantic -Werror -O2'
-programs='show write serve'
+programs='show write respond mx'
 
-# linked FOLDER OPTION..: the three programs with the static library.
+# linked FOLDER OPTION..: the programs with the static library.
 linked() {
   local to=$1 program
   shift
@@ -61,7 +61,7 @@ old_processor() {
 
 memory() {
   local checked='valgrind -q --leak-check=full --log-file=memory/%p.said'
-  linked memory && writes $checked memory/write && shows $checked memory/show && serves $checked memory/serve || return
+  linked memory && writes $checked memory/write && shows $checked memory/show && responds $checked memory/respond || return
   ! cat memory/*.said | grep .
 }
 

@@ -4,10 +4,11 @@ use Rattle.dns_code.specs.Header.{fields_in}
 use Rattle.dns_code.specs.HeaderSection.{header_size}
 use Rattle.dns_item.specs.Questions.{QuestionItem}
 use Rattle.dns_item.proofs.theory.QuestionEntryLemmas.{question_or_fault}
-use Rattle.dnsm.specs.Codes.{number_of}
-use Rattle.dnsm.specs.Made.{Asks, AsksNothing, AsksOne, HoldsQuery}
-use Rattle.dnsm.specs.declared.code.CallError.TheVariants as faults
-use Rattle.dnsm.proofs.FaultLemmas.{reported_small}
+use Rattle.dnsm_status.specs.Codes.{number_of}
+use Rattle.dnsm_make.specs.Made.{Asks, AsksNothing, AsksOne}
+use Rattle.dnsm_read.specs.Asked.{HoldsQuery}
+use Rattle.dnsm_status.specs.declared.code.CallError.TheVariants as faults
+use Rattle.dnsm_status.proofs.theory.FaultLemmas.{reported_small}
 
 module _ (b : List ℕ) where
   -- there is at most one such question

@@ -3,3 +3,4 @@ pub mod Writing
 pub mod Items
 pub mod Drafts
 pub mod Refusals
+pub mod PutLayouts

@@ -6,6 +6,8 @@ use Rattle.dnsm_put.specs.declared.draft.PutItem.{PutItem}
 use Rattle.dnsm_put.specs.declared.draft.Draft.{Draft}
 use Rattle.dnsm_put.specs.declared.draft.PutError.{PutError}
 use Rattle.dnsm_put.specs.declared.draft.PutError.TheVariants.{BadSection, BadName, LongData, BadData, TooMany, NoRoom}
+use Rattle.dnsm_status.specs.declared.code.CallError.{CallError}
+use Rattle.dnsm_status.specs.declared.code.CallError.TheVariants as faults
 use Rattle.dnsm_put.specs.Rdata.{HasFields, layout_of}
 use Rattle.dnsm_put.specs.Items.{item_size}
 
@@ -40,3 +42,12 @@ pub record IsAcceptable (d : Draft) (item : PutItem) : Type 0 where
   pub short : item.section ≢ 0 → length item.rdata.now ≤ 65535
   pub fields : item.section ≢ 0 → HasFields (layout_of item) item.rdata.now
   pub few : get_or d.counts item.section 0 < 65535
+
+-- the fault that reports why an item isn't put
+abbrev pub put_fault : PutError → CallError
+put_fault BadSection = faults.BadSection
+put_fault BadName = faults.BadText
+put_fault LongData = faults.LongData
+put_fault BadData = faults.BadData
+put_fault TooMany = faults.TooMany
+put_fault NoRoom = faults.NoRoom

@@ -1,5 +1,7 @@
 //! A message under construction, the items that it takes, and why it refuses one.
+ghost use Rattle.std.specs.Prelude.{◌≡◌};
 
+use dnsm_status::CallError;
 use thiserror::Error;
 
 /// A message under construction, which the caller owns. Its buffer isn't part of it.
@@ -61,4 +63,21 @@ pub enum PutError {
     /// The buffer or the limit has no room for the item.
     #[error("the buffer or the limit has no room for the item")]
     NoRoom,
+}
+
+impl From<PutError> for CallError {
+    ghost use Rattle.dnsm_put.specs.Refusals.{put_fault};
+
+    ghost from_gives = { λ error fault. fault ≡ put_fault error };
+
+    fn from(error: PutError) -> Self {
+        match error {
+            PutError::BadSection => CallError::BadSection,
+            PutError::BadName => CallError::BadText,
+            PutError::LongData => CallError::LongData,
+            PutError::BadData => CallError::BadData,
+            PutError::TooMany => CallError::TooMany,
+            PutError::NoRoom => CallError::NoRoom,
+        }
+    }
 }

@@ -1,8 +1,16 @@
-//! How drafts, items and errors clone. The functions do nothing: the contract of each is a theorem
-//! over all values.
+//! Which names in RDATA are compressed, and how drafts, items and errors clone. The functions do
+//! nothing: the contract of each is a theorem over all values.
 ghost use Rattle.std.specs.Prelude.{◌≡◌};
+ghost use Rattle.dnsm_put.specs.PutLayouts.{PutLayoutsAreFields};
 
 use crate::draft::{Draft, PutError, PutItem};
+
+/// The names that `put` compresses are those among the fields of the record types in `TABLE` of
+/// `fields_octets` that may be compressed.
+#[tactic(auto, unfolding(fields_octets::specs::RecordTypes::record_types, fields_octets::specs::Table::definitions_of))]
+pub fn layouts_are_fields()
+    ensures { PutLayoutsAreFields }
+{}
 
 /// A clone is the same value. So a clone of a draft is a mark.
 pub fn draft_clones()

@@ -1,0 +1,481 @@
+/* Functions that read and write DNS messages, by proved code. The parts of this file are
+ *
+ *     1. Statuses, and the version
+ *     2. Reading a message
+ *     3. Names
+ *     4. RDATA
+ *     5. Types and classes as text
+ *     6. EDNS
+ *     7. Queries, and responses of one address
+ *     8. Writing a message by one call
+ *     9. Writing a message item by item
+ *
+ * and each begins with an example. There `message` are the `message_len` octets of a message.
+ *
+ * Calls. Each but dnsm_opt_ttl returns a status: DNSM_OK, or the reason why there is no result. No call prints, blocks, or ends
+ * the process.
+ *
+ * Threads. No call keeps state, so any thread may make any call at any time, if no other thread changes what the call uses.
+ * Only dnsm_build allocates, by malloc, realloc and free. Don't call it from a signal handler, nor in the forked child of a
+ * process with threads. All other calls may be made in both.
+ *
+ * Lifetimes. No call keeps a pointer that it was passed, and none returns memory that the caller has to free. Items, options and
+ * cursors contain offsets into a message, no pointers: they stay valid as long as the message does, also if it is moved. An
+ * offset counts octets from the start of the message.
+ *
+ * Pointers. One that comes with a length may be null if the length is 0. Each other pointer has to be valid, and aligned. What a
+ * call writes may not overlap anything else that is passed to it. It needn't be initialised, except where a call says so.
+ *
+ * Results in a buffer. Each call with `out`, `out_len` and `len` but dnsm_finish writes its result into the `out_len` octets at
+ * `out`, and sets `*len` to its length. A text is followed by a zero octet, which `*len` doesn't count. If the buffer is too
+ * short, the call returns DNSM_NO_ROOM, sets `*len` to the length that the result would have, and leaves anything in the
+ * buffer: octets need a buffer of `*len` octets, and a text one of `*len` + 1. So a call with a null `out` and length 0 gives
+ * the length. On each other error `*len` is 0.
+ *
+ * Processor and systems. The library is compiled for Linux on x86-64, with pointers of 64 bits, and for processors of the level
+ * x86-64-v2 (SSE4.2), as all since about 2009 are. On an older one a program doesn't start, or ends in an illegal instruction. The
+ * library is tried on Debian 12, with glibc 2.36 and with musl; this file with gcc 12 and clang 14, as C99, C11 and C++17.
+ *
+ * Sanitizers. The library isn't instrumented: the address sanitizer doesn't see its reads and writes, so it doesn't report a
+ * length that is too great. valgrind does. */
+#ifndef DNSM_H
+#define DNSM_H
+
+#include <stdbool.h>
+#include <stddef.h>
+#include <stdint.h>
+
+#ifdef __cplusplus
+extern "C" {
+#endif
+
+/* 1. Statuses, and the version
+ *
+ *     char sentence[100];
+ *     size_t len;
+ *     if (dnsm_status_text(DNSM_NO_ROOM, sentence, sizeof sentence, &len) == DNSM_OK)
+ *         printf("%s (%zu characters)\n", sentence, len);
+ */
+
+/* The version of this header and its library, as text and as a number: 10000 * major + 100 * minor + patch. */
+#define DNSM_VERSION "2.0.0"
+#define DNSM_VERSION_NUMBER 20000
+
+/* What a call returns. A later version may have more of them. */
+typedef uint32_t dnsm_status;
+enum {
+    DNSM_OK = 0,
+    DNSM_END = 1,           /* no more items */
+    DNSM_SHORT_INPUT = 2,   /* an octet that is needed is past the end of the message */
+    DNSM_BAD_LABEL = 3,     /* a length octet has the high bits 01 or 10 */
+    DNSM_BAD_POINTER = 4,   /* a compression pointer doesn't lead to an offset before its own */
+    DNSM_LONG_NAME = 5,     /* a name has more than 255 octets */
+    DNSM_FORM = 6,          /* returned only if the caller gave the cursor this status */
+    DNSM_NO_ROOM = 7,       /* the output buffer, or the limit of a draft, is too short */
+    DNSM_BAD_TEXT = 8,      /* a text, or the name of a dnsm_put_item, is no valid name */
+    DNSM_NO_QUESTION = 9,   /* the query doesn't have exactly one question */
+    DNSM_BAD_SECTION = 10,  /* a section number exceeds 3 or is before that of the last item, or RDATA of a question is asked for */
+    DNSM_NO_MEMORY = 11,    /* an allocation failed */
+    DNSM_LONG_DATA = 12,    /* RDATA or an option of more than 65,535 octets */
+    DNSM_TOO_MANY = 13,     /* more than 65,535 items for a section */
+    DNSM_IS_RESPONSE = 14,  /* QR is set, so this is a response, and answering it could start an endless exchange */
+    DNSM_OTHER_OPCODE = 15, /* the opcode isn't QUERY */
+    DNSM_OTHER_CLASS = 16,  /* the class of the question isn't IN */
+    DNSM_OTHER_TYPE = 17,   /* the type of the question is neither A nor ANY */
+    DNSM_NOT_OPT = 18,      /* the item is no OPT record */
+    DNSM_BAD_OPTION = 19,   /* an option isn't whole within the RDATA, or its offset isn't there */
+    DNSM_NO_NAME = 20,      /* the RDATA has no such name */
+    DNSM_BAD_DATA = 21      /* the octets are no RDATA of the record type */
+    /* 22 is no status, and is kept free. */
+};
+
+/* Writes what a status means, in English, as "the output buffer is too short", or "unknown status" with the number if there is no
+ * such status. 100 octets are always enough.
+ *
+ * Errors: DNSM_NO_ROOM. */
+dnsm_status dnsm_status_text(dnsm_status status, char *out, size_t out_len, size_t *len);
+
+/* 2. Reading a message
+ *
+ *     dnsm_header header;
+ *     dnsm_cursor cursor;
+ *     dnsm_item item;
+ *     dnsm_status status = dnsm_open(message, message_len, &header, &cursor);
+ *     while (status == DNSM_OK && (status = dnsm_next(message, message_len, &cursor, &item)) == DNSM_OK)
+ *         printf("section %u: type %u, TTL %lu\n", item.section, item.type, (unsigned long)item.ttl);
+ *     puts(status == DNSM_END ? "read to its end" : "malformed");
+ */
+
+/* The numbers of the sections. */
+enum { DNSM_QUESTION = 0, DNSM_ANSWER = 1, DNSM_AUTHORITY = 2, DNSM_ADDITIONAL = 3 };
+
+/* The flags of a header, which are bits of its third and fourth octets (RFC 1035 section 4.1.1, RFC 4035 section 3). A server
+ * that leaves out records because the message would be too long sets DNSM_TC; then the client asks again over TCP. */
+enum {
+    DNSM_QR = 0x8000,
+    DNSM_AA = 0x400,
+    DNSM_TC = 0x200,
+    DNSM_RD = 0x100,
+    DNSM_RA = 0x80,
+    DNSM_AD = 0x20,
+    DNSM_CD = 0x10
+};
+
+typedef struct dnsm_header {
+    uint16_t id;
+    uint16_t flags;     /* the third and fourth octets: the flags above, and opcode and rcode */
+    uint16_t counts[4]; /* indexed by section */
+    uint8_t opcode;
+    uint8_t rcode;
+} dnsm_header;
+
+/* A position in a message. The caller owns it, and may copy it to return to the position later. */
+typedef struct dnsm_cursor {
+    size_t place;       /* offset at which the next item begins; after DNSM_END the offset after the last item */
+    uint16_t left;      /* items still to come in the section, by its count */
+    uint8_t section;
+    dnsm_status status; /* DNSM_OK, or the error that ended the iteration */
+} dnsm_cursor;
+
+/* A question or a record. */
+typedef struct dnsm_item {
+    size_t place;      /* offset of the name, for dnsm_name_text and dnsm_name_octets */
+    size_t data;       /* offset of the RDATA, whose data_len octets all lie within the message; of a question its end */
+    uint32_t ttl;      /* in seconds; 0 for a question */
+    uint16_t type;
+    uint16_t class_;
+    uint16_t data_len; /* 0 for a question */
+    uint8_t section;
+} dnsm_item;
+
+/* Reads the header, and sets the cursor before the first question. It needn't be initialised, nor the header.
+ *
+ * Errors: DNSM_SHORT_INPUT if the message has fewer than 12 octets. Then the cursor keeps this error, and the header isn't
+ * written. */
+dnsm_status dnsm_open(const uint8_t *message, size_t message_len, dnsm_header *header, dnsm_cursor *cursor);
+
+/* Reads the next item, in the order of the message, and moves the cursor past it. The cursor is one that dnsm_open has set, for
+ * the same octets. With another cursor, or over other octets, the call is safe, but its results mean nothing.
+ *
+ * Returns DNSM_OK with an item, or DNSM_END after the last one. Without an item, `*item` isn't written. At DNSM_END the cursor's
+ * `place` is where the message ends: the offset after the last item, or 12 if there is none. The octets from there on, if there
+ * are any, are no part of the message.
+ *
+ * Errors: DNSM_SHORT_INPUT, DNSM_BAD_LABEL, DNSM_BAD_POINTER or DNSM_LONG_NAME if the next item can't be read. The cursor keeps
+ * the error, and each later call returns it again. DNSM_BAD_SECTION for a cursor that keeps no error and whose section
+ * exceeds 3. */
+dnsm_status dnsm_next(const uint8_t *message, size_t message_len, dnsm_cursor *cursor, dnsm_item *item);
+
+/* 3. Names
+ *
+ *     char text[DNSM_NAME_TEXT];
+ *     uint8_t name[DNSM_NAME_OCTETS];
+ *     size_t len, end;
+ *     if (dnsm_name_text(message, message_len, 12, text, sizeof text, &len) == DNSM_OK)
+ *         puts(text);
+ *     if (dnsm_name_end(message, message_len, 12, &end) == DNSM_OK)
+ *         printf("a name from offset 12 to %zu\n", end);
+ *     if (dnsm_name_from_text("a\\.b.example", 12, name, sizeof name, &len) == DNSM_OK)
+ *         printf("a name of %zu octets\n", len);
+ *
+ * Names as text. The text of a name is its labels, separated by dots (RFC 1035 section 5.1). A final dot may be left out, and
+ * changes nothing: each name is absolute. The root is a single dot. In a label, each graphic ASCII character but the dot and the
+ * backslash (0x21 to 0x7e) represents itself. A backslash and a graphic character that is no digit represent that character, as
+ * `\.` a dot within a label. A backslash and three decimal digits represent the octet with that number, 0 to 255, as `\032` a
+ * space. A label has 1 to 63 octets, and a name at most 255, with a length octet for each label and one for the root. No other
+ * text is a name: not the empty text, nor one with two dots in a row, spaces, control characters, or octets above 0x7e. There is
+ * no origin, `@` is an ordinary character, and names of other scripts have to be in ASCII already (IDNA). A text that is passed
+ * comes with its length, and needs no zero octet. */
+
+/* Lengths of output buffers that are always enough: DNSM_NAME_TEXT for dnsm_name_text, and DNSM_NAME_OCTETS for dnsm_name_octets
+ * and dnsm_name_from_text. */
+enum { DNSM_NAME_TEXT = 1005, DNSM_NAME_OCTETS = 255 };
+
+/* Writes the name at offset `place` as text, with a dot after each label. dnsm_name_from_text reads it back as the same name.
+ * To read a name in RDATA without the octets after the RDATA, pass the end of the RDATA as `message_len`: the item's `data` plus
+ * its `data_len`. dnsm_data_name gives only offsets at which that succeeds, with the same name.
+ *
+ * Errors: DNSM_NO_ROOM, and DNSM_SHORT_INPUT, DNSM_BAD_LABEL, DNSM_BAD_POINTER or DNSM_LONG_NAME if no name can be read there. */
+dnsm_status dnsm_name_text(const uint8_t *message, size_t message_len, size_t place, char *out, size_t out_len, size_t *len);
+
+/* Writes the octets of the name at offset `place`, without compression pointers.
+ *
+ * Errors: those of dnsm_name_text. */
+dnsm_status dnsm_name_octets(const uint8_t *message, size_t message_len, size_t place, uint8_t *out, size_t out_len,
+                             size_t *len);
+
+/* Sets `*end` to the offset after the name at offset `place`. A compression pointer ends a name and isn't followed for that.
+ *
+ * Errors: those of dnsm_name_text but DNSM_NO_ROOM. Then `*end` isn't written. */
+dnsm_status dnsm_name_end(const uint8_t *message, size_t message_len, size_t place, size_t *end);
+
+/* Writes the octets of the name that the text represents (see "Names as text"), as in the RDATA of a dnsm_new_item: that of MX is
+ * two octets of the preference, and then those of the name. examples/mx.c builds MX and SRV records from texts.
+ *
+ * Errors: DNSM_NO_ROOM, and DNSM_BAD_TEXT if the text is no name. */
+dnsm_status dnsm_name_from_text(const char *text, size_t text_len, uint8_t *out, size_t out_len, size_t *len);
+
+/* 4. RDATA
+ *
+ *     dnsm_header header;
+ *     dnsm_cursor cursor;
+ *     dnsm_item item;
+ *     char text[1200];
+ *     size_t len, place;
+ *     dnsm_open(message, message_len, &header, &cursor);
+ *     while (dnsm_next(message, message_len, &cursor, &item) == DNSM_OK) {
+ *         if (dnsm_data_text(message, message_len, &item, text, sizeof text, &len) == DNSM_OK)
+ *             puts(text);
+ *         if (dnsm_data_name(message, message_len, &item, 0, &place) == DNSM_OK)
+ *             printf("a name at offset %zu\n", place);
+ *     }
+ */
+
+/* Writes the RDATA of a record as in a zone file (RFC 1035 section 5.1): the fields of its type, separated by spaces, for the 65
+ * types that the library knows, such as A, AAAA, MX, TXT, SRV, DNSKEY and HTTPS. Names end with a dot, and are escaped as in
+ * "Names as text"; a backslash precedes `"`, `$`, `(`, `)`, `;` and `@` too. All other RDATA is written as `\#`, its length and
+ * its octets in hexadecimal (RFC 3597 section 5): that of other types, malformed RDATA, and RDATA with a field that has no text,
+ * as a key without octets. The call reads the record at the item's `place`.
+ *
+ * Errors: DNSM_NO_ROOM, DNSM_BAD_SECTION for a question, which has no RDATA, and those of dnsm_name_text if no record can be read
+ * there, which happens only for an item that dnsm_next didn't write for these octets. */
+dnsm_status dnsm_data_text(const uint8_t *message, size_t message_len, const dnsm_item *item, char *out, size_t out_len,
+                           size_t *len);
+
+/* Sets `*place` to the offset of a name in the RDATA of a record, for dnsm_name_text and dnsm_name_octets: of the first name if
+ * `index` is 0, and of the second name of SOA if it is 1. The types are NS, CNAME, SOA, PTR, MX, SRV and DNAME. A name can be read
+ * there, and no octet after the RDATA belongs to it, also where it has a compression pointer.
+ *
+ * Errors, the first that applies: DNSM_BAD_SECTION for a question, which has no RDATA; DNSM_NO_NAME if RDATA of this type has no
+ * name with this index; DNSM_SHORT_INPUT if the RDATA isn't within the message, which happens only for an item that dnsm_next
+ * didn't write for these octets; DNSM_BAD_DATA if the RDATA isn't that of its type, which dnsm_data_text writes as `\#`. On an
+ * error `*place` isn't written. */
+dnsm_status dnsm_data_name(const uint8_t *message, size_t message_len, const dnsm_item *item, size_t index, size_t *place);
+
+/* 5. Types and classes as text
+ *
+ *     char type[16], class_[16];
+ *     size_t len;
+ *     if (dnsm_type_text(65, type, sizeof type, &len) == DNSM_OK && dnsm_class_text(1, class_, sizeof class_, &len) == DNSM_OK)
+ *         printf("%s %s\n", class_, type);
+ */
+
+/* Writes a record type: the name that IANA has registered for it, as SRV, RRSIG or HTTPS, and ANY for 255; or TYPE with its
+ * number, if there is none (RFC 3597 section 5). 16 octets are always enough.
+ *
+ * Errors: DNSM_NO_ROOM. */
+dnsm_status dnsm_type_text(uint16_t type, char *out, size_t out_len, size_t *len);
+
+/* Writes a class: the name that IANA has registered for it, which is IN, CH, HS, NONE (254) or ANY (255); or CLASS with its number
+ * (RFC 3597 section 5). 16 octets are always enough.
+ *
+ * Errors: DNSM_NO_ROOM. */
+dnsm_status dnsm_class_text(uint16_t class_, char *out, size_t out_len, size_t *len);
+
+/* 6. EDNS
+ *
+ *     dnsm_header header;
+ *     dnsm_cursor cursor;
+ *     dnsm_item item;
+ *     dnsm_opt opt;
+ *     dnsm_opt_option option;
+ *     dnsm_open(message, message_len, &header, &cursor);
+ *     while (dnsm_next(message, message_len, &cursor, &item) == DNSM_OK)
+ *         if (dnsm_opt_fields(&item, &opt) == DNSM_OK)
+ *             for (size_t place = item.data; dnsm_next_option(message, message_len, &item, &place, &option) == DNSM_OK;)
+ *                 printf("up to %u octets; option %u of %u\n", opt.udp_size, option.code, option.data_len);
+ */
+
+/* The fields of an OPT record (RFC 6891 section 6.1.3). */
+typedef struct dnsm_opt {
+    uint16_t udp_size;  /* the most octets of a UDP payload that the sender can receive */
+    uint16_t flags;     /* DNSM_DO, and 15 bits that have to be zero */
+    uint8_t rcode_high; /* the upper eight bits of the extended rcode; the lower four are the rcode of the header */
+    uint8_t version;
+} dnsm_opt;
+
+/* The type of an OPT record, and the flag that asks for DNSSEC records. */
+enum { DNSM_TYPE_OPT = 41, DNSM_DO = 0x8000 };
+
+/* Reads the fields of an OPT record. That is an item of type 41 in the additional section; its name isn't looked at.
+ *
+ * Errors: DNSM_NOT_OPT. Then `*opt` isn't written. */
+dnsm_status dnsm_opt_fields(const dnsm_item *item, dnsm_opt *opt);
+
+/* The TTL of an OPT record with these fields. To write one with dnsm_build, pass an item with the name ".", this TTL, the class
+ * `udp_size`, the type DNSM_TYPE_OPT, the section DNSM_ADDITIONAL, and as data what dnsm_option_octets wrote for each option, one
+ * after the other, or nothing. */
+uint32_t dnsm_opt_ttl(const dnsm_opt *opt);
+
+/* An option of an OPT record (RFC 6891 section 6.1.2). */
+typedef struct dnsm_opt_option {
+    size_t data;       /* offset of its octets, which lie within the RDATA */
+    uint16_t code;
+    uint16_t data_len;
+} dnsm_opt_option;
+
+/* Reads the option at offset `*place` of the RDATA of an OPT record, and sets `*place` to the offset after it. Set `place` to the
+ * item's `data` before the first call. The option needn't be initialised.
+ *
+ * Returns DNSM_OK with an option, or DNSM_END if `*place` is the end of the RDATA. Without an option, nothing is written.
+ *
+ * Errors, the first that applies: DNSM_NOT_OPT; DNSM_SHORT_INPUT if the RDATA isn't within the message, which happens only for an
+ * item that dnsm_next didn't write for these octets; DNSM_BAD_OPTION if `*place` isn't in the RDATA, or no whole option begins
+ * there. */
+dnsm_status dnsm_next_option(const uint8_t *message, size_t message_len, const dnsm_item *item, size_t *place,
+                             dnsm_opt_option *option);
+
+/* Writes an option: its code, the length of its data, and its data.
+ *
+ * Errors: DNSM_NO_ROOM, and DNSM_LONG_DATA for more than 65,535 octets of data. */
+dnsm_status dnsm_option_octets(uint16_t code, const uint8_t *data, size_t data_len, uint8_t *out, size_t out_len, size_t *len);
+
+/* 7. Queries, and responses of one address
+ *
+ *     static const uint8_t address[4] = {192, 0, 2, 1};
+ *     uint8_t query[DNSM_MADE], response[DNSM_MADE];
+ *     size_t query_len, response_len = 0;
+ *     dnsm_status status = dnsm_query(4660, true, "www.example.com", 15, 1, 1, query, sizeof query, &query_len);
+ *     if (status == DNSM_OK)
+ *         status = dnsm_respond_a(query, query_len, true, 3600, address, response, sizeof response, &response_len);
+ *     printf("%zu octets, and %zu\n", query_len, response_len);
+ */
+
+/* The length of an output buffer that is always enough for dnsm_query and dnsm_respond_a. */
+enum { DNSM_MADE = 512 };
+
+/* Writes a query: a header with `id`, RD as `recursion` says, and no other bit set, and one question.
+ *
+ * Errors: DNSM_NO_ROOM, and DNSM_BAD_TEXT if `name` is no name (see "Names as text"). */
+dnsm_status dnsm_query(uint16_t id, bool recursion, const char *name, size_t name_len, uint16_t type, uint16_t class_,
+                       uint8_t *out, size_t out_len, size_t *len);
+
+/* Writes the response to a standard query of class IN with one question, for type A or ANY: a header, the question, and one A
+ * record with `ttl`, in seconds, and `address`. The header has ID, opcode, RD and CD of the query, QR, AA as `authoritative`
+ * says, and no other bit set.
+ *
+ * Errors: for octets that are no such query, the first that applies of DNSM_SHORT_INPUT, DNSM_IS_RESPONSE, DNSM_OTHER_OPCODE,
+ * DNSM_NO_QUESTION, the error of reading the question, DNSM_OTHER_CLASS and DNSM_OTHER_TYPE. For all others, DNSM_NO_ROOM. */
+dnsm_status dnsm_respond_a(const uint8_t *query, size_t query_len, bool authoritative, uint32_t ttl, const uint8_t address[4],
+                           uint8_t *out, size_t out_len, size_t *len);
+
+/* 8. Writing a message by one call
+ *
+ *     static const uint8_t address[] = {192, 0, 2, 1};
+ *     const dnsm_new_item items[] = {
+ *         {"example.com", 11, NULL, 0, 0, 1, 1, DNSM_QUESTION},
+ *         {"example.com", 11, address, sizeof address, 3600, 1, 1, DNSM_ANSWER},
+ *     };
+ *     uint8_t out[512];
+ *     size_t len;
+ *     if (dnsm_build(4660, DNSM_QR | DNSM_AA, items, 2, out, sizeof out, &len) == DNSM_OK)
+ *         printf("%zu octets\n", len);
+ */
+
+/* A question or a record to write. The name is text (see "Names as text"). The data is RDATA in wire format, with names
+ * uncompressed. For the 65 types of dnsm_data_text it has to be the fields of the type, whatever the class, without compression
+ * pointers, which RDATA within a message may have; for other types it may be any octets. A record of class NONE (254) or ANY
+ * (255) may also have no data (RFC 2136 section 2.4). The TTL is in seconds. TTL and data of a question are ignored. */
+typedef struct dnsm_new_item {
+    const char *name;
+    size_t name_len;
+    const uint8_t *data;
+    size_t data_len;
+    uint32_t ttl;
+    uint16_t type;
+    uint16_t class_;
+    uint8_t section;
+} dnsm_new_item;
+
+/* Writes a message: a header of `id` and `flags` (as in dnsm_header), and the items, each in its section, in order. The counts
+ * are those of the items. Names of questions and owners are compressed, and those in the RDATA of the types of RFC 1035, as NS,
+ * MX and SOA. The message may have more than 65,535 octets, which no transport carries: check `*len`. The call allocates, and
+ * frees all that it allocated.
+ *
+ * Errors: DNSM_BAD_SECTION, DNSM_BAD_TEXT, DNSM_LONG_DATA or DNSM_BAD_DATA for an item that can't be written, the first one if
+ * there are several; nothing is allocated before that. DNSM_TOO_MANY only if a section has more than 65,535 items,
+ * DNSM_NO_MEMORY if an allocation failed, and DNSM_NO_ROOM. */
+dnsm_status dnsm_build(uint16_t id, uint16_t flags, const dnsm_new_item *items, size_t items_len,
+                       uint8_t *out, size_t out_len, size_t *len);
+
+/* 9. Writing a message item by item
+ *
+ *     static const uint8_t name[] = "\7example\3com", address[] = {192, 0, 2, 1};
+ *     const dnsm_put_item question = {name, sizeof name, NULL, 0, 0, 1, 1, DNSM_QUESTION};
+ *     const dnsm_put_item answer = {name, sizeof name, address, sizeof address, 3600, 1, 1, DNSM_ANSWER};
+ *     uint8_t out[512];
+ *     size_t len;
+ *     dnsm_draft draft;
+ *     dnsm_status status = dnsm_begin(&draft, out, sizeof out, 4660, DNSM_QR | DNSM_AA);
+ *     if (status == DNSM_OK)
+ *         status = dnsm_put(&draft, out, sizeof out, &question);
+ *     if (status == DNSM_OK && dnsm_put(&draft, out, sizeof out, &answer) == DNSM_NO_ROOM)
+ *         draft.flags |= DNSM_TC;
+ *     if (status == DNSM_OK && dnsm_finish(&draft, out, sizeof out, &len) == DNSM_OK)
+ *         printf("%zu octets\n", len);
+ */
+
+/* A message under construction in a buffer of the caller: an alternative to dnsm_build that allocates nothing. The caller owns the
+ * draft and may copy it. A copy taken before an item was put is a mark, and copying it back removes the items put since; then
+ * copies taken after those items mean nothing. The buffer belongs to all copies: each call needs the octets that the call before
+ * left. They may move between calls.
+ *
+ * Set `limit`, `reserved`, `id` and `flags` between calls as you like. The other fields belong to the calls. With other values
+ * there, each call is safe, but its results mean nothing; `hints` may have any values. */
+typedef struct dnsm_draft {
+    size_t len;         /* octets of the message so far, at least 12 */
+    size_t limit;       /* the most octets of the message; dnsm_begin sets SIZE_MAX. Without it a message may exceed 65,535 octets,
+                         * which no transport carries */
+    size_t reserved;    /* octets to keep free before the limit and the end of the buffer, as for an OPT record; dnsm_begin sets 0.
+                         * Set it to 0 to use them */
+    uint16_t id;
+    uint16_t flags;     /* as in dnsm_header */
+    uint16_t counts[4]; /* the number of items in each section */
+    uint8_t section;    /* that of the last item */
+    uint16_t hints[64]; /* offsets of earlier names, by which names are compressed */
+} dnsm_draft;
+
+/* A question or a record to put. The name is its uncompressed octets, as dnsm_name_octets and dnsm_name_from_text write them. The
+ * data is RDATA in wire format, with names uncompressed. The TTL is in seconds. TTL and data of a question are ignored. Neither
+ * `name` nor `data` may lie within `out`. */
+typedef struct dnsm_put_item {
+    const uint8_t *name;
+    size_t name_len;
+    const uint8_t *data;
+    size_t data_len;
+    uint32_t ttl;
+    uint16_t type;
+    uint16_t class_;
+    uint8_t section;
+} dnsm_put_item;
+
+/* Begins a message without items, and sets all fields of the draft, which needn't be initialised. Writes nothing to the buffer.
+ *
+ * Errors: DNSM_NO_ROOM if the buffer has fewer than 12 octets. Then the draft isn't written. */
+dnsm_status dnsm_begin(dnsm_draft *draft, uint8_t *out, size_t out_len, uint16_t id, uint16_t flags);
+
+/* Appends a question or a record. The draft is one that dnsm_begin has set, and the octets of the message so far are in `out`.
+ * The items come in the order of the sections.
+ *
+ * Names of questions and owners are compressed where a hint leads to an equal name, and so are those in the RDATA of NS, MD, MF,
+ * CNAME, SOA, MB, MG, MR, PTR, MINFO and MX. RDATA of these eleven types has to be exactly the fields of the type, without
+ * compression pointers; but a record of class NONE (254) or ANY (255) may have none. All other RDATA is copied as it is, and isn't
+ * checked: don't pass RDATA with pointers, as it may be within another message.
+ *
+ * Errors, the first that applies: DNSM_BAD_SECTION if the section exceeds 3 or is before that of the last item; DNSM_BAD_TEXT if
+ * the octets aren't exactly one uncompressed name; DNSM_LONG_DATA; DNSM_BAD_DATA; DNSM_TOO_MANY if the section has 65,535 items;
+ * and DNSM_NO_ROOM, only if the item with its names uncompressed and the reserved octets would pass the end of the buffer or the
+ * limit. On an error the message stays as it was, but octets of the buffer after it may have changed. */
+dnsm_status dnsm_put(dnsm_draft *draft, uint8_t *out, size_t out_len, const dnsm_put_item *item);
+
+/* Writes the header section of a draft, and sets `*len` to the length of the message, the draft's `len`. More items may be put
+ * afterwards; then call it again.
+ *
+ * Errors: DNSM_NO_ROOM if the draft's `len` is less than 12 or exceeds `out_len`. */
+dnsm_status dnsm_finish(const dnsm_draft *draft, uint8_t *out, size_t out_len, size_t *len);
+
+#ifdef __cplusplus
+}
+#endif
+
+#endif

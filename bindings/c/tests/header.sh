@@ -1,0 +1,92 @@
+#!/usr/bin/env bash
+# Compares dnsm.h with the crates: each call and each struct by its C types and the names of its parameters and fields, the numbers
+# of the errors, and the names of the calls in the archive that `library` has built. Looks whether edge.c and campaigns/hostile.c
+# make each call. Compiles the header alone. Prints the differences, and fails if there are any, or if there is no C compiler, no
+# `nm` or no archive.
+set -eu
+here=$(cd "$(dirname "$0")" && pwd)
+header=$here/../dnsm.h
+top=$here/../../..
+crates=$top/crates
+folder=$(mktemp -d)
+trap 'rm -rf "$folder"' EXIT
+
+# converts parameters and fields of Rust to declarations in C; a slice becomes a pointer and a length
+rust_as_c() {
+  sed -E "s/\balloc: Global,//; s/'a //g; s/<'_>//g
+    s/([a-z_]+): &\[u8\]/const uint8_t *\1, size_t \1_len/g; s/([a-z_]+): &mut \[u8\]/uint8_t *\1, size_t \1_len/g
+    s/([a-z_]+): &\[u8; 4\]/const uint8_t \1[4]/g; s/([a-z_]+): \[u16; ([0-9]+)\]/uint16_t \1[\2]/g
+    s/([a-z_]+): &\[([A-Z][a-z]+)([A-Z][a-z]+)\]/const dnsm_\L\2_\3\E *\1, size_t \1_len/g
+    s/([a-z_]+): &mut ([A-Z][a-z]+)([A-Z][a-z]+)/dnsm_\L\2_\3\E *\1/g; s/([a-z_]+): &mut ([A-Z][a-z]+)/dnsm_\L\2\E *\1/g
+    s/([a-z_]+): &([A-Z][a-z]+)([A-Z][a-z]+)/const dnsm_\L\2_\3\E *\1/g; s/([a-z_]+): &([A-Z][a-z]+)/const dnsm_\L\2\E *\1/g
+    s/([a-z_]+): &mut usize/size_t *\1/g; s/([a-z_]+): &mut (bool|u8|u16|u32|u64)\b/\2 *\1/g
+    s/\bstatus: u32\b/dnsm_status status/g; s/([a-z_]+): (u8|u16|u32|u64)\b/\2 \1/g; s/\bu(8|16|32|64) /uint\1_t /g
+    s/([a-z_]+): usize\b/size_t \1/g; s/([a-z_]+): bool\b/bool \1/g
+    s/\b[rq]type\b/type/g; s/\bq?class\b/class_/g; s/\brdata/data/g; s/\(\)/(void)/"
+}
+
+# one space between words, none at the ends; char becomes uint8_t
+plain() {
+  sed -E 's/\bchar\b/uint8_t/g; s/\s+/ /g; s/,? ?\)/)/; s/\( /(/; s/^ //; s/,? ?$//'
+}
+
+cat "$crates"/dnsm/src/*.rt | tr '\n' ' ' | grep -oE 'extern "C" fn [a-z_]+\([^)]*\) -> u32' |
+  sed -E 's/extern "C" fn ([a-z_]+)/dnsm_status \1/; s/ -> u32$//; s/^dnsm_status dnsm_(opt_ttl|version)\b/uint32_t dnsm_\1/' |
+  rust_as_c | plain | sort >"$folder/exports"
+tr '\n' ' ' <"$header" | grep -oE '(dnsm_status|uint32_t) dnsm_[a-z_]+\([^)]*\);' | tr -d ';' | plain | sort >"$folder/prototypes"
+[ -s "$folder/prototypes" ] && diff "$folder/exports" "$folder/prototypes"
+
+# the fields of a struct, in Rust and in C
+rust_fields() {
+  cat "$crates"/dnsm_*/src/*.rt | sed -n "/^pub struct $1\b/,/^}/p" | grep -oE 'pub [a-z_]+: .*,' | sed 's/^pub //; s/,$//' |
+    rust_as_c | sed 's/, /\n/' | plain
+}
+
+c_fields() {
+  sed -n "/^typedef struct $1 /,/^}/p" "$header" | grep -oE '^    [^;]+;' | tr -d ';' | plain
+}
+
+sed -nE 's/^typedef struct (dnsm_[a-z_]+) \{$/\1/p' "$header" >"$folder/structs"
+[ -s "$folder/structs" ]
+while read -r struct; do
+  diff <(rust_fields "$(sed -E 's/^dnsm//; s/_(.)/\U\1/g' <<<"$struct")") <(c_fields "$struct")
+done <"$folder/structs"
+
+# the numbers in number_of and code_of, and those of dnsm_status
+codes=$crates/dnsm_status/specs/Codes.antt
+{
+  echo 'DNSM_OK 0'
+  echo 'DNSM_END 1'
+  sed -nE 's/^number_of faults\.([A-Za-z]+) = ([0-9]+)$/\1 \2/p' "$codes" | sed -E 's/([a-z])([A-Z])/\1_\2/g; s/^/DNSM_/; s/.*/\U&/'
+} >"$folder/numbers"
+grep -qx 'code_of (Ok true) = 0' "$codes" && grep -qx 'code_of (Ok false) = 1' "$codes"
+sed -n '/^enum {$/,/^};$/p' "$header" | sed -n '/DNSM_OK/,/^};$/p' | sed -nE '/^};$/q; s/^ +([A-Z_]+) = ([0-9]+)\b.*/\1 \2/p' |
+  diff "$folder/numbers" -
+
+# each status has a sentence
+awk '{ print $2 }' "$folder/numbers" >"$folder/statuses"
+cat "$crates"/dnsm_status/src/*.rt | sed -nE 's/^        ([0-9]+) => Some\(".*"\),$/\1/p' | diff "$folder/statuses" -
+
+# the version, as text and as a number
+awk -F'[". ]' '/^#define DNSM_VERSION "/ { text = 10000 * $4 + 100 * $5 + $6 } /^#define DNSM_VERSION_NUMBER/ { number = $3 }
+  END { exit !(text == number && number > 0) }' "$header"
+
+# what the archive defines, and what the tests call
+sed -E 's/^[a-z0-9_]+ ([a-z_]+)\(.*/\1/' "$folder/prototypes" | sort >"$folder/declared"
+for file in "$here/edge.c" "$top/campaigns/hostile.c"; do
+  while read -r name; do
+    grep -q "\b$name(" "$file" || { echo "$(basename "$file") calls no $name"; exit 1; }
+  done <"$folder/declared"
+done
+for file in "$crates/dnsm/out/libdnsm.a" "$(command -v nm || echo nm)"; do
+  [ -e "$file" ] || { echo "no $file: the names in the archive can't be compared"; exit 1; }
+done
+nm --defined-only "$crates/dnsm/out/libdnsm.a" 2>/dev/null | sed -nE 's/.* T (dnsm_[a-z_]+)$/\1/p' | sort >"$folder/defined"
+diff "$folder/defined" "$folder/declared"
+
+# the header alone, by each C compiler
+compilers=$(command -v gcc clang cc || true)
+[ "$compilers" ] || { echo 'no C compiler: the header is not compiled'; exit 1; }
+for compiler in $compilers; do
+  echo '#include "dnsm.h"' | "$compiler" -std=c99 -Wall -Wextra -Wconversion -pedantic -Werror "-I$here/.." -x c -fsyntax-only -
+done

@@ -1,0 +1,181 @@
+#!/usr/bin/env bash
+# Builds the static library of crates/dnsm (library), compares dnsm.h with its exports (header.sh), and compiles and runs these
+# tests, the examples of bindings/c, and those of dnsm.h (quoted), in C and C++. Each compiler of gcc and clang, and of g++ and
+# clang++, that is installed compiles them, with all warnings as errors, and with the address and undefined behaviour sanitizers if
+# it has them, which it says. The sanitizers check the programs and what they pass to the library, but not the reads and writes of
+# libdnsm.a itself, which are proved; show.c has a page after each message that can't be read. The packages of Debian are gcc, g++
+# and clang.
+# Prints 'test c::NAME ... ok' or 'test c::NAME ... FAILED' for each step, and fails if one does, or if there is no compiler for
+# C or for C++.
+set -u
+here=$(cd "$(dirname "$0")" && pwd)
+header=$here/..
+archive=$here/../../../crates/dnsm/out/libdnsm.a
+packages=$here/../../tests
+kit=$(dirname "$(rt doc)")
+build=$(mktemp -d)
+trap 'rm -rf "$build"' EXIT
+failed=0
+
+# Runs a command, and prints whether it succeeded, and its output if it did not.
+outcome() {
+  local name=$1
+  shift
+  if "$@" >"$build/said" 2>&1; then
+    echo "test c::$name ... ok"
+  else
+    cat "$build/said"
+    echo "test c::$name ... FAILED"
+    failed=1
+  fi
+}
+
+sanitizers='-fsanitize=address,undefined -fno-sanitize-recover=all'
+export ASAN_OPTIONS=exitcode=99 UBSAN_OPTIONS=exitcode=99
+
+has_sanitizers() {
+  echo 'int main(void) { return 0; }' | $1 $sanitizers -x c - -o "$build/probe" && "$build/probe"
+} >/dev/null 2>&1
+
+# compile COMPILER STANDARD SOURCE [PROGRAM]
+compile() {
+  local compiler=$1 standard=$2 source=$3 program=${4:-$(basename "${3%.*}")} flags="-O1 -g -Wall -Wextra -Wconversion -pedantic -Werror"
+  has_sanitizers "$compiler" && flags="$flags $sanitizers"
+  $compiler "-std=$standard" $flags "-I$header" "$source" "$archive" "$kit/c/liblibc_c.a" -o "$build/$program"
+}
+
+cat >"$build/expected" <<'EXPECTED'
+header id=4660 opcode=0 rcode=0 z=0 flags=RD
+counts 1 0 0 0
+question host.example.com.	A	IN
+
+header id=4660 opcode=0 rcode=0 z=0 flags=QR AA RD
+counts 1 1 0 0
+question host.example.com.	A	IN
+answer host.example.com. 3600 IN A 192.0.2.1
+
+header id=4660 opcode=0 rcode=0 z=0 flags=QR RD RA
+counts 1 1 1 2
+question www.example.com.	A	IN
+answer www.example.com. 300 IN A 192.0.2.7
+authority example.com. 3600 IN NS ns.example.com.
+additional ns.example.com. 300 IN A 192.0.2.7
+additional . 0 CLASS1232 OPT \# 0
+
+EXPECTED
+
+cat >"$build/expected_data" <<'EXPECTED'
+MX 10 mail.example.com.
+SRV 0 5 5222 chat.example.com.
+EXPECTED
+
+# The messages that the examples write, in hexadecimal.
+messages() {
+  "$build/ask" && "$build/build"
+}
+
+# A message of 65,537 octets, and one with an NSEC record of all 65,536 types, in windows of 256 (RFC 4034 section 4.1.2).
+long_messages() {
+  local window
+  printf '%0131074d\n' 0
+  printf '00008000000000010000000000''002f000100000000''2201''00'
+  for ((window = 0; window < 256; window++)); do
+    printf '%02x20' "$window"
+    printf 'ff%.0s' {1..32}
+  done
+  printf '\n'
+}
+
+# Lines that are no message: an odd number of digits, other characters, a zero octet, fewer octets than a header, and random octets.
+odd_lines() {
+  printf '000\nxyz\n\n0102\n%024dz\n%024d\0%024d\n' 0 0 0
+  head -c 300000 /dev/urandom
+  printf '\n%025d' 0
+}
+
+# reads INPUT OUTPUT PROGRAM: as that of bindings/test.
+reads() {
+  local status=0
+  "$build/$3" <"$packages/$1.txt" >"$build/output" 2>"$build/told" || status=$?
+  [ $status = 1 ] && diff "$packages/$2.txt" "$build/output" && diff "$packages/$2_told.txt" "$build/told"
+}
+
+# What the programs that print messages make of long lines: the number of words of each line that they print.
+prints_long() {
+  long_messages | "$build/show" | awk 'NF { print $1, NF }' | diff <(printf '%s\n' 'header 6' 'counts 5' 'header 6' 'counts 5' 'answer 65542') - &&
+    long_messages | "$build/show_simply" | awk 'NF { print $1, NF }' | diff <(printf '%s\n' 'id 4' 'id 4' 'answer 65542') - &&
+    long_messages | "$build/respond" | diff <(printf 'ignored\n%.0s' 1 2) -
+}
+
+# Whether a command ends by itself with this status: 1 for input that it refuses. A sanitizer ends it with 99.
+ends_with() {
+  local wanted=$1 status=0
+  shift
+  "$@" >"$build/odd" || status=$?
+  [ $status = "$wanted" ] || { echo "status $status of $*" && return 1; }
+}
+
+# No line stops the programs, and none that is no message is printed by `show`. A text that is no name gets no query.
+reads_all() {
+  local text
+  odd_lines >"$build/lines"
+  ends_with 0 "$build/show" <"$build/lines" && [ ! -s "$build/odd" ] && ends_with 1 "$build/show_simply" <"$build/lines" &&
+    ends_with 1 "$build/respond" <"$build/lines" || return
+  for text in '' a..b $'\377' '\' "$(printf 'a%.0s' {1..64})" "$(printf 'a.%.0s' {1..128})"; do
+    ends_with 1 "$build/ask" "$text" || return
+  done
+}
+
+# The exit statuses of the examples: 0 after good lines, and 1 after a line that is no message. `show` also ends with 1 after
+# a message that is cut off. No program ends with 0 if the input, here a folder, can't be read.
+statuses() {
+  local program
+  head -7 "$packages/messages.txt" >"$build/replies" && sed 11,17d "$packages/queries.txt" >"$build/queries" &&
+    ends_with 0 "$build/show_simply" <"$build/replies" && ends_with 0 "$build/respond" <"$build/queries" &&
+    ends_with 1 "$build/show_simply" < <(sed -n 16p "$packages/messages.txt") &&
+    ends_with 1 "$build/show_simply" < <(sed -n 19p "$packages/messages.txt") || return
+  for program in show_simply respond; do
+    ends_with 1 "$build/$program" <<<zz && ends_with 1 "$build/$program" <. || return
+  done
+  ends_with 1 "$build/show" <.
+}
+
+examples() {
+  local source
+  has_sanitizers "$1" || echo "$1 has no sanitizers: the examples in C run without" >&3
+  for source in "$here"/{ask,build,edge,show}.c "$here"/../examples/{mx,respond,write}.c; do
+    compile "$1" c11 "$source" || return
+  done
+  compile "$1" c11 "$here/../examples/show.c" show_simply || return
+  "$build/edge" && quoted "$1" && "$build/mx" | diff "$build/expected_data" - && messages >"$build/messages" &&
+    "$build/show" <"$build/messages" | diff "$build/expected" - &&
+    "$build/write" | diff "$packages/written.txt" - && reads messages shown show_simply && reads queries responded respond &&
+    prints_long && reads_all && statuses &&
+    "$build/show" prefixes <"$build/messages" && "$build/show" changes <"$build/messages"
+}
+
+# The examples of dnsm.h.
+quoted() {
+  "$here/quoted" >"$build/quoted.c" && compile "$1" c99 "$build/quoted.c" && "$build/quoted" | diff "$here/quoted.txt" -
+}
+
+examples_of_cpp() {
+  compile "$1" c++17 "$here/each.cpp" && "$build/each"
+}
+
+# each_compiler EXAMPLES COMPILER..: the examples by each compiler that is installed; without any, they fail.
+each_compiler() {
+  local function=$1 compiler installed=
+  shift
+  for compiler; do
+    command -v "$compiler" >/dev/null && installed=1 && outcome "$compiler" "$function" "$compiler"
+  done
+  [ "$installed" ] || { echo "no compiler: none of $*" && echo "test c::$function ... FAILED" && failed=1; }
+}
+
+exec 3>&1
+outcome library "$here/../library"
+outcome header "$here/header.sh"
+each_compiler examples gcc clang
+each_compiler examples_of_cpp g++ clang++
+exit $failed

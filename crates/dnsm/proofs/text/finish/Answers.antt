@@ -1,6 +1,0 @@
-use Rattle.std.proofs.Common.{arith}
-use Rattle.dnsm.proofs.PieceLemmas.{terminated}
-use Rattle.dnsm.proofs.text.finish.Goals as goal
-
-pub returns-clause-text : goal.returns-clause-text
-returns-clause-text c = λ text h done. terminated c.args.out.now text c.args.end (omega arith) (omega arith) h

@@ -1,6 +1,0 @@
-use Rattle.std.proofs.Common.{refl, rules}
-use Rattle.dnsm.proofs.SinkLemmas.{printed}
-use Rattle.dnsm.proofs.text.write_name.Goals as goal
-
-pub returns : goal.returns
-returns c = printed _ _ _ _ _ (search rules) refl refl (c.in-Ok.ensures.text (search rules))

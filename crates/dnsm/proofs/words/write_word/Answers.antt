@@ -1,6 +1,0 @@
-use Rattle.std.proofs.Common.{refl, rules}
-use Rattle.dnsm.proofs.SinkLemmas.{printed}
-use Rattle.dnsm.proofs.words.write_word.Goals as goal
-
-pub returns : goal.returns
-returns c = printed _ _ _ _ _ (search rules) refl refl (c.in-Ok.ensures.text (search rules))

@@ -1,0 +1,82 @@
+//! Builds messages item by item in the caller's buffer.
+ghost use Rattle.std.specs.Prelude.{◌≡◌, ◌≢◌, ◌⊎◌, ◌<◌, ◌≤◌, ◌+◌, length, take, replicate};
+ghost use Rattle.dns_code.specs.HeaderSection.{header_size};
+ghost use Rattle.dns_build.specs.State.{State, with_header, up_to, InBuilder};
+ghost use Rattle.dns_build.specs.MessageOf.{ReadsBack, PointsToLabels};
+ghost use Rattle.dnsm_put.specs.Items.{Means};
+ghost use Rattle.dnsm_put.specs.Drafts.{Adds, DraftsStay, IsDraftOf, header_of as draft_header};
+ghost use Rattle.dnsm_put.specs.Refusals.{IsAcceptable, IsRefused};
+ghost use Rattle.dnsm_put.specs.declared.draft.Draft.{Draft};
+ghost use Rattle.dnsm_put.specs.declared.draft.PutError.{PutError};
+ghost use Rattle.dnsm_status.specs.Codes.{number_of};
+ghost use Rattle.dnsm_put.specs.Refusals.{put_fault};
+
+use dnsm_put::{Draft, PutItem};
+use dnsm_status::{CallError, code};
+
+/// Begins a message without items, limit, reserved octets or hints. Writes nothing to the buffer.
+#[unsafe(no_mangle)]
+pub extern "C" fn dnsm_begin(draft: &mut Draft, out: &mut [u8], id: u16, flags: u16) -> u32
+    ensures begun { result ≡ 0 → (s : State) → IsDraftOf out.old draft.new (up_to InBuilder s) }
+    ensures header { result ≡ 0 → (draft.new.id ≡ id) × (draft.new.flags ≡ flags) }
+    ensures settings { result ≡ 0 → (draft.new.limit ≡ usize.MAX) × (draft.new.reserved ≡ 0) }
+    ensures section { result ≡ 0 → draft.new.section ≡ 0 }
+    ensures hints { result ≡ 0 → draft.new.hints ≡ replicate 64 0 }
+    ensures no_room { result ≢ 0 → (result ≡ number_of CallError.NoRoom)
+        × (length out.old < header_size) × (draft.new ≡ draft.old) }
+    ensures same { out.new ≡ out.old }
+{
+    match dnsm_put::begin(draft, out, id, flags) {
+        Ok(()) => 0,
+        Err(error) => code::of_fault(error.into()),
+    }
+}
+
+/// Appends an item to the message. On an error the octets of the buffer after the message may have
+/// changed.
+#[unsafe(no_mangle)]
+pub extern "C" fn dnsm_put(draft: &mut Draft, out: &mut [u8], item: &PutItem<'_>) -> u32
+    ensures adds { result ≡ 0 → Adds out.old out.new draft.old draft.new item.now }
+    ensures means { result ≡ 0 → Means item.now }
+    ensures room { result ≡ 0 → (draft.new.len + draft.old.reserved ≤ length out.old)
+        × (draft.new.len + draft.old.reserved ≤ draft.old.limit) }
+    ensures section { result ≡ 0 → draft.new.section ≡ item.now.section }
+    ensures acceptable { result ≡ 0 → IsAcceptable draft.old item.now }
+    ensures refused { result ≢ 0 → (error : PutError) × (result ≡ number_of (put_fault error))
+        × IsRefused draft.old (length out.old) item.now error }
+    ensures settings { (draft.new.id ≡ draft.old.id) × (draft.new.flags ≡ draft.old.flags)
+        × (draft.new.limit ≡ draft.old.limit) × (draft.new.reserved ≡ draft.old.reserved) }
+    ensures same { result ≢ 0 → (draft.new.len ≡ draft.old.len)
+        × (draft.new.counts ≡ draft.old.counts) × (draft.new.section ≡ draft.old.section) }
+    ensures length { length out.new ≡ length out.old }
+    ensures stay { DraftsStay out.old out.new draft.old.len }
+{
+    match dnsm_put::put(draft, out, item) {
+        Ok(()) => 0,
+        Err(error) => code::of_fault(error.into()),
+    }
+}
+
+/// Writes the header section of a message, and sets `len` to the length of the message. More items
+/// may be put afterwards.
+#[unsafe(no_mangle)]
+pub extern "C" fn dnsm_finish(draft: &Draft, out: &mut [u8], len: &mut usize) -> u32
+    ensures read { result ≡ 0 → (s : State) → IsDraftOf out.old draft.now s
+        → ReadsBack (with_header (draft_header draft.now) s) (take len.new out.new) }
+    ensures pointed { result ≡ 0 → (s : State) → IsDraftOf out.old draft.now s
+        → PointsToLabels s (take len.new out.new) }
+    ensures len { len.new ≡ draft.now.len }
+    ensures within { result ≡ 0 → len.new ≤ length out.new }
+    ensures none { result ≢ 0 → (s : State) → IsDraftOf out.old draft.now s → ⊥ }
+    ensures long { result ≡ 0 → header_size ≤ len.new }
+    ensures no_room { result ≢ 0 → (result ≡ number_of CallError.NoRoom)
+        × ((draft.now.len < header_size) ⊎ (length out.old < draft.now.len)) }
+    ensures length { length out.new ≡ length out.old }
+    ensures stay { (d : Draft) (s : State) → IsDraftOf out.old d s → IsDraftOf out.new d s }
+{
+    *len = draft.len;
+    match dnsm_put::finish(draft, out) {
+        Ok(_len) => 0,
+        Err(error) => code::of_fault(error.into()),
+    }
+}

@@ -1,0 +1,3 @@
+pub mod Made
+pub mod Built
+pub mod NewData

@@ -1,0 +1,3 @@
+pub mod theory
+mod DataTextLemmas
+mod WalkLemmas

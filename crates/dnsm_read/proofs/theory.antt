@@ -1,0 +1,2 @@
+pub mod DataNameLemmas
+pub mod OptLemmas

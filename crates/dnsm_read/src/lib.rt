@@ -1,0 +1,17 @@
+//! Reads messages for callers that own everything: the message, a cursor, and each buffer.
+//!
+//! Nothing is kept between two calls, and no function requires anything of what it gets: each one is
+//! total, whatever a cursor or an item holds. Nothing is allocated. `dnsm` exports these functions to
+//! C.
+#![tactic(auto)]
+
+pub mod asked;
+pub mod data_name;
+pub mod data_text;
+pub mod laws;
+pub mod name_text;
+pub mod opts;
+pub mod walk;
+
+pub use opts::{Opt, OptOption};
+pub use walk::{Cursor, Header, Item};

@@ -1,0 +1,4 @@
+pub mod CallerLemmas
+pub mod FaultLemmas
+pub mod PieceLemmas
+pub mod SinkLemmas

@@ -1,0 +1,4 @@
+pub mod Codes
+pub mod Statuses
+pub mod CallerBuffers
+pub mod Sinks
