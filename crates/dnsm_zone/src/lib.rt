@@ -1,6 +1,6 @@
 //! RDATA and records of zone files, as octets (RFC 1035 section 5.1).
 //!
-//! These functions allocate. `dnsm` exports them to C.
+//! These functions allocate. No call for C uses them yet.
 #![tactic(auto)]
 
 mod data;
