@@ -18,7 +18,9 @@ mod ttl;
 pub mod ttl_laws;
 
 pub use counts::HeaderCounts;
-pub use dns_iana::{Class, Opcode, OptRcode, OptionCode, Rcode, Rtype, class, rtype};
+pub use dns_iana::{
+    Class, ExtendedErrorCode, Opcode, OptRcode, OptionCode, Rcode, Rtype, class, rtype,
+};
 pub use error::{CountOverflow, FlagsFromStrError};
 pub use flags::{Flags, write_flags};
 pub use header::Header;

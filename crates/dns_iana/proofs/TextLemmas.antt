@@ -1,5 +1,5 @@
 -- Numbers that are printed and read.
-use Rattle.std.proofs.Common.{◌≡◌, ℕ, ◌<◌, ◌^◌, List, ◌++◌, refl, sym, ap, ◌∙◌, ◌↔◌, subst, inl, inr, arith}
+use Rattle.std.proofs.Common.{◌≡◌, ℕ, ◌<◌, ◌≤◌, ◌^◌, List, ◌++◌, refl, sym, ap, ◌∙◌, ◌↔◌, subst, inl, inr, arith}
 use Rattle.std.specs.Prelude.{Option, Some, None, option_map, unwrap_or, decimal, Result, Ok, Err, IsErr}
 use Rattle.std.specs.Option.{ok_or}
 use Rattle.std.specs.Str.{str_to_ascii_lowercase}
@@ -37,3 +37,31 @@ module _ (names : Mnemonics) (word : List ℕ) (n : ℕ) (small : n < 2 ^ 16) wh
   -- the printed text of a number is a text of that number
   pub text_spells : Spells names word (number_text names word n) n
   text_spells = by_mnemonic (mnemonic names n) refl
+
+module _ (IsSpelled : ℕ → Type 0) (o : Option ℕ) (read : (n : ℕ) → IsSpelled n ↔ (o ≡ Some n)) where
+  -- a number that is read is the one whose text it is
+  pub number_read : (k : ℕ) → o ≡ Some k → (n : ℕ) → IsSpelled n ↔ (Some k ≡ Some n)
+  number_read k is n = (λ x. sym is ∙ (read n).0 x, λ e. (read n).1 (is ∙ e))
+
+  -- if none is read, the text is of no number
+  pub none_read : o ≡ None → (r : Option ℕ) → r ≡ None → (n : ℕ) → IsSpelled n ↔ (r ≡ Some n)
+  none_read is r none n = (λ x. none ∙ sym is ∙ (read n).0 x, λ e. (read n).1 (is ∙ sym none ∙ e))
+
+  module _ (limit : ℕ) where
+    -- a number below the limit is the one whose text it is
+    pub read_below : (k : ℕ) → o ≡ Some k → k < limit → (n : ℕ) → (IsSpelled n × (n < limit)) ↔ (Some k ≡ Some n)
+    read_below k is below n = (
+      λ x. (number_read k is n).0 x.0,
+      λ e. let same : k ≡ n = cc in ((number_read k is n).1 e, subst (λ m. m < limit) same below),
+    )
+
+    -- a greater number isn't read
+    pub read_above : (k : ℕ) → o ≡ Some k → limit ≤ k → (n : ℕ) → (IsSpelled n × (n < limit)) ↔ (None ≡ Some n)
+    read_above k is above n = (
+      λ x. let e = (number_read k is n).0 x.0 in let same : k ≡ n = cc in absurd (omega (arith, x.1)),
+      λ e. cc,
+    )
+
+    -- nor is one read if the text is of no number
+    pub none_below : o ≡ None → (r : Option ℕ) → r ≡ None → (n : ℕ) → (IsSpelled n × (n < limit)) ↔ (r ≡ Some n)
+    none_below is r none n = (λ x. (none_read is r none n).0 x.0, λ e. let wrong : None ≡ Some n = sym none ∙ e in cc wrong)

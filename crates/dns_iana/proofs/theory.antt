@@ -1,3 +1,4 @@
 -- Lemmas that other crates cite: a changed statement changes for them too.
 pub mod MnemonicLemmas
 pub mod NumberedLemmas
+pub mod AsciiTexts

@@ -5,6 +5,7 @@ pub mod Classes
 pub mod Tables
 pub mod Rcodes
 pub mod Registry
+pub mod RegisteredTexts
 pub mod Laws
 pub mod Serials
 pub mod SerialLaws

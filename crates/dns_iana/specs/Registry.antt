@@ -193,6 +193,42 @@ registered_options =
     ∷ (26946, codes "DeviceID")  -- no RFC
     ∷ []
 
+-- the registered codes of extended errors
+unfoldable pub registered_extended_errors : Mnemonics
+registered_extended_errors =
+    (0, codes "Other Error")  -- RFC 8914 section 4.1
+    ∷ (1, codes "Unsupported DNSKEY Algorithm")  -- RFC 8914 section 4.2
+    ∷ (2, codes "Unsupported DS Digest Type")  -- RFC 8914 section 4.3
+    ∷ (3, codes "Stale Answer")  -- RFC 8914 section 4.4
+    ∷ (4, codes "Forged Answer")  -- RFC 8914 section 4.5
+    ∷ (5, codes "DNSSEC Indeterminate")  -- RFC 8914 section 4.6
+    ∷ (6, codes "DNSSEC Bogus")  -- RFC 8914 section 4.7
+    ∷ (7, codes "Signature Expired")  -- RFC 8914 section 4.8
+    ∷ (8, codes "Signature Not Yet Valid")  -- RFC 8914 section 4.9
+    ∷ (9, codes "DNSKEY Missing")  -- RFC 8914 section 4.10
+    ∷ (10, codes "RRSIGs Missing")  -- RFC 8914 section 4.11
+    ∷ (11, codes "No Zone Key Bit Set")  -- RFC 8914 section 4.12
+    ∷ (12, codes "NSEC Missing")  -- RFC 8914 section 4.13
+    ∷ (13, codes "Cached Error")  -- RFC 8914 section 4.14
+    ∷ (14, codes "Not Ready")  -- RFC 8914 section 4.15
+    ∷ (15, codes "Blocked")  -- RFC 8914 section 4.16
+    ∷ (16, codes "Censored")  -- RFC 8914 section 4.17
+    ∷ (17, codes "Filtered")  -- RFC 8914 section 4.18
+    ∷ (18, codes "Prohibited")  -- RFC 8914 section 4.19
+    ∷ (19, codes "Stale NXDomain Answer")  -- RFC 8914 section 4.20
+    ∷ (20, codes "Not Authoritative")  -- RFC 8914 section 4.21
+    ∷ (21, codes "Not Supported")  -- RFC 8914 section 4.22
+    ∷ (22, codes "No Reachable Authority")  -- RFC 8914 section 4.23
+    ∷ (23, codes "Network Error")  -- RFC 8914 section 4.24
+    ∷ (24, codes "Invalid Data")  -- RFC 8914 section 4.25
+    ∷ (25, codes "Signature Expired before Valid")  -- no RFC
+    ∷ (26, codes "Too Early")  -- RFC 9250
+    ∷ (27, codes "Unsupported NSEC3 Iterations Value")  -- RFC 9276
+    ∷ (28, codes "Unable to conform to policy")  -- no RFC
+    ∷ (29, codes "Synthesized")  -- no RFC
+    ∷ (30, codes "Invalid Query Type")  -- RFC 9824
+    ∷ []
+
 -- the numbers of a table, in its order
 abbrev pub numbers : Mnemonics → List ℕ
 numbers names = map (λ entry. entry.0) names

@@ -1,15 +1,17 @@
 //! Theorems on numbers, on their names and texts, and on how they compare. Each contract is a
 //! theorem.
-ghost use Rattle.std.specs.Prelude.{◌≡◌, ◌↔◌, ◌∷◌, [], ◌++◌, IsTrue, Some};
+ghost use Rattle.std.specs.Prelude.{◌≡◌, ◌↔◌, ◌∷◌, [], ◌++◌, IsTrue, Some, codes};
 ghost use Rattle.std.specs.Hash as fed;
 ghost use Rattle.std.specs.List.{range_with_len};
 ghost use Rattle.std.specs.Ordering.{nat_cmp};
 ghost use Rattle.dns_iana.specs.Laws.{TypesReadBack, ClassesReadBack};
 ghost use Rattle.dns_iana.specs.Mnemonics.{type_mnemonics, class_mnemonics};
-ghost use Rattle.dns_iana.specs.Registry.{numbers, type_numbers, registered_types, registered_classes, registered_opcodes, registered_rcodes, registered_opt_rcodes, registered_options};
+ghost use Rattle.dns_iana.specs.RegisteredTexts.{TextsReadBack};
+ghost use Rattle.dns_iana.specs.Registry.{numbers, type_numbers, registered_types, registered_classes, registered_opcodes, registered_rcodes, registered_opt_rcodes, registered_options, registered_extended_errors};
 ghost use Rattle.dns_iana.specs.Tables.{table, is_distinct};
 
 use crate::class::{Class, FromStrError as ClassError};
+use crate::extended_error::ExtendedErrorCode;
 use crate::opcode::Opcode;
 use crate::option_code::OptionCode;
 use crate::rcode::{OptRcode, Rcode};
@@ -20,6 +22,18 @@ use std::hash::Hash;
 pub fn printed_numbers_read_back()
     ensures types { TypesReadBack }
     ensures classes { ClassesReadBack }
+{}
+
+/// The registered name of each number, or a word and the number where it has none, reads back as that
+/// number: of types and classes `TYPE` and `CLASS` (RFC 3597 section 5).
+pub fn registered_texts_read_back()
+    ensures types { TextsReadBack registered_types (codes "TYPE") }
+    ensures classes { TextsReadBack registered_classes (codes "CLASS") }
+    ensures opcodes { TextsReadBack registered_opcodes (codes "OPCODE") }
+    ensures rcodes { TextsReadBack registered_rcodes (codes "RCODE") }
+    ensures opt_rcodes { TextsReadBack registered_opt_rcodes (codes "RCODE") }
+    ensures options { TextsReadBack registered_options (codes "OPTION") }
+    ensures extended_errors { TextsReadBack registered_extended_errors (codes "EDE") }
 {}
 
 /// The numbers of `QUERY` and `NOTIFY`, then of `NOERROR`, `SERVFAIL`, `NXDOMAIN` and `REFUSED`
@@ -282,9 +296,80 @@ pub fn option_constants() -> [(OptionCode, &'static str); 20]
     ]
 }
 
-/// The numbers of the registered types, classes, opcodes, rcodes and options, in the order of
-/// their tables. As they rise, each occurs once.
-#[tactic(auto, unfolding(crate::specs::Registry::registered_types, crate::specs::Registry::registered_classes, crate::specs::Registry::registered_opcodes, crate::specs::Registry::registered_rcodes, crate::specs::Registry::registered_opt_rcodes, crate::specs::Registry::registered_options))]
+/// The constants of codes of extended errors, each with the name that IANA has registered for its
+/// number.
+#[tactic(auto, unfolding(crate::specs::Registry::registered_extended_errors))]
+pub fn extended_error_constants() -> [(ExtendedErrorCode, &'static str); 31]
+    ensures { table result ≡ registered_extended_errors }
+{
+    [
+        (ExtendedErrorCode::OTHER, "Other Error"),
+        (
+            ExtendedErrorCode::UNSUPPORTED_DNSKEY_ALGORITHM,
+            "Unsupported DNSKEY Algorithm",
+        ),
+        (
+            ExtendedErrorCode::UNSUPPORTED_DS_DIGEST_TYPE,
+            "Unsupported DS Digest Type",
+        ),
+        (ExtendedErrorCode::STALE_ANSWER, "Stale Answer"),
+        (ExtendedErrorCode::FORGED_ANSWER, "Forged Answer"),
+        (
+            ExtendedErrorCode::DNSSEC_INDETERMINATE,
+            "DNSSEC Indeterminate",
+        ),
+        (ExtendedErrorCode::DNSSEC_BOGUS, "DNSSEC Bogus"),
+        (ExtendedErrorCode::SIGNATURE_EXPIRED, "Signature Expired"),
+        (
+            ExtendedErrorCode::SIGNATURE_NOT_YET_VALID,
+            "Signature Not Yet Valid",
+        ),
+        (ExtendedErrorCode::DNSKEY_MISSING, "DNSKEY Missing"),
+        (ExtendedErrorCode::RRSIGS_MISSING, "RRSIGs Missing"),
+        (
+            ExtendedErrorCode::NO_ZONE_KEY_BIT_SET,
+            "No Zone Key Bit Set",
+        ),
+        (ExtendedErrorCode::NSEC_MISSING, "NSEC Missing"),
+        (ExtendedErrorCode::CACHED_ERROR, "Cached Error"),
+        (ExtendedErrorCode::NOT_READY, "Not Ready"),
+        (ExtendedErrorCode::BLOCKED, "Blocked"),
+        (ExtendedErrorCode::CENSORED, "Censored"),
+        (ExtendedErrorCode::FILTERED, "Filtered"),
+        (ExtendedErrorCode::PROHIBITED, "Prohibited"),
+        (
+            ExtendedErrorCode::STALE_NXDOMAIN_ANSWER,
+            "Stale NXDomain Answer",
+        ),
+        (ExtendedErrorCode::NOT_AUTHORITATIVE, "Not Authoritative"),
+        (ExtendedErrorCode::NOT_SUPPORTED, "Not Supported"),
+        (
+            ExtendedErrorCode::NO_REACHABLE_AUTHORITY,
+            "No Reachable Authority",
+        ),
+        (ExtendedErrorCode::NETWORK_ERROR, "Network Error"),
+        (ExtendedErrorCode::INVALID_DATA, "Invalid Data"),
+        (
+            ExtendedErrorCode::SIGNATURE_EXPIRED_BEFORE_VALID,
+            "Signature Expired before Valid",
+        ),
+        (ExtendedErrorCode::TOO_EARLY, "Too Early"),
+        (
+            ExtendedErrorCode::UNSUPPORTED_NSEC3_ITERATIONS_VALUE,
+            "Unsupported NSEC3 Iterations Value",
+        ),
+        (
+            ExtendedErrorCode::UNABLE_TO_CONFORM_TO_POLICY,
+            "Unable to conform to policy",
+        ),
+        (ExtendedErrorCode::SYNTHESIZED, "Synthesized"),
+        (ExtendedErrorCode::INVALID_QUERY_TYPE, "Invalid Query Type"),
+    ]
+}
+
+/// The numbers of the registered types, classes, opcodes, rcodes, options and extended errors, in
+/// the order of their tables. As they rise, each occurs once.
+#[tactic(auto, unfolding(crate::specs::Registry::registered_types, crate::specs::Registry::registered_classes, crate::specs::Registry::registered_opcodes, crate::specs::Registry::registered_rcodes, crate::specs::Registry::registered_opt_rcodes, crate::specs::Registry::registered_options, crate::specs::Registry::registered_extended_errors))]
 pub fn registered_numbers()
     ensures types { numbers registered_types ≡ type_numbers }
     ensures classes { numbers registered_classes ≡ 1 ∷ 3 ∷ 4 ∷ 254 ∷ 255 ∷ [] }
@@ -294,10 +379,11 @@ pub fn registered_numbers()
         range_with_len 0 12 ++ range_with_len 16 8 }
     ensures options { numbers registered_options ≡
         (1 ∷ 2 ∷ 3 ∷ []) ++ range_with_len 5 15 ++ (20292 ∷ 26946 ∷ []) }
+    ensures extended_errors { numbers registered_extended_errors ≡ range_with_len 0 31 }
 {}
 
 /// No two registered names of a table are equal, ignoring ASCII case.
-#[tactic(auto, unfolding(crate::specs::Registry::registered_types, crate::specs::Registry::registered_classes, crate::specs::Registry::registered_opcodes, crate::specs::Registry::registered_rcodes, crate::specs::Registry::registered_opt_rcodes, crate::specs::Registry::registered_options))]
+#[tactic(auto, unfolding(crate::specs::Registry::registered_types, crate::specs::Registry::registered_classes, crate::specs::Registry::registered_opcodes, crate::specs::Registry::registered_rcodes, crate::specs::Registry::registered_opt_rcodes, crate::specs::Registry::registered_options, crate::specs::Registry::registered_extended_errors))]
 pub fn registered_names_differ()
     ensures types { IsTrue (is_distinct registered_types) }
     ensures classes { IsTrue (is_distinct registered_classes) }
@@ -305,6 +391,7 @@ pub fn registered_names_differ()
     ensures rcodes { IsTrue (is_distinct registered_rcodes) }
     ensures opt_rcodes { IsTrue (is_distinct registered_opt_rcodes) }
     ensures options { IsTrue (is_distinct registered_options) }
+    ensures extended_errors { IsTrue (is_distinct registered_extended_errors) }
 {}
 
 /// Two types, classes or codes are equal if and only if their numbers are. Two errors of reading a
@@ -316,6 +403,8 @@ pub fn number_equality()
     ensures rcodes { (a b : _) → IsTrue (⟦<Rcode as PartialEq>⟧.eq a b) ↔ (a ≡ b) }
     ensures opt_rcodes { (a b : _) → IsTrue (⟦<OptRcode as PartialEq>⟧.eq a b) ↔ (a ≡ b) }
     ensures options { (a b : _) → IsTrue (⟦<OptionCode as PartialEq>⟧.eq a b) ↔ (a ≡ b) }
+    ensures extended_errors { (a b : _) →
+        IsTrue (⟦<ExtendedErrorCode as PartialEq>⟧.eq a b) ↔ (a ≡ b) }
     ensures type_errors { (a b : _) → IsTrue (⟦<TypeError as PartialEq>⟧.eq a b) ↔ (a ≡ b) }
     ensures class_errors { (a b : _) → IsTrue (⟦<ClassError as PartialEq>⟧.eq a b) ↔ (a ≡ b) }
 {}
@@ -328,6 +417,7 @@ pub fn number_orders()
     ensures rcodes { ⟦<Rcode as Ord>⟧.cmp ≡ nat_cmp }
     ensures opt_rcodes { ⟦<OptRcode as Ord>⟧.cmp ≡ nat_cmp }
     ensures options { ⟦<OptionCode as Ord>⟧.cmp ≡ nat_cmp }
+    ensures extended_errors { ⟦<ExtendedErrorCode as Ord>⟧.cmp ≡ nat_cmp }
 {}
 
 /// `<` and its kin follow the same order.
@@ -340,6 +430,8 @@ pub fn number_partial_orders()
         ⟦<OptRcode as PartialOrd>⟧.partial_cmp a b ≡ Some (nat_cmp a b) }
     ensures options { (a b : _) →
         ⟦<OptionCode as PartialOrd>⟧.partial_cmp a b ≡ Some (nat_cmp a b) }
+    ensures extended_errors { (a b : _) →
+        ⟦<ExtendedErrorCode as PartialOrd>⟧.partial_cmp a b ≡ Some (nat_cmp a b) }
 {}
 
 /// Hashing feeds the hasher the number, and nothing else.
@@ -350,6 +442,7 @@ pub fn number_hashes()
     ensures rcodes { ⟦<Rcode as Hash>⟧.hash_input ≡ fed.u8 }
     ensures opt_rcodes { ⟦<OptRcode as Hash>⟧.hash_input ≡ fed.u16 }
     ensures options { ⟦<OptionCode as Hash>⟧.hash_input ≡ fed.u16 }
+    ensures extended_errors { ⟦<ExtendedErrorCode as Hash>⟧.hash_input ≡ fed.u16 }
 {}
 
 /// A clone has the same number, or is the same error.
@@ -360,6 +453,7 @@ pub fn number_clones()
     ensures rcodes { (a b : _) → ⟦<Rcode as Clone>⟧.is_clone a b → b ≡ a }
     ensures opt_rcodes { (a b : _) → ⟦<OptRcode as Clone>⟧.is_clone a b → b ≡ a }
     ensures options { (a b : _) → ⟦<OptionCode as Clone>⟧.is_clone a b → b ≡ a }
+    ensures extended_errors { (a b : _) → ⟦<ExtendedErrorCode as Clone>⟧.is_clone a b → b ≡ a }
     ensures type_errors { (a b : _) → ⟦<TypeError as Clone>⟧.is_clone a b → b ≡ a }
     ensures class_errors { (a b : _) → ⟦<ClassError as Clone>⟧.is_clone a b → b ≡ a }
 {}
@@ -372,6 +466,7 @@ pub fn number_clones_never_fail()
     ensures rcodes { (a : _) → ⟦<Rcode as Clone>⟧.is_infallible a }
     ensures opt_rcodes { (a : _) → ⟦<OptRcode as Clone>⟧.is_infallible a }
     ensures options { (a : _) → ⟦<OptionCode as Clone>⟧.is_infallible a }
+    ensures extended_errors { (a : _) → ⟦<ExtendedErrorCode as Clone>⟧.is_infallible a }
     ensures type_errors { (a : _) → ⟦<TypeError as Clone>⟧.is_infallible a }
     ensures class_errors { (a : _) → ⟦<ClassError as Clone>⟧.is_infallible a }
 {}

@@ -1,5 +1,5 @@
-//! Numbers of DNS messages that IANA registers: record types, classes, opcodes, rcodes and option
-//! codes. Serial numbers of zones.
+//! Numbers of DNS messages that IANA registers: record types, classes, opcodes, rcodes, option codes
+//! and codes of extended errors. Serial numbers of zones.
 //!
 //! Types and classes have texts. The printed text of a type or a class reads back as that number,
 //! and mnemonics are read ignoring ASCII case (RFC 3597 section 5). Serial numbers wrap at 2^32: one
@@ -7,6 +7,7 @@
 #![tactic(auto)]
 
 pub mod class;
+mod extended_error;
 pub mod laws;
 mod mnemonic;
 mod opcode;
@@ -18,6 +19,7 @@ mod serial;
 pub mod serial_laws;
 
 pub use class::{Class, write_class};
+pub use extended_error::ExtendedErrorCode;
 pub use opcode::Opcode;
 pub use option_code::OptionCode;
 pub use rcode::{OptRcode, Rcode};

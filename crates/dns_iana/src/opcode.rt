@@ -1,9 +1,10 @@
-ghost use Rattle.std.specs.Prelude.{◌≡◌, ℕ};
+ghost use Rattle.std.specs.Prelude.{◌≡◌, ◌↔◌, ℕ, Some};
 ghost use Rattle.std.specs.Option.{option_copied};
 ghost use Rattle.dns_iana.specs.Mnemonics.{mnemonic};
+ghost use Rattle.dns_iana.specs.RegisteredTexts.{SpellsOpcode};
 ghost use Rattle.dns_iana.specs.Registry.{registered_opcodes};
 
-use crate::mnemonic::Entry;
+use crate::mnemonic::{self, Entry};
 use crate::registry;
 use std::marker::Model;
 
@@ -69,5 +70,19 @@ impl Opcode {
         ensures { option_copied result ≡ mnemonic registered_opcodes self }
     {
         registry::name_of(&OPCODES, u16::from(self.0))
+    }
+
+    /// The opcode with this registered name, ignoring ASCII case. `OPCODE` and a decimal number up to
+    /// 255 is read, too.
+    #[tactic(auto, unfolding(crate::specs::Registry::registered_opcodes))]
+    pub fn from_registered_name(text: &str) -> Option<Self>
+        ensures { (n : ℕ) → SpellsOpcode text.now n ↔ (result ≡ Some n) }
+    {
+        let number = mnemonic::read(&OPCODES, "OPCODE", text)?;
+        if number < 256 {
+            Some(Opcode(number as u8))
+        } else {
+            None
+        }
     }
 }

@@ -1,9 +1,10 @@
-ghost use Rattle.std.specs.Prelude.{◌≡◌, ℕ};
+ghost use Rattle.std.specs.Prelude.{◌≡◌, ◌↔◌, ℕ, Some};
 ghost use Rattle.std.specs.Option.{option_copied};
 ghost use Rattle.dns_iana.specs.Mnemonics.{mnemonic};
+ghost use Rattle.dns_iana.specs.RegisteredTexts.{SpellsOption};
 ghost use Rattle.dns_iana.specs.Registry.{registered_options};
 
-use crate::mnemonic::Entry;
+use crate::mnemonic::{self, Entry};
 use crate::registry;
 use std::marker::Model;
 
@@ -124,5 +125,15 @@ impl OptionCode {
         ensures { option_copied result ≡ mnemonic registered_options self }
     {
         registry::name_of(&OPTIONS, self.0)
+    }
+
+    /// The option code with this registered name, ignoring ASCII case. `OPTION` and a decimal number
+    /// up to 65,535 is read, too.
+    #[tactic(auto, unfolding(crate::specs::Registry::registered_options))]
+    pub fn from_registered_name(text: &str) -> Option<Self>
+        ensures { (n : ℕ) → SpellsOption text.now n ↔ (result ≡ Some n) }
+    {
+        let number = mnemonic::read(&OPTIONS, "OPTION", text)?;
+        Some(OptionCode(number))
     }
 }

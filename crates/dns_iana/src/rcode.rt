@@ -1,10 +1,11 @@
-ghost use Rattle.std.specs.Prelude.{◌≡◌, ℕ, ◌+◌, ◌*◌, ◌/◌, ◌%◌, ◌<◌};
+ghost use Rattle.std.specs.Prelude.{◌≡◌, ◌↔◌, ℕ, Some, ◌+◌, ◌*◌, ◌/◌, ◌%◌, ◌<◌};
 ghost use Rattle.std.specs.Option.{SomeIff, option_copied};
 ghost use Rattle.dns_iana.specs.Mnemonics.{mnemonic};
 ghost use Rattle.dns_iana.specs.Rcodes.{IsRcode, IsOptRcode};
+ghost use Rattle.dns_iana.specs.RegisteredTexts.{SpellsRcode, SpellsOptRcode};
 ghost use Rattle.dns_iana.specs.Registry.{registered_rcodes, registered_opt_rcodes};
 
-use crate::mnemonic::Entry;
+use crate::mnemonic::{self, Entry};
 use crate::registry;
 use std::marker::Model;
 
@@ -107,6 +108,20 @@ impl Rcode {
         ensures { option_copied result ≡ mnemonic registered_rcodes self }
     {
         registry::name_of(&RCODES, u16::from(self.0))
+    }
+
+    /// The rcode with this registered name, ignoring ASCII case. `RCODE` and a decimal number up to
+    /// 15 is read, too.
+    #[tactic(auto, unfolding(crate::specs::Registry::registered_rcodes))]
+    pub fn from_registered_name(text: &str) -> Option<Self>
+        ensures { (n : ℕ) → SpellsRcode text.now n ↔ (result ≡ Some n) }
+    {
+        let rcode = mnemonic::read(&RCODES, "RCODE", text)?;
+        if rcode < 16 {
+            Some(Rcode(rcode as u8))
+        } else {
+            None
+        }
     }
 }
 
@@ -257,6 +272,21 @@ impl OptRcode {
         ensures { option_copied result ≡ mnemonic registered_opt_rcodes self }
     {
         registry::name_of(&OPT_RCODES, self.0)
+    }
+
+    /// The extended rcode with this registered name, ignoring ASCII case. `RCODE` and a decimal
+    /// number up to 4,095 is read, too. 16 is `BADVERS`; `BADSIG`, its name in TSIG records, isn't
+    /// read (RFC 8945).
+    #[tactic(auto, unfolding(crate::specs::Registry::registered_opt_rcodes))]
+    pub fn from_registered_name(text: &str) -> Option<Self>
+        ensures { (n : ℕ) → SpellsOptRcode text.now n ↔ (result ≡ Some n) }
+    {
+        let number = mnemonic::read(&OPT_RCODES, "RCODE", text)?;
+        if number < 4096 {
+            Some(OptRcode(number))
+        } else {
+            None
+        }
     }
 }
 

@@ -33,7 +33,9 @@ pub mod builder {
 /// rcode.registered_name().unwrap_or("unassigned")
 /// ```
 pub mod code {
-    pub use dns_code::{Class, Opcode, OptRcode, OptionCode, Rcode, Rtype, class, rtype};
+    pub use dns_code::{
+        Class, ExtendedErrorCode, Opcode, OptRcode, OptionCode, Rcode, Rtype, class, rtype,
+    };
 }
 
 /// The header section of a message, and theorems on its fields and on numbers as texts.

@@ -80,6 +80,7 @@ module _ (f : HeaderFields) (is : IsHeader f) where
       let rcode = is.rcode in
       third _ _ _ _ _ _ (omega arith) ra.small z.small ad.small cd.small rcode
 
+  -- the fields in the octets of these fields are the fields again
   pub fields_in-octets_of_fields : fields_in (octets_of_fields f) ≡ f
   unfolding octets_of_fields
   fields_in-octets_of_fields =
@@ -106,6 +107,7 @@ module _ (f : HeaderFields) (is : IsHeader f) where
       let low : slice_index (octets_of_fields f) 1 < 256 = omega arith in
       grind (arith, common_steps)
 
+  -- the octets of these fields are four numbers below 256
   pub are_octets : AreOctets (octets_of_fields f) 4
   are_octets = record { length = length-octets_of_fields f; below = λ i d within. octets_below i d (omega (arith, within, length-octets_of_fields f)) }
 
@@ -119,6 +121,7 @@ bit_value : (m offset : ℕ) → bits m offset 1 ≤ 1 → one_bit offset (bit m
 bit_value m offset small = let p = placed offset (bit m offset) in p.value ∙ ap (λ (n : ℕ). n * 2 ^ offset) (number_is (bits m offset 1) small)
 
 module _ (b : List ℕ) (are : AreOctets b 4) where
+  -- the octets of the fields in four octets are these four octets
   pub octets_of_fields-fields_in : octets_of_fields (fields_in b) ≡ b
   unfolding octets_of_fields
   octets_of_fields-fields_in =
@@ -132,6 +135,7 @@ module _ (b : List ℕ) (are : AreOctets b 4) where
       (omega (arith, bit_value m 7 (omega arith), bit_value m 2 (omega arith), bit_value m 1 (omega arith), bit_value m 0 (omega arith)))
       (omega (arith, bit_value n 7 (omega arith), bit_value n 6 (omega arith), bit_value n 5 (omega arith), bit_value n 4 (omega arith)))
 
+  -- four octets can hold the fields that are in four octets
   pub is_header : IsHeader (fields_in b)
   is_header =
       let h0 = octet_below b 4 0 are (omega arith) in

@@ -1,11 +1,12 @@
 //! The classes that IANA has registered.
-ghost use Rattle.std.specs.Prelude.{◌≡◌};
+ghost use Rattle.std.specs.Prelude.{◌≡◌, ◌↔◌, ℕ, Some};
 ghost use Rattle.std.specs.Option.{option_copied};
 ghost use Rattle.dns_iana.specs.Mnemonics.{mnemonic};
+ghost use Rattle.dns_iana.specs.RegisteredTexts.{SpellsRegisteredClass};
 ghost use Rattle.dns_iana.specs.Registry.{registered_classes};
 
 use crate::class::Class;
-use crate::mnemonic::Entry;
+use crate::mnemonic::{self, Entry};
 use crate::registry;
 
 /// The registered classes and their names.
@@ -39,5 +40,15 @@ impl Class {
         ensures { option_copied result ≡ mnemonic registered_classes self }
     {
         registry::name_of(&CLASSES, self.0)
+    }
+
+    /// The class with this registered name, ignoring ASCII case. `CLASS` and a decimal number up to
+    /// 65,535 is read, too (RFC 3597 section 5); the registry's `*` isn't.
+    #[tactic(auto, unfolding(crate::specs::Registry::registered_classes))]
+    pub fn from_registered_name(text: &str) -> Option<Self>
+        ensures { (n : ℕ) → SpellsRegisteredClass text.now n ↔ (result ≡ Some n) }
+    {
+        let number = mnemonic::read(&CLASSES, "CLASS", text)?;
+        Some(Class(number))
     }
 }

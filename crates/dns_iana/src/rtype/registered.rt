@@ -1,10 +1,11 @@
 //! The record types that IANA has registered.
-ghost use Rattle.std.specs.Prelude.{◌≡◌};
+ghost use Rattle.std.specs.Prelude.{◌≡◌, ◌↔◌, ℕ, Some};
 ghost use Rattle.std.specs.Option.{option_copied};
 ghost use Rattle.dns_iana.specs.Mnemonics.{mnemonic};
+ghost use Rattle.dns_iana.specs.RegisteredTexts.{SpellsRegisteredType};
 ghost use Rattle.dns_iana.specs.Registry.{registered_types};
 
-use crate::mnemonic::Entry;
+use crate::mnemonic::{self, Entry};
 use crate::registry;
 use crate::rtype::Rtype;
 
@@ -406,5 +407,14 @@ impl Rtype {
         ensures { option_copied result ≡ mnemonic registered_types self }
     {
         registry::name_of(&TYPES, self.0)
+    }
+
+    /// The record type with this registered name, ignoring ASCII case. `TYPE` and a decimal number up
+    /// to 65,535 is read, too (RFC 3597 section 5); the registry's `*` isn't.
+    pub fn from_registered_name(text: &str) -> Option<Self>
+        ensures { (n : ℕ) → SpellsRegisteredType text.now n ↔ (result ≡ Some n) }
+    {
+        let number = mnemonic::read(&TYPES, "TYPE", text)?;
+        Some(Rtype(number))
     }
 }

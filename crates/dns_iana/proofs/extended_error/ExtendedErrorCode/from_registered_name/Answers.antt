@@ -1,0 +1,12 @@
+use Rattle.dns_iana.specs.RegisteredTexts.{SpellsExtendedError}
+use Rattle.dns_iana.specs.Registry.{registered_extended_errors}
+use Rattle.dns_iana.proofs.TextLemmas.{none_read, number_read}
+use Rattle.dns_iana.proofs.extended_error.ExtendedErrorCode.from_registered_name.Goals as goal
+
+pub returns-in_err-number : goal.returns-in_err-number
+unfolding registered_extended_errors
+returns-in_err-number c = none_read (SpellsExtendedError c.args.text.now) _ c.read.ensures c.in_err-number.was _ c.from_residual.ensures
+
+pub returns : goal.returns
+unfolding registered_extended_errors
+returns c = number_read (SpellsExtendedError c.args.text.now) _ c.read.ensures _ c.in_ok-number.was
