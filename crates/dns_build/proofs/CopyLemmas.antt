@@ -31,10 +31,6 @@ module _ {F R : Type 0} (call : F → ParsedRecord → Option R → F → Type 0
     pub rest : (result : Result (Unit {0}) CopyRecordsError) (h : F) (u : State) → CopiesList call item capacity grows rule stage ys g state result h u
         → CopiesList call item capacity grows rule stage xs f s result h u
 
-  -- nothing is copied yet
-  pub so_far_none : (xs : List (Result EncodedRecord Fault)) (f : F) (s : State) (now : Built) → Represents stage rule s now → SoFar xs f s xs f now
-  so_far_none xs f s now represents = record { state = s; represents = represents; rest = λ result h u c. c }
-
   -- one more record is copied
   pub so_far_more : (xs : List (Result EncodedRecord Fault)) (f : F) (s : State) (ys : List (Result EncodedRecord Fault)) (g : F) (now : Built)
       (x : EncodedRecord) (zs : List (Result EncodedRecord Fault)) (h : F) (new : Built)

@@ -88,6 +88,7 @@ module _ {F R : Type 0} (call : F → ParsedRecord → Option R → F → Type 0
   none_left : (b : List ℕ) {f h : F} {s u : State} {result : Result (Unit {0}) CopyRecordsError} → CopiesSections call item capacity grows rule b [] f s result h u → s ≡ u
   none_left b no_section = refl
 
+  -- if copying a message succeeds, the records that the closure returned for each section are in that section of the builder
   pub keeps_all : (b : List ℕ) (f : F) (s : State) (new : Built) → CopiesMessage call item capacity grows rule b f s (Ok new) → KeepsAll call item rule b f s new
   keeps_all b f s new m =
       let first = first_of b Answer (Authority ∷ Additional ∷ []) m.2 refl in

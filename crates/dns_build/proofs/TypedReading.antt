@@ -179,10 +179,12 @@ module _ {D : Type 0} (rtype_of : D → ℕ) (parts_of : D → List Part) where
       by None fits_layout = absurd fits_layout
       by (Some layout) fits_layout = ap (λ (r : Result RecordItem Fault). Some r) (h.outcome layout fits_layout)
 
+  -- if a data type accepts the type of a pushed record and lays out its parts, the record is read as it was pushed
   pub to_record_reads_back : (layouts : ℕ → Option Layout) → ToRecordReadsBack rtype_of parts_of layouts
   to_record_reads_back layouts b x encoded result h fits_layout returned =
       is_taken x result (parsed_as-returned rtype_of parts_of encoded h.there (layouts encoded.entry.rtype) result returned ∙ one_taken layouts b x encoded h fits_layout)
 
+  -- if a data type that accepts every type lays out the parts of a pushed record, the record is read as it was pushed
   pub to_any_record_reads_back : (layouts : ℕ → Layout) → ToAnyRecordReadsBack rtype_of parts_of layouts
   to_any_record_reads_back layouts b x encoded result h fits_layout returned =
       is_record x result

@@ -35,9 +35,11 @@ module _ {b c : List ℕ} {q : ℕ} (same : SameFrom b c q) where
   head_same : (p : ℕ) → q ≤ p → head_at b p ≡ head_at c p
   head_same p l = same_head b c p (get_same p l) (get_same (p + 1) (omega arith))
 
+  -- a 16-bit number at or after offset q is the same in both
   pub number_same16 : (p : ℕ) → q ≤ p → number_at w16 b p ≡ number_at w16 c p
   number_same16 p l = ap (λ (xs : List ℕ). from_be_bytes w16 (take (p + 2 - p) xs)) (dropped p l)
 
+  -- the encoding of a name at or after offset q has the same end in both
   pub continues_same : {p s r : ℕ} → q ≤ p → NameContinues b p s r → NameContinues c p s r
   continues_same l (NameContinues.root {p = p} h) = NameContinues.root (sym (head_same p l) ∙ h)
   continues_same l (NameContinues.pointer {p = p} h) = NameContinues.pointer (sym (head_same p l) ∙ h)
@@ -45,6 +47,7 @@ module _ {b c : List ℕ} {q : ℕ} (same : SameFrom b c q) where
       let w = same.long in
       NameContinues.label (sym (head_same p l) ∙ h) small (omega arith) (continues_same (omega arith) x)
 
+  -- a record at or after offset q has the same end in both, and so has its owner
   abbrev pub skips_same : {p r : ℕ} → q ≤ p → (s : SkipsRecord b p r) → (t : SkipsRecord c p r) × (t.name_end ≡ s.name_end)
   skips_same l s =
       let w = long_record b s in
@@ -55,11 +58,13 @@ module _ {b c : List ℕ} {q : ℕ} (same : SameFrom b c q) where
       let n = number_same16 (s.name_end + 8) (omega arith) in
       (record { name_end = s.name_end; name_ends = continues_same l s.name_ends; end = omega arith; within = omega arith }, refl)
 
+  -- consecutive records at or after offset q have the same end in both
   pub skipped_same : {n p r : ℕ} → q ≤ p → Skipped (SkipsRecord b) n p r → Skipped (SkipsRecord c) n p r
   skipped_same l none = none
   skipped_same l (more s x) =
       let w = long_record b s in more (skips_same l s).0 (skipped_same (omega (arith, w.0, w.1)) x)
 
+  -- consecutive records at or after offset q have the same TTL fields in both
   pub ttls_same : {n p : ℕ} {fields : List ℕ} → q ≤ p → TtlFields b n p fields → TtlFields c n p fields
   ttls_same l TtlFields.none = TtlFields.none
   ttls_same l (TtlFields.held s h rest) =

@@ -92,6 +92,7 @@ module _ (b : List ℕ) where
     pub here : f + 4 ≤ length b
     pub within : All (λ e. e + 4 ≤ length b) left
 
+  -- the TTL at offset f is one of the fields if the record holds a TTL; if not, no octet of it is in one
   abbrev pub TtlPlace : List ℕ → Bool → ℕ → Type 0
   TtlPlace fields held f = ((held ≡ true) × Held fields f) ⊎ ((held ≡ false) × Apart fields f (f + 4))
 
@@ -166,6 +167,7 @@ module _ (b : List ℕ) where
         },
       )
 
+  -- a record from p to q is the first of the records from p on, and its names are apart from the fields
   pub split_step : {fields : List ℕ} {n m p q : ℕ} → Split fields n p → n ≡ suc m → SkipsRecord b p q → Step fields m p q
   split_step {n = n} {m = m} {p = p} {q = q} x e s =
       let rest : TtlFields b (suc m) p x.left = subst (λ n. TtlFields b n p x.left) e x.rest in
@@ -173,6 +175,7 @@ module _ (b : List ℕ) where
       let same : y.0 ≡ q = (record_end_or_fault b).one p y.0 q y.1.skips s in
       subst (λ fields. Step fields m p q) (sym x.whole) (subst (λ q. Step (x.done ++ x.left) m p q) same y.1)
 
+  -- before the first record, all fields are those of the records from there on
   pub split_all : {fields : List ℕ} {n p : ℕ} → TtlFields b n p fields → Split fields n p
   split_all {fields = fields} t = record { done = []; left = fields; whole = refl; before = All-nil _; rest = t }
 

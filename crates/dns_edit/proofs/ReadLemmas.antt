@@ -69,16 +69,19 @@ append_ttls change [] left b = refl
 append_ttls change (f ∷ done) left b = append_ttls change done left (with_ttl change f b)
 
 module _ {fields b c : List ℕ} (s : SameApart fields b c) where
+  -- a 16-bit number that is apart from the fields is the same in both
   pub number16_same : (p : ℕ) → Apart fields p (p + 2) → number_at w16 b p ≡ number_at w16 c p
   number16_same p a =
       let e : p + 2 - p ≡ 2 = omega arith in
       ap (λ n. from_be_bytes w16 (take n (drop p b))) e ∙ ap (from_be_bytes w16) (part_same s p 2 a) ∙ ap (λ n. from_be_bytes w16 (take n (drop p c))) (sym e)
 
+  -- a 32-bit number that is apart from the fields is the same in both
   pub number32_same : (p : ℕ) → Apart fields p (p + 4) → number_at w32 b p ≡ number_at w32 c p
   number32_same p a =
       let e : p + 4 - p ≡ 4 = omega arith in
       ap (λ n. from_be_bytes w32 (take n (drop p b))) e ∙ ap (from_be_bytes w32) (part_same s p 4 a) ∙ ap (λ n. from_be_bytes w32 (take n (drop p c))) (sym e)
 
+  -- the encoding of a name that is apart from the fields has the same end in both
   pub ends_same : {p n r : ℕ} → Apart fields p r → NameContinues b p n r → NameContinues c p n r
   ends_same a (NameContinues.root h) = NameContinues.root (root_same s a h)
   ends_same a (NameContinues.pointer h) = NameContinues.pointer (pointer_same s a h)

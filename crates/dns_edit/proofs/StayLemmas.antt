@@ -55,35 +55,42 @@ apart_fault (NameApart.label h a x) e = cc
 apart_fault (NameApart.pointer h a x) e = cc
 
 module _ {fields b c : List ℕ} (s : SameApart fields b c) where
+  -- Octets that are apart from the fields are the same in both.
   pub part_same : (p n : ℕ) → Apart fields p (p + n) → take n (drop p b) ≡ take n (drop p c)
   part_same p n a = same_part b c n p (λ k l m. s.same k (apart_in fields p (p + n) k (k + 1) l (omega arith) a))
 
+  -- A root label that is apart from the fields begins at the same offset in the other octets.
   pub root_same : {p : ℕ} → Apart fields p (p + 1) → head_at b p ≡ Ok Root → head_at c p ≡ Ok Root
   root_same {p = p} a h = root_begins c p (sym (s.same p a) ∙ root_there b p h)
 
+  -- A label that is apart from the fields begins at the same offset in the other octets, with the same length.
   pub label_same : {p n : ℕ} → Apart fields p (p + 1 + n) → head_at b p ≡ Ok (Label n) → head_at c p ≡ Ok (Label n)
   label_same {p = p} {n = n} a h =
       let l = label_head b p n h in
       let here = apart_in fields p (p + 1 + n) p (p + 1) (omega arith) (omega arith) a in
       label_begins c p n (omega (arith, l.some)) (omega (arith, l.short)) (sym (s.same p here) ∙ label_there b p n h)
 
+  -- A pointer that is apart from the fields is at the same offset in the other octets, and leads to the same target.
   pub pointer_same : {p t : ℕ} → Apart fields p (p + 2) → head_at b p ≡ Ok (Pointer t) → head_at c p ≡ Ok (Pointer t)
   pointer_same {p = p} a h =
       let first = apart_in fields p (p + 2) p (p + 1) (omega arith) (omega arith) a in
       let second = apart_in fields p (p + 2) (p + 1) (p + 1 + 1) (omega arith) (omega arith) a in
       sym (same_head b c p (s.same p first) (s.same (p + 1) second)) ∙ h
 
+  -- A label that is apart from the fields has the same octets in both.
   pub label_at_same : (p n : ℕ) → Apart fields p (p + 1 + n) → label_at b p n ≡ label_at c p n
   label_at_same p n a =
       let e : p + 1 + n - (p + 1) ≡ n = omega arith in
       let inner = apart_in fields p (p + 1 + n) (p + 1) (p + 1 + n) (omega arith) (omega arith) a in
       ap (λ k. take k (drop (p + 1) b)) e ∙ part_same (p + 1) n inner ∙ ap (λ k. take k (drop (p + 1) c)) (sym e)
 
+  -- A name that is apart from the fields is so in the other octets too.
   pub apart_same : {p : ℕ} → NameApart b fields p → NameApart c fields p
   apart_same (NameApart.root h a) = NameApart.root (root_same a h) a
   apart_same (NameApart.label h a x) = NameApart.label (label_same a h) a (apart_same x)
   apart_same (NameApart.pointer h a x) = NameApart.pointer (pointer_same a h) a (apart_same x)
 
+  -- A name that is apart from the fields is encoded at the same offset in the other octets.
   pub name_same : {p : ℕ} {name : Labels} → NameApart b fields p → NameAt b p name → NameAt c p name
   name_same w (NameAt.root h) = NameAt.root (root_same (apart_root w h) h)
   name_same w (NameAt.label {p = p} {n = n} {name = name} h fits x small) =
@@ -93,6 +100,7 @@ module _ {fields b c : List ℕ} (s : SameApart fields b c) where
       subst P (sym (label_at_same p n y.0)) (NameAt.label (label_same y.0 h) (omega arith) (name_same y.1 x) small)
   name_same w (NameAt.pointer h back x) = let y = apart_pointer w h in NameAt.pointer (pointer_same y.0 h) back (name_same y.1 x)
 
+  -- If reading a name that is apart from the fields fails, it fails with the same fault in the other octets.
   pub fault_same : {p n : ℕ} {f : Fault} → NameApart b fields p → Faulty b p n f → Faulty c p n f
   fault_same w (Faulty.head h) = absurd (apart_fault w h)
   fault_same w (Faulty.long h l) = let y = apart_label w h in Faulty.long (label_same y.0 h) l

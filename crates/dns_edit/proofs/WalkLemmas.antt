@@ -18,28 +18,34 @@ module _ {b : List ℕ} where
   label_within (LabelOf.first {p = p} {n = n} h) = slice_get_within b p n (label_there b p n h)
   label_within (LabelOf.later h x) = label_within x
 
+  -- If a name begins with a label, each of its labels is this one or a label of the name after it.
   pub label_next : {p n t : ℕ} → head_at b p ≡ Ok (Label n) → LabelOf b p t → (t ≡ p) ⊎ LabelOf b (p + 1 + n) t
   label_next h (LabelOf.first g) = inl refl
   label_next {p = p} {n = n} {t = t} h (LabelOf.later {n = k} g x) =
       let e : k ≡ n = cc in inr (subst (λ n. LabelOf b (p + 1 + n) t) e x)
 
+  -- If the encoding of a name begins with the root label, no label begins in it.
   pub no_label_at_root : {p t : ℕ} → head_at b p ≡ Ok Root → LabelOf b p t → ⊥
   no_label_at_root h (LabelOf.first g) = cc
   no_label_at_root h (LabelOf.later g x) = cc
 
+  -- If the encoding of a name begins with a pointer, no label begins in it.
   pub no_label_at_pointer : {p t u : ℕ} → head_at b p ≡ Ok (Pointer u) → LabelOf b p t → ⊥
   no_label_at_pointer h (LabelOf.first g) = cc
   no_label_at_pointer h (LabelOf.later g x) = cc
 
+  -- If a name begins with a label and ends with a pointer, the encoding after the label ends with the same pointer.
   pub pointer_next : {p n t : ℕ} → head_at b p ≡ Ok (Label n) → PointsTo b p t → PointsTo b (p + 1 + n) t
   pointer_next h (PointsTo.pointer g) = cc
   pointer_next {p = p} {n = n} {t = t} h (PointsTo.label {n = k} g x) =
       let e : k ≡ n = cc in subst (λ n. PointsTo b (p + 1 + n) t) e x
 
+  -- If the encoding of a name begins with the root label, it doesn't end with a pointer.
   pub no_pointer_at_root : {p t : ℕ} → head_at b p ≡ Ok Root → PointsTo b p t → ⊥
   no_pointer_at_root h (PointsTo.pointer g) = cc
   no_pointer_at_root h (PointsTo.label g x) = cc
 
+  -- If the encoding of a name begins with a pointer, this is the pointer that ends it.
   pub pointer_here : {p t u : ℕ} → head_at b p ≡ Ok (Pointer u) → PointsTo b p t → t ≡ u
   pointer_here h (PointsTo.pointer g) = cc
   pointer_here h (PointsTo.label g x) = cc

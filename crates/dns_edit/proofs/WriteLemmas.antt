@@ -67,6 +67,7 @@ module _ {change : TtlChange} {b c : List ℕ} {p q : ℕ} (w : WritesTtl change
   skipped_next {m = m} {end = end} (more s x) =
       skipped_same writes_same (omega arith) (subst (λ q. Skipped (SkipsRecord b) m q end) (same_end s) x)
 
+  -- if the first of n records was written, the n - 1 records after it can still be skipped
   pub skipped_rest : {n m end : ℕ} → n ≡ suc m → Skipped (SkipsRecord b) n p end → Skipped (SkipsRecord c) m q end
   skipped_rest {end = end} e x = skipped_next (subst (λ n. Skipped (SkipsRecord b) n p end) e x)
 
@@ -84,6 +85,7 @@ module _ {change : TtlChange} {b c : List ℕ} {p q : ℕ} (w : WritesTtl change
       let later = subst (λ q. TtlFields b m q left) (same_end s) rest in
       (left, ttls_same writes_same (omega arith) later, ap (with_ttls change left) is)
 
+  -- if the first of n records was written, changing the TTLs of the n - 1 after it gives what changing all n gives
   pub ttls_rest : {n m : ℕ} {left : List ℕ} → n ≡ suc m → TtlFields b n p left
       → (left' : List ℕ) × TtlFields c m q left' × (with_ttls change left' c ≡ with_ttls change left b)
   ttls_rest {left = left} e t = ttls_next (subst (λ n. TtlFields b n p left) e t)

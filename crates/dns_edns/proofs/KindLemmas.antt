@@ -31,6 +31,7 @@ module _ (octets client server : List ℕ) (first : client ≡ take 8 octets) (s
       let f : server ≡ s = second ∙ ap (λ (o : List ℕ). drop 8 o) h.encoded ∙ drop_at c s 8 h.client in
       λ i. record { client = e i; server = Some (f i) }
 
+  -- these octets encode the cookie of this client and this server, and no other cookie
   pub server_read : (v : CookieOctets) → EncodesCookie octets v ↔ ((let c : CookieOctets = record { client = client; server = Some server } in c) ≡ v)
   unfolding cookie
   server_read v = (

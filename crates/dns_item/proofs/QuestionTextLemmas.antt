@@ -31,27 +31,34 @@ pub unspelled : {E : Type 0} (P : ℕ → Type 0) (r : Result ℕ E) (f : E) →
 unspelled P r f h e n p = let read : r ≡ Ok n = (h n).0 p in cc
 
 module _ (b : List ℕ) where
+  -- if the second word is a class and there is no third, the error is `MissingQtype`
   pub read_class_alone : (o : Option (Bor (List ℕ))) (class : ℕ) → o ≡ None → SpellsClass b class → ReadsFields b o (Err MissingQtype)
   read_class_alone o class e h = subst (λ o'. ReadsFields b o' (Err MissingQtype)) (sym e) (λ a name s. class_alone {name = name} {class = class} s h)
 
+  -- if the second word is a class and the third is no type, the error is `BadQtype`
   pub read_class_without_type : (o : Option (Bor (List ℕ))) (c : Bor (List ℕ)) (class : ℕ) → o ≡ Some c → SpellsClass b class → SpellsNoType c.now → ReadsFields b o (Err BadQtype)
   read_class_without_type o c class e h n = subst (λ o'. ReadsFields b o' (Err BadQtype)) (sym e) (λ more a name s. no_type_after_class {name = name} {class = class} s h n)
 
+  -- if the second word is a class and the third is a type, the text has this type and this class
   pub read_class_and_type : (o : Option (Bor (List ℕ))) (c : Bor (List ℕ)) (rtype class : ℕ) → o ≡ Some c → SpellsClass b class → SpellsType c.now rtype
       → ReadsFields b o (Ok (rtype, class))
   read_class_and_type o c rtype class e h t = subst (λ o'. ReadsFields b o' (Ok (rtype, class))) (sym e) (λ a name s. class_and_type {name = name} {rtype = rtype} {class = class} s h t)
 
+  -- if the second word is neither a class nor a type, the error is `BadQtype`
   pub read_neither : (o : Option (Bor (List ℕ))) → SpellsNoClass b → SpellsNoType b → ReadsFields b o (Err BadQtype)
   read_neither None n t = λ a name s. neither {name = name} s n t
   read_neither (Some c) n t = λ more a name s. neither {name = name} s n t
 
+  -- if the second word is a type and no class, and there is no third, the text has this type and class IN
   pub read_type_alone : (o : Option (Bor (List ℕ))) (rtype : ℕ) → o ≡ None → SpellsNoClass b → SpellsType b rtype → ReadsFields b o (Ok (rtype, 1))
   read_type_alone o rtype e n t = subst (λ o'. ReadsFields b o' (Ok (rtype, 1))) (sym e) (λ a name s. type_alone {name = name} {rtype = rtype} s n t)
 
+  -- if the second word is a type and no class, and the third is no class, the error is `BadClass`
   pub read_type_without_class : (o : Option (Bor (List ℕ))) (c : Bor (List ℕ)) (rtype : ℕ) → o ≡ Some c → SpellsNoClass b → SpellsType b rtype → SpellsNoClass c.now
       → ReadsFields b o (Err BadClass)
   read_type_without_class o c rtype e n t m = subst (λ o'. ReadsFields b o' (Err BadClass)) (sym e) (λ more a name s. no_class_after_type {name = name} {rtype = rtype} s n t m)
 
+  -- if the second word is a type and no class, and the third is a class, the text has this type and this class
   pub read_type_and_class : (o : Option (Bor (List ℕ))) (c : Bor (List ℕ)) (rtype class : ℕ) → o ≡ Some c → SpellsNoClass b → SpellsType b rtype → SpellsClass c.now class
       → ReadsFields b o (Ok (rtype, class))
   read_type_and_class o c rtype class e n t h = subst (λ o'. ReadsFields b o' (Ok (rtype, class))) (sym e) (λ a name s. type_and_class {name = name} {rtype = rtype} {class = class} s n t h)

@@ -39,6 +39,7 @@ module _ {D : Type 0} (rtype_of : D → ℕ) (parts_of : D → List Part) (rtype
   whole_fault_taken None e h = h
   whole_fault_taken (Some layout) e h = whole_fault layout e h
 
+  -- as `whole_left_over`, for a type that may have no layout
   pub whole_left_over_taken : (o : Option Layout) (value : D) (e : ParseError) → ParsesTaken rtype_of parts_of o rtype old new (Ok (Some value))
       → offset new < length (seen new) → fault_of e ≡ Form TRAILING_DATA → IsWholeTaken rtype_of parts_of (seen old) (offset old) rtype o (Err e)
   whole_left_over_taken None value e h l f = h

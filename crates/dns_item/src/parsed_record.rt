@@ -102,7 +102,7 @@ pub fn parse_record_cached<'a>(
     ensures parses { ParsesRecord parser.old parser.new result }
     ensures cached { IsCached (seen parser.old) cached.new }
 {
-    let (header, data) = RecordHeader::read(*parser, cached)?;
+    let (header, data) = RecordHeader::parse_ahead(*parser, cached)?;
     let mut after = data;
     after.advance(usize::from(header.rdlen()))?;
     *parser = after;

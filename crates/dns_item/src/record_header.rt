@@ -126,7 +126,7 @@ impl<'a> RecordHeader<ParsedName<'a>> {
     pub fn parse(parser: &mut Parser<'a>) -> Result<Self, ParseError>
         ensures { ParsesHeader parser.old parser.new result }
     {
-        let (header, after) = RecordHeader::read(*parser, &mut CachedName::new())?;
+        let (header, after) = RecordHeader::parse_ahead(*parser, &mut CachedName::new())?;
         *parser = after;
         Ok(header)
     }
@@ -145,7 +145,7 @@ impl<'a> RecordHeader<ParsedName<'a>> {
     pub fn parse_and_skip(parser: &mut Parser<'a>) -> Result<Self, ParseError>
         ensures { ParsesAndSkips parser.old parser.new result }
     {
-        let (header, mut after) = RecordHeader::read(*parser, &mut CachedName::new())?;
+        let (header, mut after) = RecordHeader::parse_ahead(*parser, &mut CachedName::new())?;
         after.advance(usize::from(header.rdlen))?;
         *parser = after;
         Ok(header)
@@ -154,7 +154,7 @@ impl<'a> RecordHeader<ParsedName<'a>> {
     /// The header at the parser's offset, and the parser after it, at the RDATA. The owner is read
     /// by `parse_cached`, which uses the cached name `cached`.
     #[inline(always)]
-    pub(crate) fn read(
+    pub(crate) fn parse_ahead(
         mut parser: Parser<'a>,
         cached: &mut CachedName,
     ) -> Result<(Self, Parser<'a>), ParseError>
@@ -163,13 +163,13 @@ impl<'a> RecordHeader<ParsedName<'a>> {
         ensures cached { IsCached (seen parser.entry) cached.new }
     {
         let owner = parse_cached(&mut parser, cached)?;
-        let (rtype, class, ttl, rdlen) = read_fields(&mut parser)?;
+        let (rtype, class, ttl, rdlen) = parse_fields(&mut parser)?;
         Ok((RecordHeader::new(owner, rtype, class, ttl, rdlen), parser))
     }
 }
 
 /// Reads the ten octets after an owner.
-fn read_fields(parser: &mut Parser<'_>) -> Result<(Rtype, Class, Ttl, u16), ParseError>
+fn parse_fields(parser: &mut Parser<'_>) -> Result<(Rtype, Class, Ttl, u16), ParseError>
     ensures { Takes parser.old parser.new 10 result
         (λ fields. AreFieldsAt (seen parser.old) (offset parser.old) fields.0 fields.1 fields.2
         fields.3) }

@@ -16,7 +16,7 @@ use dns_name::{ParsedName, Parser};
 use dns_octets::{FormError, ParseError};
 
 /// Reads RDATA that takes all octets from the parser's offset to its end.
-fn read_data<'a, D: ParseRecordData<'a> + Drop>(
+fn parse_data<'a, D: ParseRecordData<'a> + Drop>(
     rtype: Rtype,
     parser: &mut Parser<'a>,
 ) -> Result<Option<D>, ParseError>
@@ -32,8 +32,8 @@ fn read_data<'a, D: ParseRecordData<'a> + Drop>(
     Ok(Some(data))
 }
 
-/// As `read_data`, for RDATA types that accept every record type.
-fn read_any_data<'a, D: ParseAnyRecordData<'a> + Drop>(
+/// As `parse_data`, for RDATA types that accept every record type.
+fn parse_any_data<'a, D: ParseAnyRecordData<'a> + Drop>(
     rtype: Rtype,
     parser: &mut Parser<'a>,
 ) -> Result<D, ParseError>
@@ -64,7 +64,7 @@ impl<'a> RecordHeader<ParsedName<'a>> {
             (record_at self.entry (offset parser.old)) }
     {
         let mut ahead = parser.parse_parser(usize::from(self.rdlen()))?;
-        match read_data(self.rtype(), &mut ahead) {
+        match parse_data(self.rtype(), &mut ahead) {
             Ok(Some(data)) => Ok(Some(self.into_record(data))),
             Ok(None) => Ok(None),
             Err(error) => Err(error),
@@ -82,7 +82,7 @@ impl<'a> RecordHeader<ParsedName<'a>> {
             (record_at self.entry (offset parser.old)) }
     {
         let mut ahead = parser.parse_parser(usize::from(self.rdlen()))?;
-        match read_any_data(self.rtype(), &mut ahead) {
+        match parse_any_data(self.rtype(), &mut ahead) {
             Ok(data) => Ok(self.into_record(data)),
             Err(error) => Err(error),
         }

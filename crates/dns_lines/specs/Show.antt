@@ -1,4 +1,4 @@
--- What `dnsmsg show` prints of a message: its header, its counts, and a line for each item. RFC 1035 sections 4.1 and 5.1, RFC 3597 section 5.
+-- What is printed of a message: its header, its counts, and a line for each item. RFC 1035 sections 4.1 and 5.1, RFC 3597 section 5.
 --
 -- `b` is the octets of the message.
 use Rattle.std.specs.Prelude.{ℕ, ◌+◌, ◌≤◌, if◌then◌else◌, List, [], ◌∷◌, ◌++◌, take, slice_index, drop, Option, Some, None, Result, Ok, Err, codes, decimal}

@@ -10,7 +10,7 @@ use dns_wire::Composer;
 use std::fmt;
 
 /// RDATA of a type whose fields are known, with names of type `N`.
-#[derive(Clone, Copy, Debug, Drop)]
+#[derive(Debug, Drop)]
 pub enum KnownData<N> {
     A(A),
     Ns(Ns<N>),

@@ -1,4 +1,4 @@
-//! Messages as text: as `dnsmsg show` prints them, and their records as lines of a zone file.
+//! Messages as text, and their records as lines of a zone file.
 //!
 //! `print_message` prints a line for the header of a message, one for its counts, and one for each
 //! item of each section. It has the line of each item that reading the sections gives, in order (RFC

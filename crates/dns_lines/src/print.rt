@@ -102,7 +102,7 @@ fn print_question<W: Write>(
     }
 }
 
-/// The lines of `dnsmsg show` for records.
+/// The lines of a message for its records.
 struct ShownLines;
 
 impl RecordLines for ShownLines {

@@ -92,6 +92,7 @@ pub record SkipsSoFar (accepted : List (Result EncodedRecord Fault) → List (Re
 
 module _ (accepted : List (Result EncodedRecord Fault) → List (Result RecordItem Fault)) (nothing : accepted [] ≡ [])
     (append : (xs ys : List (Result EncodedRecord Fault)) → accepted (xs ++ ys) ≡ accepted xs ++ accepted ys) where
+  -- at first the cursor has skipped nothing
   pub skipping_none : (cursor : RecordSection) → SkipsSoFar accepted cursor cursor
   skipping_none cursor = record { skipped = []; given = none; none_accepted = nothing; left = refl }
 
@@ -102,6 +103,7 @@ module _ (accepted : List (Result EncodedRecord Fault) → List (Result RecordIt
   one_first old new outcome given calls is =
       ap accepted calls.steps ∙ append (record_result outcome ∷ []) (records_left new) ∙ ap (λ (ys : List (Result RecordItem Fault)). ys ++ accepted (records_left new)) is
 
+  -- if the data type doesn't accept the item that is yielded, the item is skipped too
   pub skipping_more : (old now new : RecordSection) (outcome : Result ParsedRecord ParseError) → SkipsSoFar accepted old now → GivesNext now (Some outcome) new
       → accepted (record_result outcome ∷ []) ≡ []
       → SkipsSoFar accepted old new
@@ -112,6 +114,7 @@ module _ (accepted : List (Result EncodedRecord Fault) → List (Result RecordIt
     left = p.left ∙ one_first now new outcome [] calls is;
   }
 
+  -- if the data type accepts the item that is yielded, this is the first that it accepts of what was left
   pub skipping_accepted : (old now new : RecordSection) (outcome : Result ParsedRecord ParseError) (x : Result RecordItem Fault) → SkipsSoFar accepted old now → GivesNext now (Some outcome) new
       → accepted (record_result outcome ∷ []) ≡ x ∷ [] → (accepted (records_left old) ≡ x ∷ accepted (records_left new)) × SkipsToNext accepted old new x
   skipping_accepted old now new outcome x p calls is = (
@@ -119,6 +122,7 @@ module _ (accepted : List (Result EncodedRecord Fault) → List (Result RecordIt
     record { skipped = p.skipped; last = record_result outcome; given = given_last outcome p.given calls; none_accepted = p.none_accepted; is_accepted = is },
   )
 
+  -- if the cursor yields no item, the data type accepts nothing of what was left, and the cursor skipped to the end
   pub skipping_ended : (old now new : RecordSection) → SkipsSoFar accepted old now → GivesNext now None new
       → (accepted (records_left old) ≡ []) × (accepted (records_left new) ≡ []) × SkipsToEnd accepted old new
   skipping_ended old now new p calls = (

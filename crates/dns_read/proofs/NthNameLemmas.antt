@@ -31,6 +31,7 @@ module _ (b : List ℕ) where
   unfolding nth_name
   next_name i name e = ap (option_and_then (alias_of (limited cname_layout (records_of Answer b)))) e
 
+  -- if the i-th name is an alias of a target, the next name in the chain is this target
   pub next_target : (i : ℕ) (name target : Labels) → nth_name b i ≡ Some name → Some target ≡ alias_of (limited cname_layout (records_of Answer b)) name → nth_name b (i + 1) ≡ Some target
   next_target i name target e alias = rw add-one (next_name i name e ∙ sym alias)
 

@@ -45,6 +45,7 @@ module _ {Q R : Type 0} (capacity : Option ℕ) (grows : Bool) (question : Q →
   replied_more s [] (p ∷ replies) call reply h k = absurd h
   replied_more s (c ∷ calls) [] call reply h k = absurd h
 
+  -- if the calls so far lead to a stage, and one more call leads on from it, all these calls together lead to the last stage
   pub runs_more : {T : Type 0} → (old mid new : Stage T) (calls : List (Call Q R)) (replies : List Reply) (call : Call Q R) (reply : Reply)
       → Goes old calls replies mid → Steps capacity grows question item rule mid call reply new → Goes old (calls ++ call ∷ []) (replies ++ reply ∷ []) new
   runs_more old mid new calls replies call reply h step s represents =

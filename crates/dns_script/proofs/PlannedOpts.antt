@@ -71,9 +71,11 @@ module _ (capacity : Option ℕ) (grows : Bool) (rule : Rule) (plan : OptPlan) (
     done_asked (Ok u) done = sym p.gathers.left ∙ done ∙ ap (planned plan) p.gathers.fresh
     done_asked (Err e) done = tt
 
+    -- if the call succeeds, what it gathered is what was asked
     pub gathers_asked : OnOk p.outcome (p.g ≡ asked)
     gathers_asked = done_asked p.outcome (carries _ _ _ p.gathers.called).done
 
+    -- the result of the call is that of adding the options that were asked, in order, onto none
     pub adds_asked : AddsOptions 0 asked.options p.outcome
     adds_asked =
         subst (λ (xs : List OptionItem). AddsOptions 0 (xs ++ planned_options plan) p.outcome) (sym (options_stay plan.rcode (nothing_gathered s.header)))

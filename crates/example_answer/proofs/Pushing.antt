@@ -1,10 +1,9 @@
 -- How the records that match a question are pushed one by one.
 use Rattle.std.proofs.Common.{◌≡◌, ◌∙◌, ℕ, ◌+◌, ◌<◌, ◌≤◌, Bool, true, false, cond, List, [], ◌∷◌, ◌++◌, length, length-append, take, drop, get_or, append_assoc, ap, sym, subst, arith, None}
 use Rattle.std.proofs.lemmas.Bool.{le-leb, lt-leb}
-use Rattle.std.proofs.Math.Seq.{take-length}
 use Rattle.std.proofs.lemmas.List.{take_more, append-nil, map-append, take-append-drop}
 use Rattle.std.proofs.lemmas.List.Elements.{filter-append}
-use Rattle.std.specs.Prelude.{map, nat_le, Result, Ok, Err}
+use Rattle.std.specs.Prelude.{map, nat_le, Ok, Err}
 use Rattle.dns_message.specs.Targets.{Plain, Fits}
 use Rattle.dns_message.specs.Questions.{QuestionItem}
 use Rattle.dns_message.specs.Records.{RecordItem}
@@ -122,10 +121,6 @@ module _ {R : Type 0} (item : R → RecordItem) (asked : QuestionItem) (table : 
         so_far s h,
         subst (λ (ys : List RecordItem). s.limit < size (with_answers ys s)) all (limit_exceeded s (first i) (item x) others old mid h (so_far s h) fails),
       )
-
-  -- at the end all matches are pushed
-  pub pushes_all : (s : State) (b : Built) → MoreAnswers s b (first (length table)) → MoreAnswers s b (asked_records asked (map item table))
-  pushes_all s b more = subst (λ (ys : List R). MoreAnswers s b (asked_records asked (map item ys))) (take-length table) more
 
 -- the choice of `all_or_none`, by a test whose outcome is known
 chosen : (xs : List RecordItem) (s : State) (b : Bool) → nat_le (size (with_answers xs s)) s.limit ≡ b → all_or_none xs s ≡ cond b (with_answers xs s) (tc_rewound InAnswer s)

@@ -96,9 +96,11 @@ module _ (b : List ℕ) where
     pub no_additional : answered.additionals ≡ []
     no_additional = either_has (λ s. s.additionals) [] (nat_le (size all) (most_before_opt (opt_of b))) all none refl refl
 
+    -- with all or none of the answers, its limit is still that of the answers
     pub limit_kept : (all_or_none xs (asked_again b)).limit ≡ most_before_opt (opt_of b)
     limit_kept = either_has (λ s. s.limit) (most_before_opt (opt_of b)) (nat_le (size all) (most_before_opt (opt_of b))) all none refl refl
 
+    -- before its OPT record, its rcode is NOERROR
     pub rcode_kept : answered.header.rcode ≡ 0
     rcode_kept = either_has (λ s. s.header.rcode) 0 (nat_le (size all) (most_before_opt (opt_of b))) all none refl refl
 

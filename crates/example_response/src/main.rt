@@ -6,7 +6,7 @@
 //! contract of `response` says which response.
 #![tactic(auto)]
 
-ghost use Rattle.std.specs.Prelude.{◌≡◌, IfErr, IfOk, map};
+ghost use Rattle.std.specs.Prelude.{◌≡◌, ◌↔◌, ◌⊎◌, IfErr, IfOk, IsTrue, map};
 ghost use Rattle.dns_message.specs.Builders.{gathered};
 ghost use Rattle.dns_message.specs.Headers.{fields};
 ghost use Rattle.dns_message.specs.Messages.{message_octets};
@@ -32,8 +32,7 @@ fn main(rt: HostRuntime) -> anyhow::Result<()> {
 }
 
 /// The response to a query, with all of `answers` if it then has at most 512 octets, else with none
-/// of them and TC. TC would also be set if the target were full before (`ShortBuf`), which this one
-/// never is. The response has an OPT record if `query.opt()` finds one.
+/// of them and TC. The response has an OPT record if `query.opt()` finds one.
 fn response<R: ComposeRecord>(
     alloc: Global,
     query: &Message<Vec<u8>>,
@@ -53,7 +52,7 @@ fn response<R: ComposeRecord>(
     for answer in answers {
         match builder.push_ref(answer) {
             Ok(()) => {}
-            Err(PushError::LimitExceeded | PushError::ShortBuf) => {
+            Err(error) if is_too_long(error) => {
                 builder = builder.tc_rewind_into();
                 break;
             }
@@ -65,6 +64,14 @@ fn response<R: ComposeRecord>(
         builder.push_reserved(reserved)?;
     }
     Ok(builder.into_message())
+}
+
+/// Whether a push failed since the message would exceed its limit or the capacity of its target. A
+/// target that is a `Vec` is never full (`ShortBuf`).
+fn is_too_long(error: PushError) -> bool
+    ensures { IsTrue result ↔ ((error ≡ PushError.LimitExceeded) ⊎ (error ≡ PushError.ShortBuf)) }
+{
+    matches!(error, PushError::LimitExceeded | PushError::ShortBuf)
 }
 
 /// The OPT record of a response: its sender can receive 1,232 octets.

@@ -52,6 +52,7 @@ module _ {F R : Type 0} (call : F → ParsedRecord → Option R → F → Type 0
       let after = keeps_cut rest one.1 in
       (ap (λ (items : List RecordItem). item answer ∷ items) after.0 ∙ ap (λ o. cons_option o (filter_map (cut_item most) xs)) one.0, after.1)
 
+  -- the records written for a section are its records without OPT, with capped TTLs, and what held of the closure's state still holds
   pub section_cut : (b : List ℕ) (section : Section) (f g : F) (items : List RecordItem) → KeepsSection call item b section f items g → Holds f → CutsSection most b section items × Holds g
   section_cut b section f g items k h =
       let is = keeps_cut k.keeps h in

@@ -56,6 +56,7 @@ module _ {F R : Type 0} (call : F → ParsedRecord → Option R → F → Type 0
       (subst (λ p. first_fault (records_at section b p) ≡ None) (one_start section b reads.start p reads.starts starts) reads.records)
   no_fault_in_section b section (unstarted faulty) is reads = no_start_fault section b reads.start _ reads.starts faulty
 
+  -- if each section of a message can be read, copying its sections never fails with a parse error
   pub no_fault : (b : List ℕ) (sections : List Section) {f g : F} {s t : State} {result : Result (Unit {0}) CopyRecordsError}
       → CopiesSections call item capacity grows rule b sections f s result g t → result ≡ Err (Parse e) → ((section : Section) → SectionReads b section) → ⊥
   no_fault b [] no_section is reads = absurd (cc)

@@ -268,6 +268,7 @@ module _ (grows : Bool) where
           list_copied (stage_of section) copies is (fewer (stage_of section) (omega (arith, few, l)) can)
       section_taken b section (unstarted faulty) is few can = absurd (cc)
 
+      -- if all records can be counted, copying them onto an open state without answers fails at a push only because an allocation failed
       pub copying_refused : (b : List ℕ) (e : PushError) {f g : F} {s t : State} {result : Result (Unit {0}) CopyRecordsError}
           → CopiesSections call item None grows Static b record_sections f s result g t → result ≡ Err (Push e) → AreFew b → IsOpen s → s.answers ≡ [] → e ≡ OutOfMemory
       copying_refused b e (stopped one) is few is_open none =

@@ -41,6 +41,7 @@ module _ (fields : List Field) (other : Field) (some : 1 ≤ length fields) (s :
   encoded : DataAt (seen old) (layout_of ((get_or fields 0 other).1 ∷ kinds (after fields))) (offset old) q ps
   encoded = subst (λ (ks : List Kind). DataAt (seen old) (layout_of ks) (offset old) q ps) (first_of_fields fields other some) h
 
+  -- if the first field was read, the parts of the RDATA are its part and those of the fields after it
   pub front : (mid : Parser) (part : Part) → HasField (seen old) (get_or fields 0 other).1 s (offset old) (offset mid) part → MovesTo old mid (offset mid) → Front fields s mid q part ps
   front mid part has m =
       let first = first_field (seen old) (get_or fields 0 other).1 (kinds (after fields)) s e (offset old) q ps (offset_within old) encoded in
@@ -56,6 +57,7 @@ module _ (fields : List Field) (other : Field) (some : 1 ≤ length fields) (s :
             subst (λ (b : List ℕ). DataAt b layout (offset mid) q first.rest) (sym m.seen) (subst (λ p. DataAt (seen old) layout p q first.rest) same.0 there);
       }
 
+  -- the first field of well-formed RDATA has no fault
   pub no_fault : (f : Fault) → FieldFaultAt (seen old) (get_or fields 0 other).1 s (offset old) f → ⊥
   no_fault f fault =
       let found = first_field (seen old) (get_or fields 0 other).1 (kinds (after fields)) s e (offset old) q ps (offset_within old) encoded in

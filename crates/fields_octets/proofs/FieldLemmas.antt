@@ -1,6 +1,6 @@
 -- A field, and the fields after it.
 use Rattle.std.proofs.Common.{◌≡◌, ℕ, ◌+◌, ◌-◌, ◌<◌, ◌≤◌, inl, inr, Bool, List, [], ◌∷◌, length, take, drop, get_or, ap, sym, ◌∙◌, refl, subst, arith}
-use Rattle.std.specs.Prelude.{◌^◌, min, Ok}
+use Rattle.std.specs.Prelude.{Ok}
 use Rattle.std.proofs.lemmas.List.{take_all}
 use Rattle.dns_name.specs.Parsers.{seen, offset, MovesTo}
 use Rattle.dns_name.specs.declared.parser.Parser.{Parser}
@@ -21,7 +21,6 @@ use Rattle.fields_octets.specs.Table.{Field, Definition, definitions, kinds}
 use Rattle.fields_octets.specs.Layouts.{field_layout, layout_of, HasPart, HasField, PartFaultAt, FieldFaultAt}
 use Rattle.fields_octets.specs.Skipping.{Skips}
 use Rattle.fields_octets.specs.Values.{HasSize}
-use Rattle.fields_octets.specs.declared.skip.Skipped.{Skipped}
 
 -- the layout of a first field and the others
 pub layout_step : (kind : Kind) (ks : List Kind) (s : Shape) → s ≡ shape_of kind → layout_of (kind ∷ ks) ≡ field_layout s (accepts kind) (layout_of ks)
@@ -73,10 +72,12 @@ module _ (b : List ℕ) where
 
   -- The same by the kinds of fields.
   module _ (kind : Kind) (ks : List Kind) (s : Shape) (e : s ≡ shape_of kind) where
+    -- a first field that doesn't take the rest, and RDATA of the fields after it, are RDATA of all these fields
     pub skipped : (p r q : ℕ) (part : Part) (ps : List Part) → HasField b kind s p r part → (s ≡ Rest → ⊥) → DataAt b (layout_of ks) r q ps → DataAt b (layout_of (kind ∷ ks)) p q (part ∷ ps)
     skipped p r q part ps h not d =
         subst (λ (x : Layout). DataAt b x p q (part ∷ ps)) (sym (layout_step kind ks s e)) (joined s (accepts kind) (layout_of ks) p r q part ps h not d)
 
+    -- a first field that takes the rest is RDATA of all these fields, with its part alone
     pub skipped_last : (p r : ℕ) (part : Part) → HasField b kind s p r part → s ≡ Rest → DataAt b (layout_of (kind ∷ ks)) p r (part ∷ [])
     skipped_last p r part h is =
         let k : HasPart b Rest (accepts kind) p r part = subst (λ (t : Shape). HasPart b t (accepts kind) p r part) is h in
@@ -84,9 +85,11 @@ module _ (b : List ℕ) where
         let d' = subst (λ (t : Shape). DataAt b (field_layout t (accepts kind) (layout_of ks)) p r (part ∷ [])) (sym is) d in
         subst (λ (x : Layout). DataAt b x p r (part ∷ [])) (sym (layout_step kind ks s e)) d'
 
+    -- a fault of the first field is the fault of the RDATA
     pub faults : (p : ℕ) (f : Fault) → FieldFaultAt b kind s p f → DataFaultAt b (layout_of (kind ∷ ks)) p f
     faults p f h = subst (λ (x : Layout). DataFaultAt b x p f) (sym (layout_step kind ks s e)) (first_fault s (accepts kind) (layout_of ks) p f h)
 
+    -- if the first field is there and doesn't take the rest, a fault of the fields after it is the fault of the RDATA
     pub faults_later : (p r : ℕ) (part : Part) (f : Fault) → HasField b kind s p r part → (s ≡ Rest → ⊥) → DataFaultAt b (layout_of ks) r f
         → DataFaultAt b (layout_of (kind ∷ ks)) p f
     faults_later p r part f h not d =
@@ -137,21 +140,10 @@ none_skipped old = (([], none_encoded (seen old) (offset old), refl), record { i
 -- a field that was read, and the fields after it
 module _ (kind : Kind) (ks : List Kind) (s : Shape) (e : s ≡ shape_of kind) (old mid : Parser) (part : Part)
     (h : HasField (seen old) kind s (offset old) (offset mid) part) (m : MovesTo old mid (offset mid)) where
-  pub skip_on : (new : Skipped) (size : ℕ) → (s ≡ Rest → ⊥) → Skips (layout_of ks) mid (Ok new) → size ≡ min (new.size + part_size part) (2 ^ 64 - 1)
-      → Skips (layout_of (kind ∷ ks)) old (Ok (record { parser = new.parser; size = size }))
-  skip_on new size not d is =
-      let there = subst (λ (b : List ℕ). DataAt b (layout_of ks) (offset mid) (offset new.parser) d.0.0) m.seen d.0.1 in
-      let others = d.0.2 in (
-        (part ∷ d.0.0, skipped (seen old) kind ks s e (offset old) (offset mid) (offset new.parser) part d.0.0 h not there, omega arith),
-        record { input = d.1.input ∙ m.input; seen = d.1.seen ∙ m.seen; offset = d.1.offset },
-      )
-
+  -- if the field that was read doesn't take the rest, the fault after it is the fault of all the RDATA from the first parser on
   pub skip_fault : (f : Fault) → (s ≡ Rest → ⊥) → DataFaultAt (seen mid) (layout_of ks) (offset mid) f → DataFaultAt (seen old) (layout_of (kind ∷ ks)) (offset old) f
   skip_fault f not d =
       faults_later (seen old) kind ks s e (offset old) (offset mid) part f h not (subst (λ (b : List ℕ). DataFaultAt b (layout_of ks) (offset mid) f) m.seen d)
-
-  pub skip_last : (size : ℕ) → s ≡ Rest → size < 2 ^ 64 → size ≡ part_size part → Skips (layout_of (kind ∷ ks)) old (Ok (record { parser = mid; size = size }))
-  skip_last size is fits whole = ((part ∷ [], skipped_last (seen old) kind ks s e (offset old) (offset mid) part h is, omega arith), m)
 
 -- RDATA as its first field and the rest.
 
@@ -259,5 +251,6 @@ module _ (b : List ℕ) where
       one_encoded b pointers p k.0 h.0 k.1 r (same_name b k.2 h.2) (one_end b k.3 h.3) k.4 h.4
   part_or_fault Rest test p r x f h k = let g = h.0 in let n = k.1 in cc
 
+  -- no offset has both a field and a fault of this field
   pub field_or_fault : (kind : Kind) (s : Shape) (p r : ℕ) (x : Part) (f : Fault) → HasField b kind s p r x → FieldFaultAt b kind s p f → ⊥
   field_or_fault kind s p r x f h k = part_or_fault s (accepts kind) p r x f h k

@@ -33,6 +33,7 @@ short_string (suc left) [] l = refl
 short_string (suc left) (x ∷ xs) l = short_string left xs (omega arith)
 
 module _ (octets : List ℕ) where
+  -- After a whole character string the next one decides.
   pub string_step : (xs : List ℕ) (size : ℕ) → 1 ≤ length xs → size ≡ get_or xs 0 0 → size ≤ length (after 1 xs) → strings_after 0 octets ≡ strings_after 0 xs
       → strings_after 0 octets ≡ strings_after 0 (after size (after 1 xs))
   string_step [] size l e few inv = absurd (omega arith)
@@ -43,6 +44,7 @@ module _ (octets : List ℕ) where
   never [] h = refl
   never (x ∷ xs) h = h
 
+  -- If a character string is cut off, the octets are no character strings.
   pub string_short : (xs : List ℕ) (size : ℕ) → 1 ≤ length xs → size ≡ get_or xs 0 0 → length (after 1 xs) < size → strings_after 0 octets ≡ strings_after 0 xs → are_strings octets ≡ false
   string_short [] size l e few inv = absurd (omega arith)
   string_short (x ∷ xs) size l e few inv =

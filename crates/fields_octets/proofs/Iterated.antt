@@ -37,12 +37,14 @@ none_named [] = refl
 none_named (d ∷ ds) = refl
 
 module _ (fields : List Field) (other : Field) (some : 1 ≤ length fields) (s : Shape) (e : s ≡ shape_of (get_or fields 0 other).1) (old : Parser) (there : AreLeft fields old) where
+  -- the first of the remaining fields has no fault
   pub never_faults : (f : Fault) → FieldFaultAt (seen old) (get_or fields 0 other).1 s (offset old) f → ⊥
   never_faults f fault =
       let d = data_is_there (seen old) (layout_of (kinds fields)) (offset old) there in
       no_fault fields other some s e old d.0 (parts_from fields old) d.1 f fault
 
   module _ (mid : Parser) (part : Part) (has : HasField (seen old) (get_or fields 0 other).1 s (offset old) (offset mid) part) (m : MovesTo old mid (offset mid)) where
+    -- after a field that takes the rest, no fields remain, and its part is the only one
     pub next_last : s ≡ Rest → Left [] mid part (parts_from fields old)
     next_last is =
         let d = data_is_there (seen old) (layout_of (kinds fields)) (offset old) there in
@@ -50,6 +52,7 @@ module _ (fields : List Field) (other : Field) (some : 1 ≤ length fields) (s :
         let t = is_there (seen mid) (layout_of []) (offset mid) (offset mid) [] (offset_within mid) (none_encoded (seen mid) (offset mid)) in
         record { there = t.0; parts = f.is ∙ ap (λ (xs : List Part). part ∷ xs) (f.last is ∙ sym t.1) }
 
+    -- after a field that doesn't take the rest, the fields after it remain, and its part precedes theirs
     pub next_others : (s ≡ Rest → ⊥) → Left (after fields) mid part (parts_from fields old)
     next_others not =
         let d = data_is_there (seen old) (layout_of (kinds fields)) (offset old) there in

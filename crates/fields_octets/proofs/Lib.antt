@@ -6,7 +6,6 @@ mod FieldLemmas
 mod ItemSteps
 mod Iterated
 mod MadeData
-mod NamedFields
 mod NameSteps
 mod OrderedData
 mod OwnedCopies

@@ -16,7 +16,7 @@ use Rattle.fields_octets.specs.declared.fields.Fields.{Fields}
 use Rattle.fields_octets.specs.declared.own.DataOf.{DataOf}
 use Rattle.fields_octets.specs.declared.own.RecordFields.{Ghosts}
 use Rattle.fields_octets.proofs.CanonicalOrders.{fields_compare}
-use Rattle.fields_octets.proofs.NamedFields.{parts_of_named}
+use Rattle.fields_octets.proofs.theory.NamedFields.{parts_of_named}
 
 module _ {T : Type 0} {g : Ghosts T} where
   data_at : (d : DataOf T g) → (q : ℕ) × DataAt (seen d.parser) (layout_of (kinds_in g.defined)) (offset d.parser) q (own_parts_of d)
@@ -26,12 +26,14 @@ module _ {T : Type 0} {g : Ghosts T} where
   pub own_parts_left : (d : DataOf T g) (fields : Fields) → fields_left fields ≡ named_parts g.defined (own_parts_of d) → parts_left fields ≡ own_parts_of d
   own_parts_left d fields e = let h = data_at d in parts_of_named (seen d.parser) g.defined (offset d.parser) h.0 (own_parts_of d) h.1 fields e
 
+  -- if fields have the parts of RDATA, two lists of fields compare as the parts of their RDATA do
   pub compared : (canonical : Bool) (x y : DataOf T g) (xs ys : Fields) → fields_left xs ≡ named_parts g.defined (own_parts_of x) → fields_left ys ≡ named_parts g.defined (own_parts_of y)
       → slice_cmp (field_order canonical) (parts_left xs) (parts_left ys) ≡ slice_cmp (field_order canonical) (own_parts_of x) (own_parts_of y)
   compared canonical x y xs ys e f =
       ap (λ (ps : List Part). slice_cmp (field_order canonical) ps (parts_left ys)) (own_parts_left x xs e)
       ∙ ap (slice_cmp (field_order canonical) (own_parts_of x)) (own_parts_left y ys f)
 
+  -- comparing the parts of RDATA in canonical form is the canonical order of the RDATA
   pub compared_in_canonical_form : (x y : DataOf T g) → slice_cmp (field_order true) (own_parts_of x) (own_parts_of y) ≡ own_canonical_order x y
   compared_in_canonical_form x y =
       let h = data_at x in

@@ -24,6 +24,7 @@ module _ (d : FieldData) (octets : List ℕ) (e : with_empty_table octets ≡ ap
   octets_are : octets ≡ octets_of_parts (parts_of d)
   octets_are = ap (λ (w : Written). w.octets) e ∙ plain_octets (parts_of d) nothing 0
 
+  -- if the type is that of the RDATA, its uncompressed octets are read as the parts of the RDATA
   pub copied : (rtype : ℕ) → rtype ≡ rtype_of d → Copied d rtype octets
   copied rtype same =
       let laid = subst (λ r. IsLaidOut (layout_of (kinds_of r)) (parts_of d)) (sym same) (any_laid_out d).1 in

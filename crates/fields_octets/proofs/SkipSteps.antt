@@ -71,6 +71,7 @@ module _ (fields : List Field) (old : Parser) (left : List Field) (ahead : Parse
       onwards : MovesTo old mid (offset mid)
       onwards = record { input = m.input ∙ r.moves.input; seen = m.seen ∙ r.moves.seen; offset = refl }
 
+      -- if the next field doesn't take the rest, the fields up to the one after it were skipped
       pub at_next : (s ≡ Rest → ⊥) → Reached fields old (after left) mid more
       at_next not =
           record {

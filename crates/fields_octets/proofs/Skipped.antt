@@ -1,7 +1,6 @@
 -- RDATA that was skipped.
-use Rattle.std.proofs.Common.{◌≡◌, ◌<◌, ◌≤◌, List, inl, inr, sym, refl, subst, arith}
+use Rattle.std.proofs.Common.{◌≡◌, ◌<◌, ◌≤◌, List, inr, sym, refl, subst, arith}
 use Rattle.std.specs.Prelude.{Ok}
-use Rattle.dns_name.specs.Names.{Fault}
 use Rattle.dns_name.specs.Names.Fault.{ShortInput}
 use Rattle.dns_name.specs.Parsers.{seen, offset, MovesTo}
 use Rattle.dns_name.specs.declared.parser.Parser.{Parser}
@@ -24,6 +23,7 @@ pub record SkippedData (ks : List Kind) (old new : Parser) : Type 0 where
   pub moves : MovesTo old new (offset new)
 
 module _ (fields : List Field) (defined : List Kind) (e : kinds fields ≡ defined) (old : Parser) where
+  -- skipped fields of at most 65,535 octets are RDATA of these kinds
   pub skipped_data : (new : Skipped) → Skips (layout_of (kinds fields)) old (Ok new) → new.size ≤ most → SkippedData defined old new.parser
   skipped_data new h few =
       let d = subst (λ (ks : List Kind). DataAt (seen old) (layout_of ks) (offset old) (offset new.parser) h.0.0) e h.0.1 in
@@ -43,7 +43,3 @@ module _ (fields : List Field) (defined : List Kind) (e : kinds fields ≡ defin
       let d = subst (λ (ks : List Kind). DataAt (seen old) (layout_of ks) (offset old) (offset new.parser) h.0.0) e h.0.1 in
       let size = h.0.2 in
       inr (offset new.parser, h.0.0, d, omega arith, refl)
-
-  -- the first fault of the fields is that of the RDATA
-  pub skipped_fault : (f : Fault) → DataFaultAt (seen old) (layout_of (kinds fields)) (offset old) f → DataFaultAt (seen old) (rdata_layout defined) (offset old) f
-  skipped_fault f h = inl (subst (λ (ks : List Kind). DataFaultAt (seen old) (layout_of ks) (offset old) f) e h)

@@ -9,7 +9,7 @@ ghost use Rattle.fields_octets.specs.Forms.{form, formed};
 ghost use Rattle.fields_octets.specs.Layouts.{layout_of};
 ghost use Rattle.fields_octets.specs.Table.{kinds};
 
-use crate::encoded::{Encoded, read_field};
+use crate::encoded::{Encoded, parse_field};
 use crate::kind::Kind;
 use crate::shape::Shape;
 use dns_data::laws::parts_compose;
@@ -36,7 +36,7 @@ pub(crate) fn compose<T: Composer>(
     };
     let shape = field.1.shape();
     let mut ahead = parser;
-    let Ok(encoded) = read_field(field.1, shape, &mut ahead) else {
+    let Ok(encoded) = parse_field(field.1, shape, &mut ahead) else {
         return Err(AppendError::ShortBuf);
     };
     append_field(encoded, canonical, target)?;

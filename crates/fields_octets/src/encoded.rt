@@ -35,7 +35,7 @@ impl Encoded<'_> {
 
 /// Reads a field.
 #[inline(always)]
-pub(crate) fn read_field<'a>(
+pub(crate) fn parse_field<'a>(
     kind: Kind,
     shape: Shape,
     parser: &mut Parser<'a>,

@@ -5,7 +5,7 @@ ghost use Rattle.fields_octets.specs.FieldsLeft.{AreLeft};
 ghost use Rattle.fields_octets.specs.Shapes.{shape_of};
 ghost use Rattle.fields_octets.specs.Values.{HasSize};
 
-use crate::encoded::{Encoded, read_field};
+use crate::encoded::{Encoded, parse_field};
 use crate::kind::Kind;
 use crate::shape::Shape;
 use crate::value::{Value, value_of};
@@ -75,7 +75,7 @@ impl<'a> Iterator for Fields<'a> {
         };
         let shape = field.1.shape();
         let mut ahead = self.parser;
-        let Ok(encoded) = read_field(field.1, shape, &mut ahead) else {
+        let Ok(encoded) = parse_field(field.1, shape, &mut ahead) else {
             return None;
         };
         let item = Field {

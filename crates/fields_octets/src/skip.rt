@@ -4,7 +4,7 @@ ghost use Rattle.fields_octets.specs.Layouts.{layout_of};
 ghost use Rattle.fields_octets.specs.Skipping.{Skips};
 ghost use Rattle.fields_octets.specs.Table.{kinds};
 
-use crate::encoded::read_field;
+use crate::encoded::parse_field;
 use crate::kind::Kind;
 use crate::shape::Shape;
 use dns_name::Parser;
@@ -30,7 +30,7 @@ pub(crate) fn skip<'a>(
     let mut size: usize = 0;
     'fields: while let [field, after @ ..] = left {
         let shape = field.1.shape();
-        let encoded = read_field(field.1, shape, &mut ahead)?;
+        let encoded = parse_field(field.1, shape, &mut ahead)?;
         size = size.saturating_add(encoded.size());
         if let Shape::Rest = shape {
             return Ok(Skipped {

@@ -1,5 +1,5 @@
 -- The texts of fields.
-use Rattle.std.proofs.Common.{◌≡◌, ◌∙◌, ℕ, List, [], ◌∷◌, Option, Some, None, true, false, ap, sym, refl, codes, is_some, map}
+use Rattle.std.proofs.Common.{◌≡◌, ◌∙◌, ℕ, List, [], ◌∷◌, Option, Some, None, true, ap, sym, refl, codes, is_some, map}
 use Rattle.std.specs.Fmt.{◌++?◌}
 use Rattle.fields_octets.specs.FieldParts.{NamedPart}
 use Rattle.fields_octets.specs.Values.{part_value}
@@ -11,10 +11,6 @@ after_some : (a b : Option (List ℕ)) → is_some a ≡ true → is_some (a ++?
 after_some None b e = cc
 after_some (Some a) None e = refl
 after_some (Some a) (Some b) e = refl
-
-after_none : (a b : Option (List ℕ)) → is_some a ≡ false → is_some (a ++? b) ≡ false
-after_none None b e = refl
-after_none (Some a) b e = cc
 
 after_text : (a : List ℕ) (b : Option (List ℕ)) → is_some (Some a ++? b) ≡ is_some b
 after_text a None = refl
@@ -57,10 +53,3 @@ module _ {A : Type 0} (word_of : A → Option (List ℕ)) where
       ap (λ (l : List A). is_some (spaced_if_all [] (map word_of l))) e
       ∙ after_some (Some [] ++? word_of item) (spaced_if_all (codes " ") (map word_of after)) (after_text [] (word_of item) ∙ some)
       ∙ any_space (codes " ") [] after
-
-  -- it has none
-  pub first_word_missing : (items : List A) (item : A) (after : List A) → items ≡ item ∷ after → is_some (word_of item) ≡ false
-      → is_some (spaced_if_all [] (map word_of items)) ≡ false
-  first_word_missing items item after e none =
-      ap (λ (l : List A). is_some (spaced_if_all [] (map word_of l))) e
-      ∙ after_none (Some [] ++? word_of item) (spaced_if_all (codes " ") (map word_of after)) (after_text [] (word_of item) ∙ none)

@@ -61,26 +61,11 @@ module _ {W : Type 0} (takes : W → List ℕ → W → Type 0) where
   word_printed_if f g h r left word after None p d ok e = tt
   word_printed_if f g h r left word after (Some all) p d ok e = joined f g h r word after p.0 all p.2 d ok (sym e ∙ p.1)
 
-  -- all is printed if nothing is left
-  pub all_printed_if : (f g : W) (r : Result (Unit {0}) Error) (left all : Option (List ℕ)) → PrintingIfAll f g left all → left ≡ Some [] → IfSome all (λ text. PrintsOnOk takes f r text g)
-  all_printed_if f g r left None p e = tt
-  all_printed_if f g r left (Some all) p e =
-      λ ok.
-      let none : p.0 ≡ [] = ap (λ (o : Option (List ℕ)). unwrap_or o []) (sym p.1 ∙ e) in
-      all_printed f g p.0 all p.2 none
-
   -- two words, the second if it has a text
   pub put_two_if : (f g h : W) (r : Result (Unit {0}) Error) (first : List ℕ) (word : Option (List ℕ)) → WritesInCalls takes f first g → IfSome word (λ text. PrintsOnOk takes g r text h)
       → IfSome (Some first ++? word) (λ text. PrintsOnOk takes f r text h)
   put_two_if f g h r first None p d = tt
   put_two_if f g h r first (Some word) p d = λ ok. print_append takes f g h first word p (d ok)
-
-  -- all fails only if the writer does, if the next word does so
-  pub fails_if : (MayFail : Type 0) (f g : W) (r : Result (Unit {0}) Error) (left word after all : Option (List ℕ)) → PrintingIfAll f g left all → left ≡ word ++? after
-      → OnSome word (OnErr r MayFail) → OnSome all (OnErr r MayFail)
-  fails_if MayFail f g r left word after None p e d = tt
-  fails_if MayFail f g r left None after (Some all) p e d = absurd (cc (sym e ∙ p.1))
-  fails_if MayFail f g r left (Some word) after (Some all) p e d = d
 
 -- The last of two words fails only if the writer does.
 pub fails_after : (MayFail : Type 0) (r : Result (Unit {0}) Error) (first : List ℕ) (word : Option (List ℕ)) → OnSome word (OnErr r MayFail) → OnSome (Some first ++? word) (OnErr r MayFail)

@@ -64,11 +64,13 @@ no_digit digits i n h none is =
 
 -- a digit more is read
 module _ (digits : List ℕ) (i number value : ℕ) (there : i < length digits) (small : number < 32 ^ i) (digit : value < 32) where
+  -- A number below a power of 32, with one more digit, is below the next power.
   pub small_more : number * 32 + value < 32 ^ (i + 1)
   small_more =
       let power : 32 ^ (i + 1) ≡ 32 ^ i * 32 = ap (λ k. 32 ^ k) (add-one i) ∙ pow-suc 32 i in
       omega arith
 
+  -- If the digits before an index are those of a number, those up to the next index are those of this number with one digit more.
   pub text_more : str_to_ascii_uppercase (take i digits) ≡ base32_digits i number → to_ascii_uppercase (get_or digits i 0) ≡ digit_glyph true value
       → str_to_ascii_uppercase (take (i + 1) digits) ≡ base32_digits (i + 1) (number * 32 + value)
   text_more text glyph =
@@ -254,12 +256,15 @@ five_octets n size spare eight (inr (inr (inr (inr group)))) = group.1
 
 -- digits of at most eight that represent no octets
 module _ (digits octets : List ℕ) (some : 0 < length digits) (few : length digits ≤ 8) where
+  -- At most eight digits represent no octets if no group of octets has as many digits.
   pub no_size : ((size spare : ℕ) → ¬ (IsGroupSize (length digits) size spare)) → ¬ (IsBase32 digits octets)
   no_size none is = let s = shape digits octets some few is in none s.size s.spare s.group
 
+  -- At most eight digits represent no octets if they are no number's digits.
   pub no_number : ((n : ℕ) → ¬ (IsDigits digits n)) → ¬ (IsBase32 digits octets)
   no_number none is = let s = shape digits octets some few is in none (number_of octets * s.spare) s.is
 
+  -- At most eight digits represent no octets if their number has spare bits that aren't zero.
   pub bits_left : (number size spare : ℕ) → IsGroupSize (length digits) size spare → IsDigits digits number → number % spare ≢ 0 → ¬ (IsBase32 digits octets)
   bits_left number size spare group given left is =
       let s = shape digits octets some few is in

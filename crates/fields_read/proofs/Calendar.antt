@@ -260,6 +260,7 @@ same_digits m n a b e =
 
 -- the eight digits of a date
 module _ (year month day n : ℕ) (h : IsDay year month day n) where
+  -- The eight printed digits of a day are those of its year, month and day of the month.
   pub digits_of_day : day_text (in_year n) ≡ date_text year month day
   digits_of_day =
       ap (λ y. date_text y (in_month n).period ((in_month n).day + 1)) h.years
@@ -308,6 +309,7 @@ module _ (a b c d e f g h century year month day n : ℕ) (first : century < 100
   abbrev word : List ℕ
   word = a ∷ b ∷ c ∷ d ∷ e ∷ f ∷ g ∷ h ∷ []
 
+  -- If a day has the date that a word's digits spell, the word represents this day.
   pub word_of_day : IsDay (century * 100 + year) month day n → IsDayWord word n
   word_of_day is =
       let c_is : century ≡ (century * 100 + year) / 100 = omega arith in
@@ -317,6 +319,7 @@ module _ (a b c d e f g h century year month day n : ℕ) (first : century < 100
       let text = digits_of_day (century * 100 + year) month day n is in
       (is.early, cc (one, two, three, four, c_digits, y_digits, text))
 
+  -- If a word represents a day, this day has the date that the word's digits spell.
   pub day_of_word : IsDayWord word n → IsDay (century * 100 + year) month day n
   day_of_word w =
       let date = day_is_date _ _ _ n (own_date n w.0) in

@@ -26,12 +26,15 @@ names_in_order = record {
 
 -- why no host identity is read
 module _ (algorithm_word tag_word key_word : List ℕ) (server_words : List (Bor (List ℕ))) where
+  -- why these words aren't read as a host identity: an allocation fails, or they represent none
   abbrev pub FailsSo : TextError → Type 0
   FailsSo e = FailsIf (MayBeIdentity algorithm_word tag_word key_word server_words) (IsIdentity algorithm_word tag_word key_word server_words) e
 
+  -- if the words of the servers aren't all names, the words represent no host identity
   pub no_servers : (b : Bool) → b ≡ false → IsTrue b ↔ HasValue (AreNames server_words) → (octets : List ℕ) → ¬ (IsIdentity algorithm_word tag_word key_word server_words octets)
   no_servers b is_false tested octets is = let is_true = tested.1 (is.servers, is.are_servers) in absurd (cc (is_false, is_true))
 
+  -- if reading the tag fails, reading the host identity fails for the same reason, or as a bad word if the key is one
   pub tag_fails : (e first : TextError) (key : Result (Vec ℕ) TextError) → HasValue (IsNumberTo 255 algorithm_word) → HasValue (AreNames server_words) → Fails (IsCountedHex tag_word) first
       → ReadsWordsIf (HasValue (IsBase64 key_word)) (IsCountedBase64 key_word) key → FailsFirst first key e → FailsSo e
   tag_fails e first (Ok key) number servers (inl memory) is why = inl (why ∙ memory.0, (number, memory.1, (key.items, is.0), servers))
@@ -42,11 +45,13 @@ module _ (algorithm_word tag_word key_word : List ℕ) (server_words : List (Bor
   tag_fails e first (Err f) number servers fails (inr none) (inl why) = inr (why.1, λ octets is. none.1 is.key is.is_key)
   tag_fails e first (Err f) number servers fails (inr none) (inr why) = absurd (cc (none.0, why.0))
 
+  -- if the other words are right and reading the key fails, reading the host identity fails for the same reason
   pub key_fails : (e : TextError) → HasValue (IsNumberTo 255 algorithm_word) → HasValue (IsCountedHex tag_word) → HasValue (AreNames server_words)
       → FailsIf (HasValue (IsBase64 key_word)) (IsCountedBase64 key_word) e → FailsSo e
   key_fails e number tag servers (inl memory) = inl (memory.0, (number, tag, memory.1, servers))
   key_fails e number tag servers (inr bad) = inr (bad.0, λ octets is. bad.1 is.key is.is_key)
 
+  -- if reading the servers' names fails, reading the host identity fails for the same reason
   pub servers_fail : (e : TextError) → MayBeIdentity algorithm_word tag_word key_word server_words → Fails (AreNames server_words) e → FailsSo e
   servers_fail e there (inl memory) = inl (memory.0, there)
   servers_fail e there (inr bad) = inr (bad.0, λ octets is. bad.1 is.servers is.are_servers)

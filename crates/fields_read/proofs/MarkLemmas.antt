@@ -50,6 +50,7 @@ module _ (p q : ℕ → Bool) (first : ℕ) (same : (k : ℕ) → k < 256 → p 
       let bit = same at (omega (arith, within)) in
       λ i. (if bit i then 128 else 0) + next i / 2
 
+  -- If a window's marks are those of the types from its first type on, the octets of the marks are those of the types.
   pub octets_shifted : (at count : ℕ) → at + 8 * count ≤ 256 → octets_bits p at count ≡ octets_bits q (first + at) count
   octets_shifted at zero within = refl
   octets_shifted at (suc count) within =

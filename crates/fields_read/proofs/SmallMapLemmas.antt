@@ -157,6 +157,7 @@ module _ (types : List ℕ) (small : have_small_map types ≡ true) where
       let short = is.short in
       and_from _ _ (and_from _ _ (lt-ltb octet 128 (first_small octet bits same)) (lt-ltb (length bits) 16 (omega arith))) (ends_of octet bits is.trimmed)
 
+  -- If octets are the bits of types below 128, they are the bit map of these types.
   pub small_map_is : (bits : List ℕ) → IsBits (has types) 0 16 bits → IsSmallMap types bits
   small_map_is bits is = record { bytes = is.bytes; small = is_small bits is (same_types bits is); bits = same_types bits is }
 

@@ -249,6 +249,7 @@ ends_of octet (next ∷ octets) trim = ends_of next octets trim
 
 -- blocks of windows
 module _ (p : ℕ → Bool) where
+  -- After the last window, 255, there are no more blocks, and nothing is appended.
   pub blocks_none : (window : ℕ) (old : List ℕ) → window ≡ 256 → (blocks : List ℕ) × IsBlocks p window blocks × (old ≡ old ++ blocks)
   blocks_none window old last = (
     [],
@@ -282,6 +283,7 @@ module _ (p : ℕ → Bool) where
             ∙ within_split p (window * 256) (window * 256 + 256) 65536 n (omega arith) (omega arith);
       }
 
+  -- If the block of a window is appended and then those of the windows after it, the blocks from this window on are appended.
   pub appends_blocks : (window : ℕ) (old middle new : List ℕ) (u : Unit {0}) (result : Result Unit TextError) → window < 256
       → AppendsBlock p window old middle (Ok u) → AppendsBlocks p (window + 1) middle new result → AppendsBlocks p window old new result
   appends_blocks window old middle new u (Ok v) small a b = (
@@ -298,10 +300,12 @@ or_true false = refl
 
 module _ (word : Bor (List ℕ)) (words : List (Bor (List ℕ))) (k : ℕ) (types : List ℕ) (is : (n : ℕ) → IsTypeWord word.now n ↔ (Some k ≡ Some n))
     (others : (n : ℕ) → has types n ≡ true ↔ HasType words n) where
+  -- If a type is that of the first word or one of the other words' types, one of the words represents it.
   pub has_type : (n : ℕ) (b : Bool) → (k == n) ≡ b → b || has types n ≡ true → HasType (word ∷ words) n
   has_type n true e h = inl ((is n).1 (ap (λ (m : ℕ). Some m) (eqb-true k n e)))
   has_type n false e h = inr ((others n).0 h)
 
+  -- If one of the words represents a type, it is that of the first word or one of the other words' types.
   pub type_has : (n : ℕ) → HasType (word ∷ words) n → (k == n) || has types n ≡ true
   type_has n (inl w) =
       let same : k ≡ n = (let e = (is n).0 w in cc e) in
@@ -331,6 +335,7 @@ module _ (words : List (Bor (List ℕ))) (i : ℕ) (d : Bor (List ℕ)) (within 
   split_there : drop i words ≡ get_or words i d ∷ drop (i + 1) words
   split_there = drop_more words i d within
 
+  -- If the type of the word at an index is added and then those of the words after it, those of the words from the index on are.
   pub type_at : (old pushed new : List ℕ) (k : ℕ) (result : Result Unit TextError) → ((n : ℕ) → IsTypeWord (get_or words i d).now n ↔ (Some k ≡ Some n)) → pushed ≡ old ++ k ∷ []
       → AppendsTypes (drop (i + 1) words) pushed new result → AppendsTypes (drop i words) old new result
   type_at old pushed new k result is e a =
@@ -339,15 +344,18 @@ module _ (words : List (Bor (List ℕ))) (i : ℕ) (d : Bor (List ℕ)) (within 
   none_there : ((n : ℕ) → IsTypeWord (get_or words i d).now n ↔ (None ≡ Some n)) → ¬ (AreTypes (drop i words))
   none_there none all = no_types (get_or words i d ∷ drop (i + 1) words) d (omega arith) none (subst AreTypes split_there all)
 
+  -- If the word at an index is no type, the words from it on fail as a bad word.
   pub type_wrong : (old new : List ℕ) → ((n : ℕ) → IsTypeWord (get_or words i d).now n ↔ (None ≡ Some n)) → AppendsTypes (drop i words) old new (Err BadWord)
   type_wrong old new none = inr (refl, none_there none)
 
+  -- If the word at an index is a type, like those before it, all words are types exactly if those after it are.
   pub types_left : (k : ℕ) → ((n : ℕ) → IsTypeWord (get_or words i d).now n ↔ (Some k ≡ Some n)) → AreTypes words ↔ AreTypes (drop i words) → AreTypes words ↔ AreTypes (drop (i + 1) words)
   types_left k is left = (
     λ all. (subst AreTypes split_there (left.0 all)).1,
     λ after. left.1 (subst AreTypes (sym split_there) ((k, (is k).1 refl), after)),
   )
 
+  -- If the word at an index is no type, not all words are types.
   pub types_none : ((n : ℕ) → IsTypeWord (get_or words i d).now n ↔ (None ≡ Some n)) → AreTypes words ↔ AreTypes (drop i words) → IsTrue false ↔ AreTypes words
   types_none none left = (λ t. absurd (cc t), λ all. absurd (none_there none (left.0 all)))
 

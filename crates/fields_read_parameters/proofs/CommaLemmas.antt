@@ -52,6 +52,7 @@ last_text text others last whole none =
 
 -- octets that are joined
 module _ (Is : List ℕ → List ℕ → Type 0) where
+  -- If the octets of a text are appended, those of the list of this text alone are.
   pub joined_one : (text : List ℕ) (texts : List (List ℕ)) (old new : List ℕ) (r : Result Unit TextError) → texts ≡ text ∷ [] → AppendsOctets (Is text) old new r
       → AppendsOctetsIf ⊤ (AreJoined Is texts) old new r
   joined_one text texts old new (Ok u) alone (octets, is, e) = (
@@ -65,6 +66,7 @@ module _ (Is : List ℕ → List ℕ → Type 0) where
         are_first : (octets : List ℕ) → AreJoined Is texts octets → (first : List ℕ) × Is text first
         are_first octets are = let parts = subst (λ (ts : List (List ℕ)). AreJoined Is ts octets) alone are in (parts.0, parts.2)
 
+  -- If the octets of the first text are appended and then those of the others, those of all the texts are.
   pub joined_more : (text : List ℕ) (texts all : List (List ℕ)) (old middle new : List ℕ) (u : Unit {0}) (r : Result Unit TextError) → all ≡ text ∷ texts
       → AppendsOctets (Is text) old middle (Ok u) → AppendsOctetsIf ⊤ (AreJoined Is texts) middle new r → AppendsOctetsIf ⊤ (AreJoined Is all) old new r
   joined_more text texts all old middle new u (Ok v) whole (first, is, e) (others, are, f) = (
@@ -76,6 +78,7 @@ module _ (Is : List ℕ → List ℕ → Type 0) where
   joined_more text texts all old middle new u (Err e) whole first (inr bad) =
       inr (bad.0, λ octets are. let parts = subst (λ (ts : List (List ℕ)). AreJoined Is ts octets) whole are in bad.1 parts.1 parts.4)
 
+  -- If the octets of the first text can't be appended, those of all the texts can't be.
   pub joined_none : (text : List ℕ) (texts all : List (List ℕ)) (old middle new : List ℕ) (e : TextError) → all ≡ text ∷ texts
       → AppendsOctets (Is text) old middle (Err e) → AppendsOctetsIf ⊤ (AreJoined Is all) old new (Err e)
   joined_none text texts all old middle new e whole (inl memory) = inl (memory.0, tt)

@@ -39,6 +39,7 @@ module _ (P : ℕ → List ℕ → Type 0) (p0 : P 0 (codes "mandatory")) (p1 : 
   at : (n k : ℕ) (name t : List ℕ) → P k name → (n ≡ k) × (name ≡ t) → P n t
   at n k name t p is = subst (λ (m : ℕ). P m t) (sym is.0) (subst (P k) is.1 p)
 
+  -- What is true of each named key and its name is true of any key and text where the text is the key's name.
   pub by_name : (n : ℕ) (t : List ℕ) → IsNamedKey t n → P n t
   by_name n t e0 =
       or_else (step n 0 (codes "mandatory") t _ e0) (at n 0 (codes "mandatory") t p0) (λ e1.

@@ -251,6 +251,7 @@ module _ (name : List ℕ) where
   at_end text old new (Err e) empty (inr bad) =
       inr (bad.0, λ octets is. bad.1 octets (name_end octets (subst (λ (t : List ℕ). NamesFrom name t octets) empty is)))
 
+  -- At a comma, if the name before it is appended and then the names after it, the names of the whole text are appended.
   pub at_comma : (text rest old middle new : List ℕ) (u : Unit {0}) (r : Result Unit TextError) → text ≡ 44 ∷ rest → AppendsOctets (IsCountedName name) old middle (Ok u)
       → AppendsOctetsIf ⊤ (NamesFrom [] rest) middle new r → AppendsOctetsIf ⊤ (NamesFrom name text) old new r
   at_comma text rest old middle new u (Ok v) whole (octets, is, e) (after, names, f) = (
@@ -267,6 +268,7 @@ module _ (name : List ℕ) where
             bad.1 split.0 split.3,
       )
 
+  -- At a comma, if the name before it can't be appended, the names of the text can't be.
   pub at_bad_comma : (text rest old middle new : List ℕ) (e : TextError) → text ≡ 44 ∷ rest → AppendsOctets (IsCountedName name) old middle (Err e)
       → AppendsOctetsIf ⊤ (NamesFrom name text) old new (Err e)
   at_bad_comma text rest old middle new e whole (inl memory) = inl (memory.0, tt)
@@ -278,6 +280,7 @@ module _ (name : List ℕ) where
             bad.1 (length name ∷ name) (split.1, refl),
       )
 
+  -- If a text begins with an octet, what appends the names after it, with this octet added to the name, appends those of the text.
   pub at_octet : (text after longer old new : List ℕ) (o : ℕ) (r : Result Unit TextError) → octet_at text ≡ split o after → longer ≡ name ++ o ∷ []
       → AppendsOctetsIf ⊤ (NamesFrom longer after) old new r
       → AppendsOctetsIf ⊤ (NamesFrom name text) old new r
@@ -290,6 +293,7 @@ module _ (name : List ℕ) where
   at_octet text after longer old new o (Err e) begins same (inr bad) =
       inr (bad.0, λ octets is. bad.1 octets (subst (λ (n : List ℕ). NamesFrom n after octets) (sym same) (name_octet text after octets o begins is)))
 
+  -- If a text isn't empty and begins with neither a comma nor an octet, it lists no names.
   pub no_octet : (text : List ℕ) → 1 ≤ length text → get_or text 0 0 ≢ 44 → octet_at text ≡ None → (value : List ℕ) → ¬ (NamesFrom name text value)
   no_octet text some other none value names = none_by text names.more names.others some other none names.listed
 

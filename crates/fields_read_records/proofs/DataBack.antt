@@ -16,6 +16,7 @@ use Rattle.fields_read_words.specs.LineWords.{AreWordsOf, texts}
 use Rattle.fields_read_words.specs.ListLaws.{opaque_words}
 use Rattle.fields_read_words.proofs.LineLemmas.{one_list}
 use Rattle.fields_octets.proofs.theory.PartOctets.{plain_octets}
+use Rattle.fields_octets.proofs.theory.UncompressedOctets.{are_parts, uncompressed_back}
 use Rattle.fields_read_records.specs.DataWords.{AreDataWords}
 use Rattle.fields_read_records.specs.FieldWords.{Words}
 use Rattle.fields_read_records.specs.Laws.{DataReadsBack, HasOctets}
@@ -23,7 +24,6 @@ use Rattle.fields_read_records.proofs.FieldsBack.{fields_back, fields_unmarked}
 use Rattle.fields_read_records.proofs.FirstFields.{AreLayoutParts, data_ends}
 use Rattle.fields_read_records.proofs.PrintedLaws.{PrintedLaws}
 use Rattle.fields_read_records.proofs.OpaqueBack.{opaque_back}
-use Rattle.fields_read_records.proofs.RdataBack.{are_parts, rdata_back}
 
 short_octets : (parts : List Part) → length (octets_of_parts parts) ≤ parts_size parts
 short_octets parts = subst (λ (xs : List ℕ). length xs ≤ parts_size parts) (plain_octets parts nothing 0) (parts_are_short Plain parts nothing 0)
@@ -59,5 +59,5 @@ module _ (laws : PrintedLaws) where
       record {
         octets = octets_of_parts (parts_of fields);
         are = data_words all fields words bytes (subst (AreWordsOfData (data_fields fields)) same line.1);
-        rdata = rdata_back fields bytes;
+        rdata = uncompressed_back fields;
       }

@@ -34,6 +34,7 @@ module _ (P : Part → Type 0) where
   of_name own (CompressibleName name) laid = own name
   of_name own (UncompressedName lowers name) laid = absurd laid
 
+  -- what is true of each uncompressed name is true of a part with the layout of an uncompressed name
   pub of_uncompressed : (pointers lowered : Bool) → ((lowers : Bool) (name : Labels) → P (UncompressedName lowers name)) → (part : Part)
       → IsLaidOut (UncompressedDomainName pointers lowered End) (part ∷ [])
       → P part

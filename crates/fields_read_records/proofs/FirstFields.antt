@@ -81,6 +81,7 @@ module _ (d : Definition) where
       let same : not (takes_left d.1) ≡ false = ap not e in
       cc (other, same)
 
+  -- If only the last field takes all words that are left, this is so of the fields after the first too.
   pub others_end : (ds : List Definition) → left_is_last (kinds_in (d ∷ ds)) ≡ true → left_is_last (kinds_in ds) ≡ true
   others_end [] last = refl
   others_end (next ∷ ds) last = (and_parts (not (takes_left d.1)) (left_is_last (kinds_in (next ∷ ds))) last).1
@@ -176,6 +177,7 @@ module _ (d : Definition) (ds : List Definition) (last : left_is_last (kinds_in 
       let none = none_after d ds last (all_left d.1 e) in
       no_texts after (subst (λ (others : List Definition). AreWordsOfFields (named_parts others left) (texts after)) none printed)
 
+  -- The parts and words of a type's fields begin with the part and the words of the first field, and the other fields have the rest.
   pub first_field : (parts : List Part) (words : Words) → AreLayoutParts (layout_of (kinds_in (d ∷ ds))) parts → AreWordsOfFields (named_parts (d ∷ ds) parts) (texts words)
       → FirstField d ds parts words
   unfolding layout_of

@@ -104,6 +104,7 @@ module _ (ipv4 : Ipv4ReadsBack) (ipv6 : Ipv6ReadsBack) (own : Words) (text : Lis
   same_words words is = one_list text (texts own) words are is
 
   module _ (split : GatewaysSplit) (read : GatewaysReadBack) where
+    -- if octets are printed as a gateway with its key, the words of the text are read as these octets
     pub gateway_read : (octets : List ℕ) → IsBytes octets → gateway_text octets ≡ Some text → IsGateway own octets
     gateway_read [] bytes e = absurd (cc e)
     gateway_read (t ∷ []) bytes e = absurd (cc e)
@@ -124,6 +125,7 @@ module _ (ipv4 : Ipv4ReadsBack) (ipv6 : Ipv6ReadsBack) (own : Words) (text : Lis
     last_is first word after true e = same_Some (relay_words (first / 128) (first % 128) word) text e
     last_is first word after false e = absurd (cc e)
 
+    -- if octets are printed as a relay, the words of the text are read as these octets
     pub relay_read : (octets : List ℕ) → IsBytes octets → relay_text octets ≡ Some text → IsRelay own octets
     relay_read [] bytes e = absurd (cc e)
     relay_read (first ∷ octets) bytes e =
@@ -174,6 +176,7 @@ identity_is algorithm (t ∷ tag) (k ∷ key) servers text names e are =
       spaced_then s a b c k = simp append_assoc
 
 module _ (split : IdentitiesSplit) (read : IdentitiesReadBack) (own : Words) (text : List ℕ) (are : AreWordsOf text (texts own)) where
+  -- if octets are printed as a host identity, the words of the text are read as these octets
   pub identity_read : (octets : List ℕ) → IsBytes octets → identity_text octets ≡ Some text → IsHostIdentity own octets
   identity_read [] bytes e = absurd (cc e)
   identity_read (a ∷ []) bytes e = absurd (cc e)

@@ -18,7 +18,6 @@ mod ParametersBack
 mod PrintedLaws
 mod PrintedTexts
 mod PrintedValues
-mod RdataBack
 mod RdataLemmas
 mod ReadAgain
 mod ReadOctets

@@ -101,37 +101,44 @@ module _ (laws : PrintedLaws) where
   type_map_back (CompressibleName name) own field words = absurd (cc (field.0.1))
   type_map_back (UncompressedPart lowered name) own field words = absurd (cc (field.0.1))
 
+  -- the printed words of a field that is a bit map of types below 128 are read as its octets
   pub small_map_back : (part : Part) (own : Words) → IsFieldPart kinds.SmallTypeBitMap part → HasWords kinds.SmallTypeBitMap part own → AreFieldWords kinds.SmallTypeBitMap own (part_octets part)
   small_map_back (OctetsPart octets) own field words = small_map_is octets words.0 own field.2 words.2 words.1
   small_map_back (CompressibleName name) own field words = absurd (cc (field.0.1))
   small_map_back (UncompressedPart lowered name) own field words = absurd (cc (field.0.1))
 
+  -- the printed words of a field of service parameters are read as its octets
   pub parameters_back : (part : Part) (own : Words) → IsFieldPart kinds.ServiceParameters part → HasWords kinds.ServiceParameters part own
       → AreFieldWords kinds.ServiceParameters own (part_octets part)
   parameters_back (OctetsPart octets) own field words = parameters_are octets words.0 own field.2 words.2 (rest_octets are_parameters octets field.0) words.1
   parameters_back (CompressibleName name) own field words = absurd (cc (field.0.1))
   parameters_back (UncompressedPart lowered name) own field words = absurd (cc (field.0.1))
 
+  -- the printed words of a field of address prefixes are read as its octets
   pub prefixes_back : (part : Part) (own : Words) → IsFieldPart kinds.AddressPrefixes part → HasWords kinds.AddressPrefixes part own → AreFieldWords kinds.AddressPrefixes own (part_octets part)
   prefixes_back (OctetsPart octets) own field words = prefixes_is octets words.0 own field.2 words.2 (rest_octets are_prefixes octets field.0) words.1
   prefixes_back (CompressibleName name) own field words = absurd (cc (field.0.1))
   prefixes_back (UncompressedPart lowered name) own field words = absurd (cc (field.0.1))
 
+  -- the printed words of a location field are read as its octets
   pub location_back : (part : Part) (own : Words) → IsFieldPart kinds.Location part → HasWords kinds.Location part own → AreFieldWords kinds.Location own (part_octets part)
   location_back (OctetsPart octets) own field words = location_read laws.lists.locations laws.reading.locations octets words.0 own field.2 words.2 words.1
   location_back (CompressibleName name) own field words = absurd field.0
   location_back (UncompressedPart lowered name) own field words = absurd field.0
 
+  -- the printed words of a field that is a gateway with its key are read as its octets
   pub gateway_back : (part : Part) (own : Words) → IsFieldPart kinds.GatewayAndKey part → HasWords kinds.GatewayAndKey part own → AreFieldWords kinds.GatewayAndKey own (part_octets part)
   gateway_back (OctetsPart octets) own field words = gateway_read laws.reading.ipv4 laws.reading.ipv6 own words.0 words.2 laws.lists.gateways laws.reading.gateways octets field.2 words.1
   gateway_back (CompressibleName name) own field words = absurd (cc (field.0.1))
   gateway_back (UncompressedPart lowered name) own field words = absurd (cc (field.0.1))
 
+  -- the printed words of a relay field are read as its octets
   pub relay_back : (part : Part) (own : Words) → IsFieldPart kinds.Relay part → HasWords kinds.Relay part own → AreFieldWords kinds.Relay own (part_octets part)
   relay_back (OctetsPart octets) own field words = relay_read laws.reading.ipv4 laws.reading.ipv6 own words.0 words.2 laws.lists.relays laws.reading.relays octets field.2 words.1
   relay_back (CompressibleName name) own field words = absurd (cc (field.0.1))
   relay_back (UncompressedPart lowered name) own field words = absurd (cc (field.0.1))
 
+  -- the printed words of a host identity field are read as its octets
   pub identity_back : (part : Part) (own : Words) → IsFieldPart kinds.HostIdentity part → HasWords kinds.HostIdentity part own → AreFieldWords kinds.HostIdentity own (part_octets part)
   identity_back (OctetsPart octets) own field words = identity_read laws.lists.identities laws.reading.identities own words.0 words.2 octets field.2 words.1
   identity_back (CompressibleName name) own field words = absurd (cc (field.0.1))
@@ -141,23 +148,30 @@ module _ (laws : PrintedLaws) where
   pub type_map_unmarked : (part : Part) (own : Words) → IsFieldPart kinds.TypeBitMap part → HasWords kinds.TypeBitMap part own → ¬ (IsMarked own)
   type_map_unmarked part own field words = types_unmarked own (type_map_back part own field words).types
 
+  -- the first printed word of a bit map of types below 128 isn't `\#`
   pub small_map_unmarked : (part : Part) (own : Words) → IsFieldPart kinds.SmallTypeBitMap part → HasWords kinds.SmallTypeBitMap part own → ¬ (IsMarked own)
   small_map_unmarked part own field words = types_unmarked own (small_map_back part own field words).types
 
+  -- the first printed word of service parameters isn't `\#`
   pub parameters_unmarked : (part : Part) (own : Words) → IsFieldPart kinds.ServiceParameters part → HasWords kinds.ServiceParameters part own → ¬ (IsMarked own)
   parameters_unmarked part own field words = let is = parameters_back part own field words in parameter_words_unmarked own is.items is.represented
 
+  -- the first printed word of address prefixes isn't `\#`
   pub prefixes_unmarked : (part : Part) (own : Words) → IsFieldPart kinds.AddressPrefixes part → HasWords kinds.AddressPrefixes part own → ¬ (IsMarked own)
   prefixes_unmarked part own field words = prefix_words_unmarked own (part_octets part) (prefixes_back part own field words)
 
+  -- the first printed word of a location isn't `\#`
   pub location_unmarked : (part : Part) (own : Words) → IsFieldPart kinds.Location part → HasWords kinds.Location part own → ¬ (IsMarked own)
   location_unmarked part own field words = location_words_unmarked own (part_octets part) (location_back part own field words)
 
+  -- the first printed word of a gateway with its key isn't `\#`
   pub gateway_unmarked : (part : Part) (own : Words) → IsFieldPart kinds.GatewayAndKey part → HasWords kinds.GatewayAndKey part own → ¬ (IsMarked own)
   gateway_unmarked part own field words = gateway_words_unmarked own (part_octets part) (gateway_back part own field words)
 
+  -- the first printed word of a relay isn't `\#`
   pub relay_unmarked : (part : Part) (own : Words) → IsFieldPart kinds.Relay part → HasWords kinds.Relay part own → ¬ (IsMarked own)
   relay_unmarked part own field words = relay_words_unmarked own (part_octets part) (relay_back part own field words)
 
+  -- the first printed word of a host identity isn't `\#`
   pub identity_unmarked : (part : Part) (own : Words) → IsFieldPart kinds.HostIdentity part → HasWords kinds.HostIdentity part own → ¬ (IsMarked own)
   identity_unmarked part own field words = identity_words_unmarked own (part_octets part) (identity_back part own field words)

@@ -82,6 +82,7 @@ module _ (laws : PrintedLaws) where
         unmarked = number_differs (decimal n) n (numeral.0, numeral.1);
       })
 
+  -- The text that is printed of a time is one word, is read as the same octets, and isn't `\#`.
   pub time_printed : (octets text : List ℕ) → length octets ≡ 4 → IsBytes octets → text_if (nat_lt (number_after 0 octets) (2 ^ 32))
       (time_text (number_after 0 octets)) ≡ Some text → Printed IsTime octets text
   time_printed octets text sized bytes e =
@@ -93,6 +94,7 @@ module _ (laws : PrintedLaws) where
         unmarked = time_unmarked n;
       })
 
+  -- The text that is printed of a record type is one word, is read as the same octets, and isn't `\#`.
   pub type_printed : (octets text : List ℕ) → length octets ≡ 2 → IsBytes octets → Some (type_word (number_after 0 octets)) ≡ Some text → Printed IsType octets text
   type_printed octets text sized bytes e =
       let n = number_after 0 octets in
@@ -111,6 +113,7 @@ module _ (laws : PrintedLaws) where
       as_text IsDotted octets (ipv4_text octets) text (text_is (length octets == 4) (ipv4_text octets) text e).1
       (record { is_word = ipv4_word octets bytes; reads = reads; unmarked = dotted_unmarked (ipv4_text octets) octets reads })
 
+  -- The text that is printed of an IPv6 address is one word, is read as the same octets, and isn't `\#`.
   pub ipv6_printed : (octets text : List ℕ) → length octets ≡ 16 → IsBytes octets → ipv6_of octets ≡ Some text → Printed IsIpv6Word octets text
   ipv6_printed octets text sized bytes e =
       let word = ipv6_text (segments_of octets) in
@@ -118,6 +121,7 @@ module _ (laws : PrintedLaws) where
       as_text IsIpv6Word octets word text (text_is (length octets == 16) word text e).1
       (record { is_word = ipv6_word octets bytes sized; reads = reads; unmarked = colon_hex_unmarked word reads.0 reads.1 })
 
+  -- The text that is printed of an EUI-48 or EUI-64 address is one word, is read as the same octets, and isn't `\#`.
   pub eui_printed : (size : ℕ) (octets text : List ℕ) → 2 ≤ size → length octets ≡ size → IsBytes octets → Some (eui_text octets) ≡ Some text → Printed (IsEuiWord size) octets text
   eui_printed size octets text some sized bytes e =
       as_text (IsEuiWord size) octets (eui_text octets) text e (record {
@@ -126,6 +130,7 @@ module _ (laws : PrintedLaws) where
         unmarked = eui_unmarked octets (omega arith);
       })
 
+  -- The text that is printed of a 64-bit locator is one word, is read as the same octets, and isn't `\#`.
   pub locator_printed : (octets text : List ℕ) → length octets ≡ 8 → IsBytes octets → text_if (length octets == 8) (locator_text octets) ≡ Some text → Printed IsLocatorWord octets text
   locator_printed octets text sized bytes e =
       as_text IsLocatorWord octets (locator_text octets) text (text_is (length octets == 8) (locator_text octets) text e).1
@@ -151,22 +156,26 @@ module _ (laws : PrintedLaws) where
     whole : size ∷ octets ≡ counted octets
     whole i = sym sized i ∷ octets
 
+    -- The text that is printed of a character string is one word, is read as the same octets, and isn't `\#`.
     pub string_printed : Some (quoted octets) ≡ Some text → Printed IsString (size ∷ octets) text
     string_printed e =
         as_text IsString (size ∷ octets) (quoted octets) text e
         (record { is_word = string_words octets; reads = (octets, strings_back octets bytes, few, whole); unmarked = quoted_unmarked octets })
 
+    -- The text that is printed of a tag is one word, is read as the same octets, and isn't `\#`.
     pub tag_printed : text_if (is_tag octets) octets ≡ Some text → Printed IsTagWord (size ∷ octets) text
     tag_printed e =
         let tag = text_is (is_tag octets) octets text e in
         as_text IsTagWord (size ∷ octets) octets text tag.1
         (record { is_word = tag_words octets tag.0; reads = (tag.0, few, whole); unmarked = tag_unmarked octets tag.0 })
 
+    -- The text that is printed of a salt is one word, is read as the same octets, and isn't `\#`.
     pub salt_printed : Some (salt_text octets) ≡ Some text → Printed IsSalt (size ∷ octets) text
     salt_printed e =
         as_text IsSalt (size ∷ octets) (salt_text octets) text e
         (record { is_word = salt_words octets bytes; reads = (octets, salts_back octets bytes few, whole); unmarked = salt_unmarked octets bytes })
 
+    -- The text that is printed of a hash is one word, is read as the same octets, and isn't `\#`.
     pub hash_printed : text_of_any base32_text octets ≡ Some text → Printed IsHash (size ∷ octets) text
     hash_printed e =
         let some = any_is base32_text octets text e in

@@ -23,6 +23,7 @@ module _ (b : List ℕ) (bytes : IsBytes b) where
   range_octets : (p q : ℕ) (octets : List ℕ) → slice_range b p q ≡ octets → IsBytes octets
   range_octets p q octets e = subst IsBytes e (bytes_take (q - p) (drop p b) (bytes_drop p b bytes))
 
+  -- if a name is encoded in octets below 256, its uncompressed encoding consists of octets below 256
   pub name_octets : {p : ℕ} {name : Labels} → NameAt b p name → IsBytes (uncompressed name)
   name_octets (root h) = framed_octets [] (omega arith) no_octets
   name_octets (label {p = p} {n = n} {name = name} h inside at short) =

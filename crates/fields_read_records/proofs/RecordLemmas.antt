@@ -66,6 +66,7 @@ module _ (owner : Labels) (ttl class rtype : ℕ) (words : Words) where
   Head name seconds class_word type_word =
       IsNameText name owner × (IsNumber 10 seconds ttl × (ttl < 2 ^ 32)) × SpellsClass class_word class × IsTypeWord type_word rtype
 
+  -- if there are at least four words, they begin with a record's head exactly if the first four represent owner, TTL, class and type
   pub head_is : (x y z w : Bor (List ℕ)) → 4 ≤ length words
       → AreHeadWords words owner ttl class rtype ↔ Head (get_or words 0 x).now (get_or words 1 y).now (get_or words 2 z).now (get_or words 3 w).now
   head_is x y z w many = by_words words many where
@@ -80,9 +81,11 @@ module _ (owner : Labels) (ttl class rtype : ℕ) (words : Words) where
   pub owner_is : (x : Bor (List ℕ)) → 4 ≤ length words → AreHeadWords words owner ttl class rtype → IsNameText (get_or words 0 x).now owner
   owner_is x many are = ((head_is x x x x many).0 are).0
 
+  -- if words begin with a record's head, the third of them represents its class
   pub class_is : (x : Bor (List ℕ)) → 4 ≤ length words → AreHeadWords words owner ttl class rtype → SpellsClass (get_or words 2 x).now class
   class_is x many are = ((head_is x x x x many).0 are).2
 
+  -- if words begin with a record's head, the fourth of them represents its type
   pub type_is : (x : Bor (List ℕ)) → 4 ≤ length words → AreHeadWords words owner ttl class rtype → IsTypeWord (get_or words 3 x).now rtype
   type_is x many are = ((head_is x x x x many).0 are).3
 

@@ -124,11 +124,13 @@ module _ (laws : PrintedLaws) where
   own_word : (own : Words) (text : List ℕ) → AreWordsOf text (texts own) → IsWord text → texts own ≡ text ∷ []
   own_word own text are word = one_list text (texts own) (text ∷ []) are (word_alone text word)
 
+  -- the printed words of a field of one word are one word, which is read as the field's octets
   pub word_back : (kind : Kind) (part : Part) (own : Words) → extent_of kind ≡ One → IsFieldPart kind part → HasWords kind part own → IsOne (IsFieldWord kind) own (part_octets part)
   word_back kind part own one is has =
       let printed = word_printed kind part has.0 one is has.1 in
       one_own (IsFieldWord kind) own has.0 (part_octets part) (own_word own has.0 has.2 printed.is_word) printed.reads
 
+  -- the first printed word of a field of one word isn't `\#`, whatever words follow
   pub word_unmarked : (kind : Kind) (part : Part) (own : Words) → extent_of kind ≡ One → IsFieldPart kind part → HasWords kind part own → (after : Words) → ¬ (IsMarked (own ++ after))
   word_unmarked kind part own one is has after =
       let printed = word_printed kind part has.0 one is has.1 in
@@ -172,11 +174,13 @@ module _ (laws : PrintedLaws) where
       ))
       part is.0 is.2 has
 
+  -- the printed words of octets with their 16-bit count are read as the field's octets
   pub sized_back : (part : Part) (own : Words) → IsFieldPart kinds.SizedOctets part → HasWords kinds.SizedOctets part own → IsSizedWords own (part_octets part)
   sized_back part own is has =
       let own_part = sized_part part own is has in
       (own_part.0, are_sized own_part.0 own own_part.1 own_part.2 own_part.4, own_part.3)
 
+  -- the first printed word of octets with their 16-bit count isn't `\#`, whatever words follow
   pub sized_unmarked : (part : Part) (own : Words) → IsFieldPart kinds.SizedOctets part → HasWords kinds.SizedOctets part own → (after : Words) → ¬ (IsMarked (own ++ after))
   sized_unmarked part own is has =
       let own_part = sized_part part own is has in
@@ -201,10 +205,12 @@ module _ (laws : PrintedLaws) where
       ))
       part is.0 is.2 has
 
+  -- the printed words of a field of character strings are read as its octets
   pub strings_back : (part : Part) (own : Words) → IsFieldPart kinds.Strings part → HasWords kinds.Strings part own → AreFieldWords kinds.Strings own (part_octets part)
   strings_back part own is has =
       let own_part = strings_part part own is has in string_list_back laws.reading.strings (part_octets part) own own_part.0 is.2 own_part.1
 
+  -- the first printed word of a field of character strings isn't `\#`, whatever words follow
   pub strings_unmarked : (part : Part) (own : Words) → IsFieldPart kinds.Strings part → HasWords kinds.Strings part own → (after : Words) → ¬ (IsMarked (own ++ after))
   strings_unmarked part own is has =
       let own_part = strings_part part own is has in
@@ -234,27 +240,33 @@ module _ (laws : PrintedLaws) where
       of_rest (AnyPart kinds.Base64 (encode_of standard) own) (accepts kinds.Base64)
       (λ octets accepted bytes has. any_part (encode_of standard) octets has.0 own bytes has.1 has.2 (laws.words.base64 octets bytes)) part is.0 is.2 has
 
+  -- a field that is printed in hexadecimal has at least one octet
   pub hexadecimal_some : (part : Part) (own : Words) → IsFieldPart kinds.Hexadecimal part → HasWords kinds.Hexadecimal part own → part_octets part ≢ []
   hexadecimal_some part own is has = some_octets (part_octets part) (hexadecimal_part part own is has).0
 
+  -- a field that is printed in base64 has at least one octet
   pub base64_some : (part : Part) (own : Words) → IsFieldPart kinds.Base64 part → HasWords kinds.Base64 part own → part_octets part ≢ []
   base64_some part own is has = some_octets (part_octets part) (base64_part part own is has).0
 
+  -- the printed words of a field in hexadecimal are read as its octets
   pub hexadecimal_back : (part : Part) (own : Words) → IsFieldPart kinds.Hexadecimal part → HasWords kinds.Hexadecimal part own → AreFieldWords kinds.Hexadecimal own (part_octets part)
   hexadecimal_back part own is has =
       let printed = (hexadecimal_part part own is has).1 in
       (joined_one IsHex own (hex_text (part_octets part)) (part_octets part) printed (laws.reading.hexadecimal (part_octets part) is.2), hexadecimal_some part own is has)
 
+  -- the printed words of a field in base64 are read as its octets
   pub base64_back : (part : Part) (own : Words) → IsFieldPart kinds.Base64 part → HasWords kinds.Base64 part own → AreFieldWords kinds.Base64 own (part_octets part)
   base64_back part own is has =
       let printed = (base64_part part own is has).1 in
       (joined_one IsBase64 own (encode_of standard (part_octets part)) (part_octets part) printed (laws.reading.base64 (part_octets part) is.2), base64_some part own is has)
 
+  -- the first printed word of a field in hexadecimal isn't `\#`, whatever words follow
   pub hexadecimal_unmarked : (part : Part) (own : Words) → IsFieldPart kinds.Hexadecimal part → HasWords kinds.Hexadecimal part own → (after : Words) → ¬ (IsMarked (own ++ after))
   hexadecimal_unmarked part own is has =
       let printed = hexadecimal_part part own is has in
       first_unmarked own (hex_text (part_octets part)) [] printed.1 (hex_unmarked (part_octets part) is.2 printed.0)
 
+  -- the first printed word of a field in base64 isn't `\#`, whatever words follow
   pub base64_unmarked : (part : Part) (own : Words) → IsFieldPart kinds.Base64 part → HasWords kinds.Base64 part own → (after : Words) → ¬ (IsMarked (own ++ after))
   base64_unmarked part own is has =
       let printed = base64_part part own is has in

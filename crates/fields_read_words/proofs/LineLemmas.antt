@@ -270,23 +270,27 @@ module _ (left : Left) (after : Bor (List ℕ)) (c : ℕ) (whole : left.text.now
         fits = omega (arith, size, near);
       }
 
+  -- a blank character is skipped, and as many parentheses are open after it as before
   pub skip_character : is_blank c ≡ true → SkipsBlank left (record { text = after; depth = left.depth; ended = left.ended })
   skip_character is =
       skips_to left.depth left.ended (omega arith)
       (λ words. let same = blank_same left.depth c after.now words is in (λ h. (same.0 h.0, h.1), λ h. (same.1 h.0, h.1)))
 
+  -- a newline is skipped, and the line ends there if no parenthesis is open
   pub skip_newline : c ≡ newline → SkipsBlank left (record { text = after; depth = left.depth; ended = left.ended || (left.depth == 0) })
   skip_newline is =
       skips_to left.depth (left.ended || (left.depth == 0)) (omega arith)
       (λ words. subst (λ (x : ℕ). AreLeft left.depth (x ∷ after.now) left.ended words ↔ AreLeft left.depth after.now (left.ended || (left.depth == 0)) words) (sym is)
       (newline_same left.depth left.ended after.now words))
 
+  -- a left parenthesis is skipped, and one parenthesis more is open after it
   pub skip_left : c ≡ left_parenthesis → SkipsBlank left (record { text = after; depth = left.depth + 1; ended = left.ended })
   skip_left is =
       skips_to (left.depth + 1) left.ended (omega arith)
       (λ words. subst (λ (x : ℕ). AreLeft left.depth (x ∷ after.now) left.ended words ↔ AreLeft (left.depth + 1) after.now left.ended words) (sym is)
       (λ h. (follows left.depth left_parenthesis after.now words h.0, h.1), λ h. (opened h.0, h.1)))
 
+  -- if a parenthesis is open, a right parenthesis is skipped, and one parenthesis fewer is open after it
   pub skip_right : c ≡ right_parenthesis → 0 < left.depth → SkipsBlank left (record { text = after; depth = left.depth - 1; ended = left.ended })
   skip_right is some =
       skips_to (left.depth - 1) left.ended (omega arith)

@@ -65,10 +65,12 @@ spaced_are (first ∷ words) all =
 
 -- the texts of items, each after a space
 module _ {A : Type 0} (text : A → List ℕ) where
+  -- a word may precede the texts of items, each after a space
   pub items_end : (items : List A) → EndsWord (flat_map (λ item. codes " " ++ text item) items)
   items_end [] = tt
   items_end (item ∷ items) = refl
 
+  -- if the text of each item is a word, a text of these, each after a space, has them as its words
   pub items_are : (items : List A) → All (λ item. IsWord (text item)) items → AreSpaced (flat_map (λ item. codes " " ++ text item) items) (map text items)
   items_are [] all = nothing
   items_are (item ∷ items) all =

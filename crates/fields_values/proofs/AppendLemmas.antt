@@ -63,6 +63,7 @@ part_appended kind form value part old more new (Err e) is same ok err = subst (
 module _ (kind : Kind) (form : Form) (value : NewValue) (taken : takes form value ≡ true)
     (out : (part : Part) → IsPartIn kind form value part → (octets : List ℕ) × (part ≡ OctetsPart octets) × IsEncodedAs kind form value octets)
     (into : (octets : List ℕ) → IsEncodedAs kind form value octets → IsPartIn kind form value (OctetsPart octets)) where
+  -- If a field's part is octets, what appends the octets of its value, or says why there are none, does so for the part.
   pub octets_appended : (old new : List ℕ) (result : Result Unit Refusal) → Appends (IsEncodedAs kind form value) old new result → AppendsPart kind form value old new result
   octets_appended old new (Ok u) a = (OctetsPart a.0, into a.0 a.1, a.2)
   octets_appended old new (Err e) (inl memory) = subst (RefusesValue kind form value) (sym memory.0) (taken_by kind form value (OctetsPart memory.1.0) (into memory.1.0 memory.1.1))

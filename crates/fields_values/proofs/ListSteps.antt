@@ -82,18 +82,21 @@ parameters_split least parameters k d within =
 -- the item at an index is appended, or it isn't
 module _ (strings : List (Bor (List ℕ))) (k : ℕ) (d : Bor (List ℕ)) (old now new : List ℕ) (within : k < length strings)
     (between : IsBetween (AreStringsIn strings) (AreStringsIn (drop k strings)) old now) where
+  -- If the strings before an index are appended and then the one at it, those before the next index are.
   pub strings_more : (u : Unit {0}) → Appends (IsStringIn (get_or strings k d).now) now new (Ok u) → IsBetween (AreStringsIn strings) (AreStringsIn (drop (k + 1) strings)) old new
   strings_more u a = between_more (AreStringsIn strings) (AreStringsIn (drop k strings)) (IsStringIn (get_or strings k d).now)
       (AreStringsIn (drop (k + 1) strings)) old now new between (strings_split strings k d within) u a
 
 module _ (prefixes : List AddressPrefix) (k : ℕ) (d : AddressPrefix) (old now new : List ℕ) (within : k < length prefixes)
     (between : IsBetween (ArePrefixesIn prefixes) (ArePrefixesIn (drop k prefixes)) old now) where
+  -- If the address prefixes before an index are appended and then the one at it, those before the next index are.
   pub prefixes_more : (u : Unit {0}) → Appends (IsPrefixIn (get_or prefixes k d)) now new (Ok u) → IsBetween (ArePrefixesIn prefixes) (ArePrefixesIn (drop (k + 1) prefixes)) old new
   prefixes_more u a = between_more (ArePrefixesIn prefixes) (ArePrefixesIn (drop k prefixes)) (IsPrefixIn (get_or prefixes k d))
       (ArePrefixesIn (drop (k + 1) prefixes)) old now new between (prefixes_split prefixes k d within) u a
 
 module _ (least : ℕ) (parameters : List (ℕ × Bor (List ℕ))) (k : ℕ) (d : ℕ × Bor (List ℕ)) (old now new : List ℕ) (within : k < length parameters)
     (between : IsBetween (AreParametersIn 0 parameters) (AreParametersIn least (drop k parameters)) old now) where
+  -- If the service parameters before an index are appended and then the one at it, those before the next are; a greater key has to follow.
   pub parameters_more : (u : Unit {0}) → Appends (IsParameterIn least (get_or parameters k d)) now new (Ok u)
       → IsBetween (AreParametersIn 0 parameters) (AreParametersIn ((get_or parameters k d).0 + 1) (drop (k + 1) parameters)) old new
   parameters_more u a =
@@ -122,36 +125,43 @@ parameters_end least parameters k old now u past between =
 
 -- each item has octets, or one hasn't
 module _ (strings : List (Bor (List ℕ))) (k : ℕ) (d : Bor (List ℕ)) (same : AreSame (AreStringsIn strings) (AreStringsIn (drop k strings))) where
+  -- If the string at an index has at most 255 octets, like those before it, all can be encoded exactly if those after it can be.
   pub string_fits : k < length strings → length (get_or strings k d).now ≤ 255 → AreSame (AreStringsIn strings) (AreStringsIn (drop (k + 1) strings))
   string_fits within few =
       same_more (AreStringsIn strings) (AreStringsIn (drop k strings)) (IsStringIn (get_or strings k d).now) (AreStringsIn (drop (k + 1) strings)) (strings_split strings k d within) same
       (counted (get_or strings k d).now) (few, refl)
 
+  -- If a string has more than 255 octets, the refusal of the strings is `OutOfRange`.
   pub string_long : k < length strings → 255 < length (get_or strings k d).now → Refuses (AreStringsIn strings) OutOfRange
   string_long within many =
       same_wrong (AreStringsIn strings) (AreStringsIn (drop k strings)) (IsStringIn (get_or strings k d).now) (AreStringsIn (drop (k + 1) strings)) (strings_split strings k d within) same
       (λ octets is. let few = is.0 in omega arith)
 
+  -- If no string is left to check, all can be encoded, and a refusal of them is `OutOfMemory`.
   pub strings_fit : length strings ≤ k → Refuses (AreStringsIn strings) OutOfMemory
   strings_fit past =
       same_end (AreStringsIn strings) (AreStringsIn (drop k strings)) same (subst (λ (ss : List (Bor (List ℕ))). AreStringsIn ss []) (sym (drop_all k strings past)) refl)
 
 module _ (prefixes : List AddressPrefix) (k : ℕ) (d : AddressPrefix) (same : AreSame (ArePrefixesIn prefixes) (ArePrefixesIn (drop k prefixes))) where
+  -- If the address prefix at an index can be encoded, like those before it, all can be exactly if those after it can be.
   pub prefix_fits : k < length prefixes → HasValue (IsPrefixIn (get_or prefixes k d)) → AreSame (ArePrefixesIn prefixes) (ArePrefixesIn (drop (k + 1) prefixes))
   prefix_fits within has =
       same_more (ArePrefixesIn prefixes) (ArePrefixesIn (drop k prefixes)) (IsPrefixIn (get_or prefixes k d)) (ArePrefixesIn (drop (k + 1) prefixes))
       (prefixes_split prefixes k d within) same has.0 has.1
 
+  -- If an address prefix can't be encoded, the refusal of the prefixes is `OutOfRange`.
   pub prefix_wrong : k < length prefixes → ¬ (HasValue (IsPrefixIn (get_or prefixes k d))) → Refuses (ArePrefixesIn prefixes) OutOfRange
   prefix_wrong within none =
       same_wrong (ArePrefixesIn prefixes) (ArePrefixesIn (drop k prefixes)) (IsPrefixIn (get_or prefixes k d)) (ArePrefixesIn (drop (k + 1) prefixes)) (prefixes_split prefixes k d within) same
       (λ octets is. none (octets, is))
 
+  -- If no address prefix is left to check, all can be encoded, and a refusal of them is `OutOfMemory`.
   pub prefixes_fit : length prefixes ≤ k → Refuses (ArePrefixesIn prefixes) OutOfMemory
   prefixes_fit past =
       same_end (ArePrefixesIn prefixes) (ArePrefixesIn (drop k prefixes)) same (subst (λ (ps : List AddressPrefix). ArePrefixesIn ps []) (sym (drop_all k prefixes past)) refl)
 
 module _ (least : ℕ) (parameters : List (ℕ × Bor (List ℕ))) (k : ℕ) (d : ℕ × Bor (List ℕ)) (same : AreSame (AreParametersIn 0 parameters) (AreParametersIn least (drop k parameters))) where
+  -- If the service parameter at an index can be encoded, like those before it, all can be exactly if those after it can be, with greater keys.
   pub parameter_fits : k < length parameters → HasValue (IsParameterIn least (get_or parameters k d))
       → AreSame (AreParametersIn 0 parameters) (AreParametersIn ((get_or parameters k d).0 + 1) (drop (k + 1) parameters))
   parameter_fits within has =
@@ -159,12 +169,14 @@ module _ (least : ℕ) (parameters : List (ℕ × Bor (List ℕ))) (k : ℕ) (d 
       (AreParametersIn ((get_or parameters k d).0 + 1) (drop (k + 1) parameters))
       (parameters_split least parameters k d within) same has.0 has.1
 
+  -- If a service parameter can't be encoded, or its key is too small, the refusal of the parameters is `OutOfRange`.
   pub parameter_wrong : k < length parameters → ¬ (HasValue (IsParameterIn least (get_or parameters k d))) → Refuses (AreParametersIn 0 parameters) OutOfRange
   parameter_wrong within none =
       same_wrong (AreParametersIn 0 parameters) (AreParametersIn least (drop k parameters)) (IsParameterIn least (get_or parameters k d))
       (AreParametersIn ((get_or parameters k d).0 + 1) (drop (k + 1) parameters))
       (parameters_split least parameters k d within) same (λ octets is. none (octets, is))
 
+  -- If no service parameter is left to check, all can be encoded, and a refusal of them is `OutOfMemory`.
   pub parameters_fit : length parameters ≤ k → Refuses (AreParametersIn 0 parameters) OutOfMemory
   parameters_fit past =
       same_end (AreParametersIn 0 parameters) (AreParametersIn least (drop k parameters)) same

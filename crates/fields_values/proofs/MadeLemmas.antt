@@ -78,18 +78,22 @@ module _ (back : MadePartsReadBack) (all : list_all (λ type. rest_is_last (kind
       subst (λ (xs : List ℕ). AreThere rtype xs × (parts_in rtype xs ≡ h.0)) (sym h.2)
       (back rtype h.0 (values_laid (kinds_of rtype) values h.0 (last_of_type rtype all) h.1) (values_are (kinds_of rtype) values h.0 h.1))
 
+  -- The octets of the values of a type begin with the fields of this type.
   pub there : AreThere rtype octets
   there = made.0
 
+  -- If the octets of the values are at most 65,535, the parts that are read from them fit RDATA.
   pub short : length octets ≤ most → parts_size (parts_in rtype octets) ≤ most
   short few =
       let size : length octets ≡ parts_size h.0 = ap (λ (xs : List ℕ). length xs) h.2 ∙ parts_length h.0 in
       let same : parts_size (parts_in rtype octets) ≡ parts_size h.0 = ap parts_size made.1 in
       omega (arith, few, size, same)
 
+  -- The parts that are read from the octets of the values are parts of these values.
   pub have_values : (parts : List Part) → parts ≡ parts_in rtype octets → AreValuesOf (kinds_of rtype) values parts
   have_values parts e = subst (λ (ps : List Part). AreValuesOf (kinds_of rtype) values ps) (sym (e ∙ made.1)) h.1
 
+  -- If the octets of the values have more than 65,535 octets, these values have parts that are larger than RDATA can be.
   pub too_long : most < length octets → (parts : List Part) × AreValuesOf (kinds_of rtype) values parts × (most < parts_size parts)
   too_long many =
       let size : length octets ≡ parts_size h.0 = ap (λ (xs : List ℕ). length xs) h.2 ∙ parts_length h.0 in

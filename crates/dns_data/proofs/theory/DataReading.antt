@@ -66,6 +66,7 @@ module _ (b : List ℕ) where
   data_within (UncompressedDomainName pointers lowercased layout) p q (CompressibleName x ∷ parts) l h = absurd h
   data_within (UncompressedDomainName pointers lowercased layout) p q (UncompressedName a x ∷ parts) l h = data_within layout h.0 q parts (ends_in_octets h.2) h.3
 
+  -- at each offset the fields of a layout are there, or they have a fault
   pub rdata_or_fault : (layout : Layout) (p : ℕ) → ((q : ℕ) × (parts : List Part) × DataAt b layout p q parts) ⊎ ((f : Fault) × DataFaultAt b layout p f)
   rdata_or_fault End p = inl (p, [], (refl, refl))
   rdata_or_fault (Rest accepts) p = elim (cases_Bool (accepts (drop p b))) [
@@ -126,6 +127,7 @@ module _ (b : List ℕ) where
     | inr f ↦ inr (f.0, inl f.1)
   ]
 
+  -- at each offset the fields of a layout have at most one end and one list of parts
   pub one_rdata : (layout : Layout) (p q r : ℕ) (xs ys : List Part) → DataAt b layout p q xs → DataAt b layout p r ys → (q ≡ r) × (xs ≡ ys)
   one_rdata End p q r xs ys h k = (h.0 ∙ sym k.0, h.1 ∙ sym k.1)
   one_rdata (Rest accepts) p q r xs ys h k = (h.0 ∙ sym k.0, h.1 ∙ sym k.1)
@@ -184,6 +186,7 @@ module _ (b : List ℕ) where
       let alike : a ≡ c = h.4 ∙ sym k.4 in
       (after.0, cc (same, alike, after.1))
 
+  -- at no offset the fields of a layout are there and have a fault too
   pub not_both : (layout : Layout) (p q : ℕ) (parts : List Part) (f : Fault) → p ≤ length b → DataAt b layout p q parts → DataFaultAt b layout p f → ⊥
   not_both End p q parts f l h k = k
   not_both (Rest accepts) p q parts f l h k = k.1 h.2

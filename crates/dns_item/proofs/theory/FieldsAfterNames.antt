@@ -17,6 +17,7 @@ module _ (b : List ℕ) (size : ℕ → ℕ) where
   pub one_name_end : {p q r : ℕ} (h : SkipsFields b size p q) (k : SkipsFields b size p r) → h.name_end ≡ k.name_end
   one_name_end h k = one_end b _ _ _ h.name_ends k.name_ends
 
+  -- the fields after a name have at most one end
   pub one_fields_end : {p q r : ℕ} → SkipsFields b size p q → SkipsFields b size p r → q ≡ r
   one_fields_end h k = h.end ∙ ap (λ n. n + size n) (one_name_end h k) ∙ sym k.end
 
@@ -41,6 +42,7 @@ module _ (b : List ℕ) (size : ℕ → ℕ) where
     one_skip_fault p f g (unended_fields w l) (name_skip_fault k) = absurd (end_not_both b p _ g w k)
     one_skip_fault p f g (unended_fields w l) (unended_fields v m) = refl
 
+    -- at each offset a name and the fields after it have exactly one end, or skipping them has exactly one fault
     pub ends_or_faults : EndsOrFaults (SkipsFields b size) (FieldsSkipFaultAt b Lacks)
     ends_or_faults = record {
       some = λ p. elim (end_or_skip_fault b p) [
@@ -68,6 +70,7 @@ module _ (b : List ℕ) (size : ℕ → ℕ) where
         only_read p q x f h (name_fault g) = not_both b p (labels x) f (skips p q x h).1 g
         only_read p q x f h (short_fields {r = r} s w l) = lacking p q r (skips p q x h).0 w l
 
+        -- at each offset exactly one entry is read, or there is exactly one fault
         pub reads_or_faults : ReadsOrFaults Reads (FieldsFaultAt b Lacks)
         reads_or_faults = record {
           some = λ p. elim (name_or_fault b p) [

@@ -48,6 +48,7 @@ module _ {D : Type 0} (rtype_of : D → ℕ) (parts_of : D → List Part) (x : E
       → typed_result rtype_of parts_of r ≡ laid_out x layout
   laid_out-returned layout r h = laid_out-given layout r (h.gives span.end)
 
+  -- the same for a type that may not be accepted: the result is what its layout says, or `None` without a layout
   pub parsed_as-returned : (taken : Option Layout) (r : Result (Option (Record ParsedName D)) ParseError) → ReturnsTaken rtype_of parts_of x.octets x.entry taken r
       → option_map (typed_result rtype_of parts_of) (result_transpose r) ≡ option_map (laid_out x) taken
   parsed_as-returned taken r h = given taken r (h.gives span.end)

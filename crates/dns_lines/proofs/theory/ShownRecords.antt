@@ -33,9 +33,11 @@ pub printed_item : (word text : List ℕ) → Some word ++? (Some (codes " ") ++
 printed_item word text = ap Some (simp append_assoc)
 
 module _ (x : EncodedRecord) (read : IsRead x) where
+  -- the RDATA of a record that can be read ends within the octets
   pub there : x.entry.rdata_end ≤ length x.octets
   there = let w = read.2.skips.within in let e = read.2.rdata_end in omega arith
 
+  -- the RDATA of a record that can be read doesn't end before its start
   pub rises : x.entry.rdata_start ≤ x.entry.rdata_end
   rises = let e = read.2.rdata_end in let s = read.2.rdata_start in let w = read.2.skips.end in omega arith
 
@@ -43,6 +45,7 @@ module _ (x : EncodedRecord) (read : IsRead x) where
   pub seen_length : length (up_to_rdata_end x.octets x.entry) ≡ x.entry.rdata_end
   seen_length = length-take-le x.entry.rdata_end x.octets there
 
+  -- the RDATA of a record that can be read is a range within the octets
   pub span : HasSpan x
   span = record { start = rises; end = there }
 
@@ -60,6 +63,7 @@ module _ (x : EncodedRecord) (read : IsRead x) where
   no_fault short f (left_over q parts encoded l) = let e = encoded.0 in omega arith
 
 module _ {D : Type 0} (rtype_of : D → ℕ) (parts_of : D → List Part) (x : EncodedRecord) (read : IsRead x) where
+  -- reading RDATA of at most 65,535 octets as opaque never fails
   pub opaque_is_ok : HasShortData x → (r : Result (Record ParsedName D) ParseError) → ReturnsLaidOut rtype_of parts_of x.octets x.entry opaque_layout r → IsOk r
   opaque_is_ok short (Ok r) h = refl
   opaque_is_ok short (Err e) h = absurd (no_fault x read short (fault_of e) (h.gives (there x read)))

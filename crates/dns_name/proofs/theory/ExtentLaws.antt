@@ -82,6 +82,7 @@ module _ (b : List ℕ) where
   answer zero p s h = absurd (omega arith)
   answer (suc k) p s h = go p s (λ p' s' more small. answer k p' s' (omega arith)) (head_at b p) refl
 
+  -- At each offset the encoding of a name has an end, or skipping it fails with a fault.
   pub end_or_skip_fault : (p : ℕ) → EndOrFault p 0
   end_or_skip_fault p = answer 256 p 0 (omega arith)
 

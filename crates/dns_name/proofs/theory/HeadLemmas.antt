@@ -124,11 +124,13 @@ module _ (b : List ℕ) where
     pub is_encoded : NameAt b (p + 1 + n) others
     pub short : n + 1 + name_size others ≤ max_size
 
+  -- A name that begins with the root label has no other labels.
   pub at_root : {p : ℕ} {name : Labels} → NameAt b p name → head_at b p ≡ Ok Root → name ≡ []
   at_root (root h) e = refl
   at_root (label h w x z) e = cc
   at_root (pointer h w x) e = cc
 
+  -- A name that begins with a label is this label and then the name encoded after it.
   pub at_label : {p n : ℕ} {name : Labels} → NameAt b p name → head_at b p ≡ Ok (Label n) → BeginsWith p n name
   at_label (root h) e = cc
   at_label {p = p} (label {n = k} {name = m} h w x z) e =
@@ -136,6 +138,7 @@ module _ (b : List ℕ) where
       subst P (cc) (record { others = m; whole = refl; fits = w; is_encoded = x; short = z })
   at_label (pointer h w x) e = cc
 
+  -- If a name begins with a pointer, the pointer leads to an earlier offset, and the name is encoded there too.
   pub at_pointer : {p t : ℕ} {name : Labels} → NameAt b p name → head_at b p ≡ Ok (Pointer t) → (t < p) × NameAt b t name
   at_pointer (root h) e = cc
   at_pointer (label h w x z) e = cc
@@ -147,18 +150,21 @@ module _ (b : List ℕ) where
     pub name : EncodedName b at
     pub same : (name : Labels) → NameAt b from name → NameAt b at name
 
+  -- If the name is encoded at a pointer too, it is also encoded where the pointer leads.
   pub follows_pointer : {from at t : ℕ} → Follows from at → head_at b at ≡ Ok (Pointer t) → Follows from t
   follows_pointer f h = record {
     name = (f.name.0, (at_pointer f.name.1 h).1);
     same = λ name s. (at_pointer (f.same name s) h).1;
   }
 
+  -- If the name begins with a root label, a label without octets is the first of the name.
   pub first_root : {from at : ℕ} (l : LabelOf) → Follows from at → head_at b at ≡ Ok Root → label_octets l ≡ []
       → (name : Labels) → NameAt b from name → IsFirst b name l at
   first_root {at = at} l f h e name s =
       let P : Labels → Type 0 = λ name. IsFirst b name l at in
       subst P (sym (at_root (f.same name s) h)) (e, root h)
 
+  -- If the name begins with a label, a label with its octets is the first of the name, and the others are encoded after it.
   pub first_label : {from at n after : ℕ} (l : LabelOf) → Follows from at → head_at b at ≡ Ok (Label n) → label_octets l ≡ label_at b at n → after ≡ at + 1 + n
       → (name : Labels) → NameAt b from name → IsFirst b name l after
   first_label {at = at} {n = n} {after = after} l f h e eb name s =
@@ -173,9 +179,11 @@ module _ (b : List ℕ) where
   begins_there (label h w x z) = rw h refl
   begins_there (pointer h w x) = rw h refl
 
+  -- The same for a name with its encoding as one value: a root label, a label or a pointer begins there.
   pub name_begins : {at : ℕ} → EncodedName b at → IsOk (head_at b at)
   name_begins name = begins_there name.1
 
+  -- A label that begins where a name is encoded has fewer than 64 octets.
   pub length_label_at : {at n : ℕ} (name : EncodedName b at) → head_at b at ≡ Ok (Label n) → length (label_at b at n) < 64
   length_label_at {at = at} {n = n} name h =
       let w = at_label name.1 h in
@@ -192,6 +200,7 @@ module _ (b : List ℕ) where
   length_first {at = at} {n = zero} name h = rw (label_at-none at) (omega arith)
   length_first {n = suc n} name h = length_label_at name (h (omega arith))
 
+  -- Whether the name begins with a root label or another label, a label with its octets is the first of the name.
   pub first_octet : {from at n after : ℕ} (l : LabelOf) → Follows from at → (n ≡ 0 → head_at b at ≡ Ok Root) → (0 < n → head_at b at ≡ Ok (Label n))
       → label_octets l ≡ label_at b at n → (n ≡ 0 → after ≡ at) → (0 < n → after ≡ at + 1 + n) → (name : Labels) → NameAt b from name → IsFirst b name l after
   first_octet {at = at} {n = zero} l f none some e here on name s =

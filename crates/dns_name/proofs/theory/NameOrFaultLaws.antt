@@ -111,5 +111,6 @@ module _ (b : List ℕ) where
   answer zero p s small h = absurd (omega arith)
   answer (suc k) p s small h = go p s small (λ p' s' small' less. answer k p' s' small' (omega arith)) (head_at b p) refl
 
+  -- At each offset a name of at most 255 octets is encoded, or reading fails with a fault.
   pub one_answer : (p : ℕ) → ((name : Labels) × NameAt b p name × (0 + name_size name ≤ max_size)) ⊎ ((f : Fault) × Faulty b p 0 f)
   one_answer p = answer (left p 0 + 1) p 0 (omega arith) (omega arith)

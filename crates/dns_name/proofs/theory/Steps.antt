@@ -21,6 +21,7 @@ module _ (b : List ℕ) where
   all_labels p size n =
       (n.0, (length (with_root n.0.0), (omega arith, ap name_size (take_all (with_root n.0.0)) ∙ name_size-with_root n.0.0 ∙ ap (λ k. k + 1) n.1)))
 
+  -- If the remaining labels take all octets of the encoded name, they are all its labels, with the root label.
   pub all_left : (p size : ℕ) (m : LabelsAt b p (size + 1)) (n : NameOfSize b p size) (name : Labels) → NameAt b p name → take m.1.0 (with_root m.0.0) ≡ with_root name
   unfolding all_labels
   all_left p size m n name s =
@@ -71,12 +72,15 @@ module _ (b : List ℕ) where
     next : After next_offset left (take n.1.0 (with_root n.0.0)) l
     next = after next_offset left n.1.0 n.0.0 l some (f n.0.0 n.0.1) n.1.1
 
+    -- The first label takes no more octets than all remaining labels.
     pub step_fits : taken ≤ left
     step_fits = let w = next.fits in omega (arith, w)
 
+    -- After the step, labels that take the octets that are left are encoded at the next offset.
     pub step_has : LabelsAt b next_offset (left - taken)
     step_has = subst (λ k. LabelsAt b next_offset (left - k)) (sym t) next.rest
 
+    -- The remaining labels are the first label and then those that remain after the step.
     pub step_gives : (m : LabelsAt b next_offset (left - taken)) → take n.1.0 (with_root n.0.0) ≡ label_octets l ∷ take m.1.0 (with_root m.0.0)
     step_gives = subst (λ k. (m : LabelsAt b next_offset (left - k)) → take n.1.0 (with_root n.0.0) ≡ label_octets l ∷ take m.1.0 (with_root m.0.0)) (sym t)
         (λ m. next.gives ∙ ap (λ (m : LabelsAt b next_offset (left - (length (label_octets l) + 1))). label_octets l ∷ take m.1.0 (with_root m.0.0)) (LabelsAt-prop b next_offset _ next.rest m))
@@ -92,6 +96,7 @@ module _ (b : List ℕ) where
     pub encoded : NameAt b pos (drop number name)
     pub size : name_size (take number (with_root name)) ≡ skipped
 
+  -- At first a step from the back has skipped no label, if any label remains.
   pub skipped_none : (p left : ℕ) (n : LabelsAt b p left) → left ≢ 0 → Skipped n.0.0 n.1.0 p 0
   skipped_none p left n some = record { number = 0; before = first n.1.0 n.1.1; encoded = n.0.1; size = refl }
     where
@@ -132,15 +137,18 @@ module _ (b : List ℕ) where
         let differ : suc s.number ≢ n.1.0 = λ e. other (sym sizes.1 ∙ ap (λ k. name_size (take k (with_root name))) e ∙ n.1.1.1) in
         omega (arith, s.before)
 
+    -- If this label isn't the last that remains, it is skipped too.
     pub step_on : skipped + taken ≢ left → Skipped name n.1.0 next_offset (skipped + taken)
     step_on other =
         let m = more other in
         let e = length-with_root name in let c = n.1.1.0 in
         record { number = suc s.number; before = m; encoded = after_number next_offset s.number l name (omega arith) (f (drop s.number name) s.encoded); size = sizes.1 }
 
+    -- If this label is the last that remains, the labels that were skipped are those that remain after the step.
     pub back_has : skipped + taken ≡ left → LabelsAt b p skipped
     back_has all = let e = length-with_root name in let w = within in (n.0, (s.number, (omega arith, s.size)))
 
+    -- If this label is the last that remains, the remaining labels are those that remain after the step and then this one.
     pub back_gives : skipped + taken ≡ left → (m : LabelsAt b p skipped) → take n.1.0 (with_root name) ≡ take m.1.0 (with_root m.0.0) ++ label_octets l ∷ []
     unfolding back_has
     back_gives all m =

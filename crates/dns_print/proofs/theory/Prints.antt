@@ -35,21 +35,21 @@ module _ {W : Type 0} (takes : W → List ℕ → W → Type 0) where
   same_text : (w v : W) (a b : List ℕ) → a ≡ b → WritesInCalls takes w a v → WritesInCalls takes w b v
   same_text w v a b e = subst (λ (t : List ℕ). WritesInCalls takes w t v) e
 
+  -- If two texts are printed in turn, the text that is both together is printed.
   pub print_two : (w v u : W) (a b all : List ℕ) → WritesInCalls takes w a v → WritesInCalls takes v b u → a ++ b ≡ all → WritesInCalls takes w all u
   print_two w v u a b all p q is = same_text w u _ all is (print_append w v u a b p q)
 
+  -- If three texts are printed in turn, the text that is all three together is printed.
   pub print_three : (w v u t : W) (a b c all : List ℕ) → WritesInCalls takes w a v → WritesInCalls takes v b u → WritesInCalls takes u c t → a ++ (b ++ c) ≡ all → WritesInCalls takes w all t
   print_three w v u t a b c all p q r is = print_two w v t a (b ++ c) all p (print_append v u t b c q r) is
 
+  -- If four texts are printed in turn, the text that is all four together is printed.
   pub print_four : (w v u t s : W) (a b c d all : List ℕ) → WritesInCalls takes w a v → WritesInCalls takes v b u → WritesInCalls takes u c t → WritesInCalls takes t d s
       → a ++ (b ++ (c ++ d)) ≡ all → WritesInCalls takes w all s
   print_four w v u t s a b c d all p q r o is = print_three w v u s a b (c ++ d) all p q (print_append u t s c d r o) is
 
 -- Texts that a formatter took under some options.
 module _ {W : Type 0} (gives : W → List ℕ → W → Type 0) where
-  joined_calls : (w : W) (xs : List (List ℕ)) (v u : W) (b : List ℕ) → FoldsTo gives w xs v → WritesInCalls gives v b u → WritesInCalls gives w (concat xs ++ b) u
-  joined_calls w xs v u b p q = print_append gives w v u (concat xs) b (record { parts = xs; calls = p; whole = refl }) q
-
   styled_calls : (f : Formatter W) (texts : List (List ℕ)) (g : Formatter W) → FoldsTo (FormatterTakes gives) f texts g → IsFlush f → HasWrittenStyled gives f (concat texts) g
   styled_calls f [] g same flush = subst (λ (x : Formatter W). HasWrittenStyled gives f [] x) same (record { wrote = print_none gives f.writer; spec = refl; flush = flush })
   styled_calls f (text ∷ texts) g calls flush =
@@ -76,6 +76,7 @@ module _ {W : Type 0} (gives : W → List ℕ → W → Type 0) where
   displayed_plain f g r None printed = tt
   displayed_plain f g r (Some text) printed = λ plain ok. printed_plain f text g (printed ok) plain
 
+  -- If the text of a value is known and printing it succeeds, it is written whatever the options are.
   pub displayed_styled : (f g : Formatter W) (r : Result (Unit {0}) Error) (o : Option (List ℕ)) → IfSome o (λ text. PrintsOnOk (FormatterTakes gives) f r text g) → DisplaysStyledOnOk gives f r o g
   displayed_styled f g r None printed = tt
   displayed_styled f g r (Some text) printed = λ flush ok. printed_styled f text g (printed ok) flush

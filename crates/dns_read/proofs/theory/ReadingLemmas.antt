@@ -47,6 +47,7 @@ module _ {X : Type 0} {Reads : ℕ → ℕ → X → Type 0} {FaultOf : ℕ → 
   only_reading : (n p : ℕ) (xs : List (Result X Fault)) → Reading Reads FaultOf n p xs → from n p ≡ xs
   only_reading n p xs r = one.one n p _ xs (reading n p) r
 
+  -- if a function gives a reading for each count and offset, its lists are the only readings
   pub are_readings : AreReadings Reads FaultOf from
   are_readings =
       record {

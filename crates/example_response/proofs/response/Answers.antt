@@ -13,7 +13,7 @@ use Rattle.example_response.proofs.Opts.{IsReserved, IsStarted, left_over, not_r
 use Rattle.example_response.proofs.Sizes.{size_limited}
 use Rattle.example_response.proofs.Starting.{answered_within, for_memory, limit_kept, most_small, no_additional, not_started, rcode_kept, response_of, started_within}
 use Rattle.example_response.proofs.response.Goals.{in-Some+in_ok-reserve_opt-in-Some, in-None, else-loop-answer-test}
-use Rattle.example_response.proofs.response.Goals.{then-loop-answer-test+in-Err-LimitExceeded, in-Some-reserved+in_ok-push_reserved, in_default}
+use Rattle.example_response.proofs.response.Goals.{then-loop-answer-test+in-Err, in-Some-reserved+in_ok-push_reserved, in_default}
 use Rattle.example_response.proofs.response.Goals as goal
 
 pub returns-in_err-builder-2-clause-err : goal.returns-in_err-builder-2-clause-err
@@ -38,8 +38,8 @@ loop-answer-preserved g c = record {
   kept = c.loop-answer.invariant.kept;
 }
 
-pub returns-in-Err : goal.returns-in-Err
-returns-in-Err g c =
+pub returns-in-Err-2-clause-err : goal.returns-in-Err-2-clause-err
+returns-in-Err-2-clause-err g c =
     let b = message_octets c.args.query.now in
     let start = c.in_ok-builder-2.ensures _ (c.set_push_limit.ensures _ c.in_ok-builder.ensures.fresh) in
     let started : IsStarted b c.match-opt.reserved c.match-opt.builder =
@@ -53,7 +53,7 @@ returns-in-Err g c =
     let other : c.in-Err.error ≢ LimitExceeded = first_of (search rules, grind arith) in
     let memory = refused_for_memory g.R.ComposeRecord.item c.args.answers.now c.loop-answer.answer-index c.answer-item.result c.match-opt.builder c.loop-answer.builder c.loop-answer.invariant.pushes
     c.in-Err.error c.in-Err.ensures.outcome.each (asked_again b) started.represents (most_small (opt_of b)) other in
-    record { ok = tt; err = for_memory b c.in-Err.error memory }
+    for_memory b c.in-Err.error memory
 
 pub returns-in_err-push_reserved-clause-err : goal.returns-in_err-push_reserved-clause-err
 returns-in_err-push_reserved-clause-err g c =
@@ -73,11 +73,11 @@ returns-in_err-push_reserved-clause-err g c =
       | else-loop-answer-test w ↦
           rw w.builder-is (adds_all g.R.ComposeRecord.item c.args.answers.now c.match-opt.builder c.loop-answer.builder
           (let end : c.loop-answer.answer-index ≡ length c.args.answers.now = omega arith in rw (← end) c.loop-answer.invariant.pushes))
-      | then-loop-answer-test+in-Err-LimitExceeded w ↦
+      | then-loop-answer-test+in-Err w ↦
           rw w.builder-is (adds_none_if_full g.R.ComposeRecord.item c.args.answers.now c.loop-answer.answer-index w.answer-item.result _ w.loop-answer-test.true w.answer-item.is
-          c.match-opt.builder w.push_ref.new.self _ (rw w.in-Err-LimitExceeded.ensures.refused c.loop-answer.invariant.pushes)
-          w.in-Err-LimitExceeded.field-0 (first_of (search rules, grind arith))
-          (rw w.in-Err-LimitExceeded.ensures.refused w.in-Err-LimitExceeded.ensures.outcome.each) w.tc_rewind_into-builder.ensures)
+          c.match-opt.builder w.push_ref.new.self _ (rw w.in-Err.ensures.refused c.loop-answer.invariant.pushes)
+          w.in-Err.error (first_of (search rules, grind arith))
+          (rw w.in-Err.ensures.refused w.in-Err.ensures.outcome.each) w.tc_rewind_into-builder.ensures)
     ] in
     let before : State = move_to InAdditional (all_or_none xs (asked_again b)) in
     let ended = c.additional-builder.ensures _ (added (asked_again b) started.represents started.within) in
@@ -110,11 +110,11 @@ returns-clause-ok g c =
       | else-loop-answer-test w ↦
           rw w.builder-is (adds_all g.R.ComposeRecord.item c.args.answers.now c.match-opt.builder c.loop-answer.builder
           (let end : c.loop-answer.answer-index ≡ length c.args.answers.now = omega arith in rw (← end) c.loop-answer.invariant.pushes))
-      | then-loop-answer-test+in-Err-LimitExceeded w ↦
+      | then-loop-answer-test+in-Err w ↦
           rw w.builder-is (adds_none_if_full g.R.ComposeRecord.item c.args.answers.now c.loop-answer.answer-index w.answer-item.result _ w.loop-answer-test.true w.answer-item.is
-          c.match-opt.builder w.push_ref.new.self _ (rw w.in-Err-LimitExceeded.ensures.refused c.loop-answer.invariant.pushes)
-          w.in-Err-LimitExceeded.field-0 (first_of (search rules, grind arith))
-          (rw w.in-Err-LimitExceeded.ensures.refused w.in-Err-LimitExceeded.ensures.outcome.each) w.tc_rewind_into-builder.ensures)
+          c.match-opt.builder w.push_ref.new.self _ (rw w.in-Err.ensures.refused c.loop-answer.invariant.pushes)
+          w.in-Err.error (first_of (search rules, grind arith))
+          (rw w.in-Err.ensures.refused w.in-Err.ensures.outcome.each) w.tc_rewind_into-builder.ensures)
     ] in
     let before : State = move_to InAdditional (all_or_none xs (asked_again b)) in
     let ended = c.additional-builder.ensures _ (added (asked_again b) started.represents started.within) in

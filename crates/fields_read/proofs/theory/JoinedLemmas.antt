@@ -24,16 +24,3 @@ module _ (Represents : List ℕ → List ℕ → Type 0) where
   joined_there [] octets is = tt
   joined_there (word ∷ []) octets is = (octets, subst (λ (text : List ℕ). Represents text octets) (append-nil word.now) is)
   joined_there (word ∷ next ∷ words) octets is = tt
-
-  -- nothing is known of words that aren't one
-  pub joined_may : (words : List (Bor (List ℕ))) → ¬ (length words ≡ 1) → MayBeJoined Represents words
-  joined_may [] other = tt
-  joined_may (word ∷ []) other = absurd (other (omega arith))
-  joined_may (word ∷ next ∷ words) other = tt
-
-  -- what reading their text returns
-  pub text_joined : (words : List (Bor (List ℕ))) (text : List ℕ) (result : Result (Vec ℕ) TextError) → ¬ (length words ≡ 1) → text ≡ joined words → ReadsOctets (Represents text) result
-      → ReadsWordsIf (MayBeJoined Represents words) (λ octets. Represents (joined words) octets) result
-  text_joined words text (Ok octets) other same is = subst (λ (t : List ℕ). Represents t octets.items) same is
-  text_joined words text (Err e) other same (inl memory) = inl (memory, joined_may words other)
-  text_joined words text (Err e) other same (inr bad) = inr (bad.0, λ octets is. bad.1 octets (subst (λ (t : List ℕ). Represents t octets) (sym same) is))

@@ -114,10 +114,12 @@ module _ (places most : ℕ) (word : List ℕ) (few : places ≤ 3) where
     no_dot : (n : ℕ) → ¬ (HasDecimals places word n)
     no_dot n has = none_at (λ d. d ≡ 46) 46 has.whole has.decimals (subst (Without 46) has.text (without_from 46 word clear)) refl
 
+    -- A word without a dot is no decimal number if it is no numeral of at most the maximum.
     pub no_whole : ¬ (IsNumeral 10 word × (digits_value 10 word ≤ most)) → (n : ℕ) → ¬ (IsDecimal places most word n)
     no_whole none n (bound, inl (numeral, value)) = none (numeral, whole_bound (digits_value 10 word) n value bound)
     no_whole none n (bound, inr has) = no_dot n has
 
+    -- A word without a dot is read as the decimal number of its numeral if that is at most the maximum, else as none.
     pub whole_read : (whole : ℕ) (result : Option ℕ) → IsNumeral 10 word → whole ≡ digits_value 10 word
         → SomeIff result (whole * 10 ^ places + 0 ≤ most) (whole * 10 ^ places + 0) → Reads (IsDecimal places most word) result
     whole_read whole (Some n) numeral is sum =
@@ -142,6 +144,7 @@ module _ (places most : ℕ) (word : List ℕ) (few : places ≤ 3) where
         (sym has.text ∙ split.0) in
         (parts.0, parts.2)
 
+    -- A word with a dot is no decimal number if the text before the dot is no numeral of at most the maximum.
     pub no_front : ¬ (IsNumeral 10 front × (digits_value 10 front ≤ most)) → (n : ℕ) → ¬ (IsDecimal places most word n)
     no_front none n (bound, inl (numeral, value)) = no_numeral numeral
     no_front none n (bound, inr has) =
@@ -149,10 +152,12 @@ module _ (places most : ℕ) (word : List ℕ) (few : places ≤ 3) where
         none
         (subst (λ (digits : List ℕ). IsNumeral 10 digits × (digits_value 10 digits ≤ most)) same (has.is_whole, part_bound (digits_value 10 has.whole) has.part n has.value bound))
 
+    -- A word with a dot is no decimal number if the text after the dot isn't decimals.
     pub no_back : ((n : ℕ) → ¬ (AreDecimals places back n)) → (n : ℕ) → ¬ (IsDecimal places most word n)
     no_back none n (bound, inl (numeral, value)) = no_numeral numeral
     no_back none n (bound, inr has) = none has.part (subst (λ (digits : List ℕ). AreDecimals places digits has.part) (parts_are n has).1 has.is_part)
 
+    -- A word with a dot is read as its numeral with its decimals if this number is at most the maximum, else as none.
     pub parts_read : (whole part : ℕ) (result : Option ℕ) → IsNumeral 10 front → whole ≡ digits_value 10 front → AreDecimals places back part
         → SomeIff result (whole * 10 ^ places + part ≤ most) (whole * 10 ^ places + part) → Reads (IsDecimal places most word) result
     parts_read whole part (Some n) numeral is are sum =
@@ -265,6 +270,7 @@ no_letter (l ∷ letter) (w ∷ word) begins digit e =
     omega (arith, same, range.1, lower, high)
 
 module _ (positive negative : List ℕ) (letters : BeginsWithLetter positive × BeginsWithLetter negative) where
+  -- The word is one of the two letters of a direction, ignoring ASCII case.
   abbrev pub IsDirection : Bor (List ℕ) → Type 0
   IsDirection word = IsEither positive negative word.now
 
@@ -290,6 +296,7 @@ module _ (positive negative : List ℕ) (letters : BeginsWithLetter positive × 
   direction_is angle n word (inr is) = inr is.0
 
   module _ (most : ℕ) (words : List (Bor (List ℕ))) where
+    -- Words don't begin with an angle if none of them is a direction.
     pub no_direction : AllWithin (λ word. ¬ (IsDirection word)) words 0 (length words) → (n : ℕ) (after : List (Bor (List ℕ))) → ¬ (BeginsWithAngle most positive negative words n after)
     no_direction none n after begins =
         let all = none_within IsDirection words (length words) none (omega arith) in
@@ -303,6 +310,7 @@ module _ (positive negative : List ℕ) (letters : BeginsWithLetter positive × 
         ∙ ap (λ (back : List (Bor (List ℕ))). take index words ++ back) (drop-cons words index d fits ∙ ap (λ (k : ℕ). get_or words index d ∷ drop k words) next)
 
     module _ (index : ℕ) (d : Bor (List ℕ)) (found : FindsDirection positive negative words (Some index)) where
+      -- Words don't begin with an angle if those before the first direction aren't an angle.
       pub no_parts : ((n : ℕ) → ¬ (IsAngle most (take index words) n)) → (n : ℕ) (after : List (Bor (List ℕ))) → ¬ (BeginsWithAngle most positive negative words n after)
       no_parts none n after begins =
           let parts =
@@ -339,12 +347,14 @@ no_sign : (word metres : List ℕ) (n : ℕ) → word ≡ 45 ∷ metres → ¬ (
 no_sign word metres n whole is = (subst (Without 45) whole (length_without 45 (omega arith) (λ e. omega arith) (λ e. omega arith) word n is)).0 refl
 
 module _ (word metres : List ℕ) (whole : word ≡ 45 ∷ metres) where
+  -- A word that begins with a minus is no altitude if no length follows the minus.
   pub no_depth : ((n : ℕ) → ¬ (IsLength metres n)) → (n : ℕ) → ¬ (IsAltitude word n)
   no_depth none n (bound, (centimetres, inl is)) = no_sign word metres centimetres whole is.0
   no_depth none n (bound, (centimetres, inr is)) =
       let same : is.0 ≡ metres = let e = sym is.1 ∙ whole in cc in
       none centimetres (subst (λ (text : List ℕ). IsLength text centimetres) same is.2)
 
+  -- A minus and a length are read as the altitude this far below zero if that is at most 100,000 m, else as none.
   pub depth_read : (centimetres : ℕ) (result : Option ℕ) → IsLength metres centimetres → Reads (λ n. n + centimetres ≡ 10000000) result → Reads (IsAltitude word) result
   depth_read centimetres (Some n) is sum = (omega (arith, sum), (centimetres, inr (metres, whole, is, sum)))
   depth_read centimetres None is none = no_altitude where
@@ -357,10 +367,12 @@ module _ (word metres : List ℕ) (whole : word ≡ 45 ∷ metres) where
         none n (omega (arith, number, sum))
 
 module _ (word : List ℕ) (other : (metres : List ℕ) → word ≢ 45 ∷ metres) where
+  -- A word that doesn't begin with a minus is no altitude if it is no length.
   pub no_height : ((n : ℕ) → ¬ (IsLength word n)) → (n : ℕ) → ¬ (IsAltitude word n)
   no_height none n (bound, (centimetres, inl is)) = none centimetres is.0
   no_height none n (bound, (centimetres, inr is)) = other is.0 is.1
 
+  -- A length without a minus is read as this altitude if its number of centimetres fits 32 bits, else as none.
   pub height_read : (centimetres : ℕ) (result : Option ℕ) → IsLength word centimetres → Reads (λ n. (n < 2 ^ 32) × (n ≡ 10000000 + centimetres)) result → Reads (IsAltitude word) result
   height_read centimetres (Some n) is sum = (sum.0, (centimetres, inl (is, sum.1)))
   height_read centimetres None is none = no_altitude where
@@ -461,6 +473,7 @@ module _ (words after : List (Bor (List ℕ))) (latitude : ℕ) (first : BeginsW
       subst (λ (left : List (Bor (List ℕ))). BeginsWithAngle 648000000 (codes "E") (codes "W") left item.longitude (is.altitude ∷ is.sizes))
       (same_after (codes "N") (codes "S") (refl, refl) 324000000 words item.latitude latitude is.after_latitude after is.latitude first) is.longitude
 
+  -- Words represent no location if no longitude follows the latitude.
   pub no_longitude : ((n : ℕ) (left : List (Bor (List ℕ))) → ¬ (BeginsWithAngle 648000000 (codes "E") (codes "W") after n left)) → (octets : List ℕ) → ¬ (IsLocation words octets)
   no_longitude none octets is = none is.0.longitude (is.1.altitude ∷ is.1.sizes) (longitude_of is.0 is.1)
 
@@ -468,18 +481,22 @@ module _ (words after : List (Bor (List ℕ))) (latitude : ℕ) (first : BeginsW
     left_is : (item : LocationItem) (is : AreLocationWords words item) → is.altitude ∷ is.sizes ≡ left
     left_is item is = same_after (codes "E") (codes "W") (refl, refl) 648000000 after item.longitude longitude (is.altitude ∷ is.sizes) left (longitude_of item is) second
 
+    -- Words represent no location if no word follows the longitude.
     pub no_altitude_word : length left < 1 → (octets : List ℕ) → ¬ (IsLocation words octets)
     no_altitude_word none octets is = let size = ap length (left_is is.0 is.1) in omega (arith, none, size)
 
+    -- Words represent no location if the word after the longitude is no altitude.
     pub no_altitude : (d : Bor (List ℕ)) → ((n : ℕ) → ¬ (IsAltitude (get_or left 0 d).now n)) → (octets : List ℕ) → ¬ (IsLocation words octets)
     no_altitude d none octets is =
         none is.0.altitude (subst (λ (word : Bor (List ℕ)). IsAltitude word.now is.0.altitude) (ap (λ (words : List (Bor (List ℕ))). get_or words 0 d) (left_is is.0 is.1)) is.1.is_altitude)
 
+    -- Words represent no location if the words after the altitude aren't sizes.
     pub no_sizes : ((sizes : ℕ × ℕ × ℕ) → ¬ (AreSizes (drop 1 left) sizes.0 sizes.1 sizes.2)) → (octets : List ℕ) → ¬ (IsLocation words octets)
     no_sizes none octets is =
         none (is.0.size, is.0.horizontal, is.0.vertical)
         (subst (λ (sizes : List (Bor (List ℕ))). AreSizes sizes is.0.size is.0.horizontal is.0.vertical) (ap (λ (words : List (Bor (List ℕ))). drop 1 words) (left_is is.0 is.1)) is.1.are_sizes)
 
+    -- If words are a latitude, a longitude, an altitude and sizes, in this order, they represent the location with these.
     pub location_is : (d : Bor (List ℕ)) (altitude size horizontal vertical : ℕ) → 1 ≤ length left → IsAltitude (get_or left 0 d).now altitude → AreSizes (drop 1 left) size horizontal vertical
         → AreLocationWords words
         (record { size = size; horizontal = horizontal; vertical = vertical; latitude = latitude; longitude = longitude; altitude = altitude })

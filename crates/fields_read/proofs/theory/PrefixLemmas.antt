@@ -52,9 +52,11 @@ appends Is item old new (Ok u) is ok err = (item, is, ok)
 appends Is item old new (Err e) is ok err = inl (err, (item, is))
 
 module _ (negated : Bool) (address size : List ℕ) where
+  -- The prefix has this sign, the family of IPv4, and the address and size of these texts.
   abbrev pub IsIpv4Prefix : PrefixItem → Type 0
   IsIpv4Prefix item = (item.negated ≡ negated) × (item.family ≡ 1) × IsPrefixOf address size item
 
+  -- The prefix has this sign, the family of IPv6, and the address and size of these texts.
   abbrev pub IsIpv6Prefix : PrefixItem → Type 0
   IsIpv6Prefix item = (item.negated ≡ negated) × (item.family ≡ 2) × IsPrefixOf address size item
 
@@ -71,6 +73,7 @@ module _ (negated : Bool) (address size : List ℕ) where
     },
   )
 
+  -- A text that is no IPv4 address is the address of no IPv4 prefix.
   pub ipv4_no_address : ((octets : List ℕ) → ¬ (IsDotted address octets)) → (item : PrefixItem) → ¬ (IsIpv4Prefix item)
   ipv4_no_address none item is = by_address is.2.is_address where
     by_address : IsAddressWord address item → ⊥
@@ -90,6 +93,7 @@ module _ (negated : Bool) (address size : List ℕ) where
     },
   )
 
+  -- A text that is no IPv6 address is the address of no IPv6 prefix.
   pub ipv6_no_address : ((octets : List ℕ) → ¬ (IsIpv6Word address octets)) → (item : PrefixItem) → ¬ (IsIpv6Prefix item)
   ipv6_no_address none item is = by_address is.2.is_address where
     by_address : IsAddressWord address item → ⊥
@@ -218,6 +222,7 @@ module _ (word after : List ℕ) (negated : Bool) (split : SplitsSign word negat
                 bad.1 item (parts.0, omega (arith, digit), parts.2),
           )
 
+      -- If the family is written `2`, what appends the IPv6 prefix of an address and a size appends that of the word.
       pub ipv6_word : (old new : List ℕ) (result : Result Unit TextError) → family ≡ 50 ∷ [] → AppendsPrefix (IsIpv6Prefix negated address size) old new result
           → AppendsPrefix (IsPrefixWord word) old new result
       ipv6_word old new (Ok u) two (item, is, e) =

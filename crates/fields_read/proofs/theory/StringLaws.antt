@@ -74,6 +74,7 @@ module _ (text : List ℕ) where
       ap (λ i. slice_index within i == quote) last_is ∙ ap (λ o. o == quote) (get_or-append_seam text quote [] 0) in
       and_from _ _ (and_from _ _ two refl) last
 
+  -- without its quotes, a text in quotes is the text between them
   pub within_is : unquoted within ≡ text
   within_is =
       cond-true _ _ _ quoted_is

@@ -65,6 +65,7 @@ module _ {W : Type 0} (Is : W → List ℕ → Type 0) (Are : List W → List �
   appends_at words k d old middle new u result within a b =
       subst (λ (ws : List W). AppendsOctets (Are ws) old new result) (sym (drop_more words k d within)) (more (get_or words k d) (drop (k + 1) words) old middle new u result a b)
 
+  -- If the word at an index is appended and then those after it, those from the index on are, where less is known if an allocation fails.
   pub appends_at_if : (May : List W → Type 0) → ((word : W) (words : List W) → HasValue (Is word) → May words → May (word ∷ words))
       → (words : List W) (k : ℕ) (d : W) (old middle new : List ℕ) (u : Unit {0}) (result : Result Unit TextError) → k < length words
       → AppendsOctets (Is (get_or words k d)) old middle (Ok u) → AppendsOctetsIf (May (drop (k + 1) words)) (Are (drop (k + 1) words)) middle new result
@@ -89,6 +90,7 @@ module _ {W : Type 0} (Is : W → List ℕ → Type 0) (Are : List W → List �
             left.1 (subst (λ (ws : List W). HasValue (Are ws)) (sym split) (own.0 ++ after.0, order.both (get_or words k d) (drop (k + 1) words) own.0 after.0 own.1 after.1)),
       )
 
+  -- If the word at an index represents no octets, the words represent none.
   pub none_at : (words : List W) (k : ℕ) (d : W) → k < length words → ((octets : List ℕ) → ¬ (Is (get_or words k d) octets)) → SameValue (Are words) (Are (drop k words))
       → IsTrue false ↔ HasValue (Are words)
   none_at words k d within none left = (
@@ -99,6 +101,7 @@ module _ {W : Type 0} (Is : W → List ℕ → Type 0) (Are : List W → List �
         absurd (none own.0 own.1),
   )
 
+  -- If no word is left and each word represents octets, the words do.
   pub all_there : (words : List W) (k : ℕ) → length words ≤ k → SameValue (Are words) (Are (drop k words)) → IsTrue true ↔ HasValue (Are words)
   all_there words k past left =
       (λ t. left.1 (subst (λ (ws : List W). HasValue (Are ws)) (sym (drop_all k words past)) ([], order.none)), λ all. refl)

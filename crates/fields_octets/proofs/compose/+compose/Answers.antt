@@ -16,16 +16,16 @@ returns-in_default g t c = λ q ps h.
     (sym (no_parts c.args.fields.now c.in_default.len_below (seen c.args.parser) (offset c.args.parser) q ps h))
     (c.parts_compose.ensures.none _ _ T.rule _ c.as_slice.ensures.fits)
 
-pub returns-in_default-read_field : goal.returns-in_default-read_field
-returns-in_default-read_field g t c = λ q ps h.
+pub returns-in_default-parse_field : goal.returns-in_default-parse_field
+returns-in_default-parse_field g t c = λ q ps h.
     absurd (no_fault c.args.fields.now _ c.in-len1-up.len_at_least c.shape-shape.result c.shape-shape.ensures c.args.parser q ps h
-    (fault_of c.in_default-read_field.field-0) c.in_default-read_field.ensures)
+    (fault_of c.in_default-parse_field.field-0) c.in_default-parse_field.ensures)
 
 pub returns-in_err-append_field : goal.returns-in_err-append_field
 returns-in_err-append_field g t c = λ q ps h.
     let T = g.T.Composer in
     let p = err_from_is_err_and c.from_residual.result c.from_residual.ensures.1 in
-    let f = front c.args.fields.now _ c.in-len1-up.len_at_least c.shape-shape.result c.shape-shape.ensures c.args.parser q ps h c.read_field.new.parser
+    let f = front c.args.fields.now _ c.in-len1-up.len_at_least c.shape-shape.result c.shape-shape.ensures c.args.parser q ps h c.parse_field.new.parser
     (part_of c.in-Ok.encoded) c.in-Ok.ensures.0 c.in-Ok.ensures.1 in
     subst (λ (xs : List Part). Composes T.capacity T.grows (encode_parts T.rule (formed c.args.canonical xs)) (T.written c.args.target.now)
     (T.written c.append_field.new.target) {X = Unit {0}} c.from_residual.result) (sym f.is)
@@ -35,7 +35,7 @@ returns-in_err-append_field g t c = λ q ps h.
 pub returns-in-Rest : goal.returns-in-Rest
 returns-in-Rest g t c = λ q ps h.
     let T = g.T.Composer in
-    let f = front c.args.fields.now _ c.in-len1-up.len_at_least c.shape-shape.result c.shape-shape.ensures c.args.parser q ps h c.read_field.new.parser
+    let f = front c.args.fields.now _ c.in-len1-up.len_at_least c.shape-shape.result c.shape-shape.ensures c.args.parser q ps h c.parse_field.new.parser
     (part_of c.in-Ok.encoded) c.in-Ok.ensures.0 c.in-Ok.ensures.1 in
     let is : ps ≡ part_of c.in-Ok.encoded ∷ [] = f.is ∙ ap (λ (xs : List Part). part_of c.in-Ok.encoded ∷ xs) (f.last c.in-Rest.is) in
     subst (λ (xs : List Part). Composes T.capacity T.grows (encode_parts T.rule (formed c.args.canonical xs)) (T.written c.args.target.now)
@@ -45,7 +45,7 @@ returns-in-Rest g t c = λ q ps h.
 pub returns : goal.returns
 returns g t c = λ q ps h.
     let T = g.T.Composer in
-    let f = front c.args.fields.now _ c.in-len1-up.len_at_least c.shape-shape.result c.shape-shape.ensures c.args.parser q ps h c.read_field.new.parser
+    let f = front c.args.fields.now _ c.in-len1-up.len_at_least c.shape-shape.result c.shape-shape.ensures c.args.parser q ps h c.parse_field.new.parser
     (part_of c.in-Ok.encoded) c.in-Ok.ensures.0 c.in-Ok.ensures.1 in
     let there = f.others c.in_default-shape.not-Rest in
     subst (λ (xs : List Part). Composes T.capacity T.grows (encode_parts T.rule (formed c.args.canonical xs)) (T.written c.args.target.now)

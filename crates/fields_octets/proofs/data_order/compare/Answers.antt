@@ -5,7 +5,7 @@ use Rattle.std.specs.declared.cmp.Ordering.{Ordering}
 use Rattle.dns_wire.specs.Parts.{Part}
 use Rattle.fields_octets.specs.Data.{rtype_of, parts_of}
 use Rattle.fields_octets.specs.FieldOrders.{field_order, parts_left}
-use Rattle.fields_octets.proofs.NamedFields.{parts_of_fields}
+use Rattle.fields_octets.proofs.theory.NamedFields.{parts_of_fields}
 use Rattle.fields_octets.proofs.OrderedData.{undecided}
 use Rattle.fields_octets.proofs.data_order.compare.Goals as goal
 

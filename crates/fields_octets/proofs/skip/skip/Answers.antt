@@ -15,13 +15,13 @@ fields-init c = at_start c.args.fields.now c.args.parser
 pub fields-preserved : goal.fields-preserved
 fields-preserved c =
     at_next c.args.fields.now c.args.parser c.fields.left.now c.fields.ahead c.fields.size c.fields.invariant _ c.in-len1-up.len_at_least c.shape-shape.result c.shape-shape.ensures
-    c.read_field.new.parser (part_of c.in_ok-encoded.encoded) c.in_ok-encoded.ensures.0 c.in_ok-encoded.ensures.1
+    c.parse_field.new.parser (part_of c.in_ok-encoded.encoded) c.in_ok-encoded.ensures.0 c.in_ok-encoded.ensures.1
     c.saturating_add-size.result (c.saturating_add-size.ensures ∙ ap (λ n. min (c.fields.size + n) (2 ^ 64 - 1)) c.size.ensures) c.in_default-shape.not-Rest
 
 pub returns-in-Rest : goal.returns-in-Rest
 returns-in-Rest c =
     at_rest c.args.fields.now c.args.parser c.fields.left.now c.fields.ahead c.fields.size c.fields.invariant _ c.in-len1-up.len_at_least c.shape-shape.result c.shape-shape.ensures
-    c.read_field.new.parser (part_of c.in_ok-encoded.encoded) c.in_ok-encoded.ensures.0 c.in_ok-encoded.ensures.1
+    c.parse_field.new.parser (part_of c.in_ok-encoded.encoded) c.in_ok-encoded.ensures.0 c.in_ok-encoded.ensures.1
     c.saturating_add-size.result (c.saturating_add-size.ensures ∙ ap (λ n. min (c.fields.size + n) (2 ^ 64 - 1)) c.size.ensures) c.in-Rest.is
 
 pub returns-in_err-encoded : goal.returns-in_err-encoded

@@ -4,7 +4,7 @@ use Rattle.std.specs.List.{flat_map}
 use Rattle.dns_wire.specs.Parts.{Part}
 use Rattle.fields_octets.specs.Data.{parts_of}
 use Rattle.fields_octets.specs.DataOrders.{part_hash_input}
-use Rattle.fields_octets.proofs.NamedFields.{parts_of_fields}
+use Rattle.fields_octets.proofs.theory.NamedFields.{parts_of_fields}
 use Rattle.fields_octets.proofs.data_order.FieldDataHash.hash.Goals as goal
 
 pub returns : goal.returns

@@ -4,7 +4,7 @@ use Rattle.fields_octets.specs.Data.{parts_of}
 use Rattle.fields_octets.specs.DataOrders.{octets_of_parts}
 use Rattle.fields_octets.specs.UncompressedData.UncompressedDataFault.{first, left_over, compressed}
 use Rattle.fields_octets.proofs.ComparedOctets.{seen_data, seen_fault, whole_data}
-use Rattle.fields_octets.proofs.NamedFields.{parts_of_fields}
+use Rattle.fields_octets.proofs.theory.NamedFields.{parts_of_fields}
 use Rattle.fields_octets.proofs.field_data.FieldData.from_uncompressed.Goals as goal
 
 pub returns-in_err-fields-clause-err : goal.returns-in_err-fields-clause-err

@@ -15,20 +15,20 @@ invariant_of-item c =
     let it = c.args.self.now in
     record {
       sized = subst (λ (s : Shape). HasSize s (part_of c.in-Ok.encoded)) c.shape-shape.ensures
-          (has_size (seen it.parser) c.shape-shape.result _ (offset it.parser) (offset c.read_field.new.parser) (part_of c.in-Ok.encoded) c.in-Ok.ensures.0);
+          (has_size (seen it.parser) c.shape-shape.result _ (offset it.parser) (offset c.parse_field.new.parser) (part_of c.in-Ok.encoded) c.in-Ok.ensures.0);
     }
 
 pub new-requires : goal.new-requires
 new-requires c =
     let it = c.args.self.now in
-    (next_last it.left.now _ c.in-len1-up.len_at_least c.shape-shape.result c.shape-shape.ensures it.parser it.encoded c.read_field.new.parser
+    (next_last it.left.now _ c.in-len1-up.len_at_least c.shape-shape.result c.shape-shape.ensures it.parser it.encoded c.parse_field.new.parser
     (part_of c.in-Ok.encoded) c.in-Ok.ensures.0 c.in-Ok.ensures.1
     c.in-Rest.is).there
 
 pub new-requires-in_default-shape : goal.new-requires-in_default-shape
 new-requires-in_default-shape c =
     let it = c.args.self.now in
-    (next_others it.left.now _ c.in-len1-up.len_at_least c.shape-shape.result c.shape-shape.ensures it.parser it.encoded c.read_field.new.parser
+    (next_others it.left.now _ c.in-len1-up.len_at_least c.shape-shape.result c.shape-shape.ensures it.parser it.encoded c.parse_field.new.parser
     (part_of c.in-Ok.encoded) c.in-Ok.ensures.0 c.in-Ok.ensures.1
     c.in_default-shape.not-Rest).there
 
@@ -38,20 +38,20 @@ returns-clause-steps c =
     let part = part_of c.in-Ok.encoded in
     elim c.match-shape.branch [
       | in-Rest w ↦
-          last_named it.left.now _ c.in-len1-up.len_at_least c.shape-shape.result c.shape-shape.ensures it.parser it.encoded c.read_field.new.parser part
+          last_named it.left.now _ c.in-len1-up.len_at_least c.shape-shape.result c.shape-shape.ensures it.parser it.encoded c.parse_field.new.parser part
           c.in-Ok.ensures.0 c.in-Ok.ensures.1 w.in-Rest.is
           _ (ap fields_left w.self-is ∙ w.new.ensures)
       | in_default-shape w ↦
-          others_named it.left.now _ c.in-len1-up.len_at_least c.shape-shape.result c.shape-shape.ensures it.parser it.encoded c.read_field.new.parser part
+          others_named it.left.now _ c.in-len1-up.len_at_least c.shape-shape.result c.shape-shape.ensures it.parser it.encoded c.parse_field.new.parser part
           c.in-Ok.ensures.0 c.in-Ok.ensures.1 w.in_default-shape.not-Rest
           _ (ap fields_left w.self-is ∙ w.new-in_default-shape.ensures)
     ]
 
-pub returns-in_default-read_field-clause-steps : goal.returns-in_default-read_field-clause-steps
-returns-in_default-read_field-clause-steps c =
+pub returns-in_default-parse_field-clause-steps : goal.returns-in_default-parse_field-clause-steps
+returns-in_default-parse_field-clause-steps c =
     let it = c.args.self.now in
     absurd (never_faults it.left.now _ c.in-len1-up.len_at_least c.shape-shape.result c.shape-shape.ensures it.parser it.encoded
-    (fault_of c.in_default-read_field.field-0) c.in_default-read_field.ensures)
+    (fault_of c.in_default-parse_field.field-0) c.in_default-parse_field.ensures)
 
 pub returns-clause-goes : goal.returns-clause-goes
 returns-clause-goes c =

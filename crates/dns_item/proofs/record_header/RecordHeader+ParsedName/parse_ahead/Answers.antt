@@ -1,7 +1,7 @@
 use Rattle.std.proofs.lemmas.Result.{err_from_is_err_and}
 use Rattle.dns_item.specs.AfterNames.FieldsFaultAt.{name}
 use Rattle.dns_item.proofs.RecordLemmas.{short}
-use Rattle.dns_item.proofs.record_header.RecordHeader+ParsedName.read.Goals as goal
+use Rattle.dns_item.proofs.record_header.RecordHeader+ParsedName.parse_ahead.Goals as goal
 
 pub returns-in_err-owner-clause-reads : goal.returns-in_err-owner-clause-reads
 returns-in_err-owner-clause-reads c =

@@ -1,7 +1,7 @@
 use Rattle.std.proofs.Common.{refl, arith}
 use Rattle.std.proofs.lemmas.Result.{err_from_is_err_and}
 use Rattle.dns_item.proofs.RecordReadingLemmas.{whole_fault_taken, whole_left_over_taken}
-use Rattle.dns_item.proofs.record_reading.read_data.Goals as goal
+use Rattle.dns_item.proofs.record_reading.parse_data.Goals as goal
 
 pub returns-in_err-data : goal.returns-in_err-data
 returns-in_err-data g c =

@@ -1,6 +1,6 @@
 use Rattle.std.proofs.Common.{arith}
 use Rattle.dns_name.proofs.theory.ExtentLaws.{ends_after}
-use Rattle.fields_octets.proofs.encoded.read_field.Goals as goal
+use Rattle.fields_octets.proofs.encoded.parse_field.Goals as goal
 
 pub may_be_encoded-requires : goal.may_be_encoded-requires
 may_be_encoded-requires c =
