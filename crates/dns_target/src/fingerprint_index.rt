@@ -1,5 +1,5 @@
 //! The index of a fingerprint compressor: the offsets of suffixes and the hashes of their octets.
-ghost use Rattle.std.specs.Prelude.{◌≡◌, ◌+◌, ◌-◌, ◌<◌, ◌≤◌, ◌∷◌, ◌↔◌, [], length, drop, get_or, set, ℕ, List, IsTrue, IfOk, OnOk, OnErr, vec_capacity};
+ghost use Rattle.std.specs.Prelude.{◌≡◌, ◌+◌, ◌-◌, ◌*◌, ◌<◌, ◌≤◌, ◌⊎◌, ◌∷◌, ◌↔◌, [], length, drop, get_or, max, set, ℕ, List, IsTrue, IfOk, OnOk, OnErr, vec_capacity};
 ghost use Rattle.dns_wire.specs.Choice.{label_offset};
 ghost use Rattle.dns_name.specs.Names.{Labels};
 ghost use Rattle.dns_target.specs.FingerprintIndex.{hash_of, all_hashed_of, most_hashed, bucket, IsLinked, AreHashed, table_entries_at, cut_hashed};
@@ -137,13 +137,27 @@ const MOST_SCANNED: usize = 16;
 
 /// The number of buckets for `count` entries: none for few entries, else at least two for each, up
 /// to 16,384 entries.
-fn buckets_for(count: usize) -> usize {
+fn buckets_for(count: usize) -> usize
+    ensures { result ≤ 32 * count }
+{
     match count {
         0..=MOST_SCANNED => 0,
         17..=256 => 512,
         257..=1024 => 2048,
         1025..=4096 => 8192,
         _ => 32_768,
+    }
+}
+
+/// The number of entries to reserve for `additional` further ones.
+fn reserved_for(additional: usize, capacity: usize) -> usize
+    ensures { (result ≡ additional)
+        ⊎ ((capacity ≡ 0) × (0 < additional) × (result ≡ max additional 32)) }
+{
+    if capacity == 0 && additional > 0 {
+        additional.max(FIRST_ENTRIES)
+    } else {
+        additional
     }
 }
 
@@ -181,10 +195,7 @@ impl FingerprintIndex {
         if self.entries.len().saturating_add(additional) > MOST_ENTRIES {
             return Err(AllocError);
         }
-        let more = match self.entries.capacity() {
-            0 if additional > 0 => additional.max(FIRST_ENTRIES),
-            _ => additional,
-        };
+        let more = reserved_for(additional, self.entries.capacity());
         self.entries.reserve(more)
     }
 
