@@ -1,8 +1,9 @@
 -- The words of records.
 use Rattle.std.proofs.Common.{◌≡◌, ◌≢◌, ◌∙◌, ℕ, ◌<◌, ◌≤◌, List, [], ◌∷◌, length, take, drop, ◌-◌, ap, refl, subst, sym, arith}
 use Rattle.std.specs.Prelude.{◌==◌, Option, Result, Ok, Err, IfOk, codes}
-use Rattle.std.specs.List.{slice_split}
+use Rattle.std.specs.List.{slice_split, AllZip}
 use Rattle.std.proofs.lemmas.List.{length-map, take_all}
+use Rattle.std.proofs.lemmas.Slice.Zip.{AllZip-long}
 use Rattle.std.specs.Borrow.{Bor}
 use Rattle.dns_name.specs.Names.{Labels}
 use Rattle.dns_name.specs.NameTexts.{SpellsName}
@@ -28,8 +29,8 @@ use Rattle.dnsmsg_tool.specs.ScriptData.{script_rtype_of}
 use Rattle.dnsmsg_tool.specs.declared.script_data.ScriptData.{ScriptData}
 use Rattle.dnsmsg_tool.specs.declared.script_data.ScriptData.TheVariants.{Known, Opaque}
 use Rattle.dnsmsg_tool.specs.ScriptRecords.{AreDataWords, AreFieldWords, AreMarked, AreMarkedWords, AreOpaqueWords, AreRecordFields, AreRecordWords, AreZoneFields, AreZoneWords, IsAddressWord}
-use Rattle.dnsmsg_tool.specs.ScriptWords.{LineWords, AreEach, IsNumberUpTo, IsOnly, ReadsValue, texts}
-use Rattle.dnsmsg_tool.proofs.EachLemmas.{each_at, each_length, word_at}
+use Rattle.dnsmsg_tool.specs.ScriptWords.{LineWords, IsNumberUpTo, IsOnly, ReadsValue, texts}
+use Rattle.dnsmsg_tool.proofs.EachLemmas.{each_at, word_at}
 
 module _ {N : Type 0} (labels : N → Labels) where
   -- SOA has seven words.
@@ -115,20 +116,20 @@ address_word word (t ∷ []) a b c d e least most h k l m = absurd (omega arith)
 address_word word (t ∷ u ∷ []) a b c d e least most h k l m = absurd (omega arith)
 address_word word (t ∷ u ∷ v ∷ []) a b c d e least most h k l m = absurd (omega arith)
 address_word word (t ∷ u ∷ v ∷ w ∷ []) a b c d e least most h k l m =
-    (subst (λ (parts : List (List ℕ)). AreEach (IsNumberUpTo 255) parts (a ∷ b ∷ c ∷ d ∷ [])) e (h, (k, (l, (m, tt)))), refl)
+    (subst (λ (parts : List (List ℕ)). AllZip (IsNumberUpTo 255) parts (a ∷ b ∷ c ∷ d ∷ [])) e (h, (k, (l, (m, tt)))), refl)
 address_word word (t ∷ u ∷ v ∷ w ∷ x ∷ parts) a b c d e least most h k l m = absurd (omega arith)
 
 -- A part that isn't a number.
 pub no_part : (word : List ℕ) (parts : LineWords) (i : ℕ) → texts parts ≡ slice_split (λ c. c == 46) word → i < length parts
     → ((n : ℕ) → ¬ (IsNumberUpTo 255 (word_at parts i) n)) → (octets : List ℕ) → ¬ (IsAddressWord word octets)
 no_part word parts i e h none octets is =
-    let part = each_at (IsNumberUpTo 255) parts octets i h (subst (λ (parts : List (List ℕ)). AreEach (IsNumberUpTo 255) parts octets) (sym e) is.0) in
+    let part = each_at (IsNumberUpTo 255) parts octets i h (subst (λ (parts : List (List ℕ)). AllZip (IsNumberUpTo 255) parts octets) (sym e) is.0) in
     none part.0 part.1
 
 -- An address has four parts.
 pub parts_four : (word : List ℕ) (parts : LineWords) (octets : List ℕ) → texts parts ≡ slice_split (λ c. c == 46) word → IsAddressWord word octets → length parts ≡ 4
 parts_four word parts octets e is =
-    sym (length-map parts (λ (part : Bor (List ℕ)). part.now)) ∙ ap length e ∙ each_length (IsNumberUpTo 255) (slice_split (λ c. c == 46) word) octets is.0 ∙ is.1
+    sym (length-map parts (λ (part : Bor (List ℕ)). part.now)) ∙ ap length e ∙ sym (AllZip-long (IsNumberUpTo 255) (slice_split (λ c. c == 46) word) octets is.0) ∙ is.1
 
 -- A text with a fault is no name.
 pub no_name : {X : Type 0} {buffer : Ghosts X} (text : List ℕ) (result : Result (Name X buffer) FromStrError) (e : FromStrError) (f : PresentationError) → result ≡ Err e → e ≡ Presentation f

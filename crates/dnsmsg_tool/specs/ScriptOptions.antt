@@ -1,12 +1,12 @@
 -- The words of OPT records in scripts. RFC 6891 sections 6.1.2 and 6.1.3.
 use Rattle.std.specs.Prelude.{◌≡◌, ℕ, ◌==◌, ◌<◌, ◌≤◌, Bool, true, false, List, ◌∷◌, length, map, Option, Some, None, Ok, codes}
-use Rattle.std.specs.List.{after_first, before_first, position_or_len}
+use Rattle.std.specs.List.{after_first, before_first, position_or_len, AllZip}
 use Rattle.std.specs.Net.Grammar.{IsNumber}
 use Rattle.hex.specs.Hex.{decode_of}
 use Rattle.dns_edns.specs.OptData.{option_of}
 use Rattle.dns_edns.specs.Options.{OptionItem}
 use Rattle.dns_script.specs.declared.opt_plan.OptPlan.{OptPlan}
-use Rattle.dnsmsg_tool.specs.ScriptWords.{LineWords, AreEach, IsNumberUpTo, texts}
+use Rattle.dnsmsg_tool.specs.ScriptWords.{LineWords, IsNumberUpTo, texts}
 
 -- an extended RCODE, or `-` for none
 abbrev pub IsRcodeWord : List ℕ → Option ℕ → Type 0
@@ -35,7 +35,7 @@ pub record ArePlanFields (size_word rcode_word version_word flag_word : List ℕ
   pub rcode : IsRcodeWord rcode_word plan.rcode
   pub version : IsNumberUpTo 255 version_word plan.version
   pub dnssec_ok : IsFlagWord flag_word plan.dnssec_ok
-  pub options : AreEach IsOptionWord (texts option_words) (map option_of plan.options.items)
+  pub options : AllZip IsOptionWord (texts option_words) (map option_of plan.options.items)
 
 -- an OPT record: the UDP payload size, the extended RCODE, the EDNS version, DO and the options
 abbrev pub ArePlanWords : LineWords → OptPlan → Type 0

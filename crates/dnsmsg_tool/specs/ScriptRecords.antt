@@ -1,6 +1,6 @@
 -- The words of a script's records. Names: RFC 1035 section 5.1; RDATA: RFC 1035 sections 3.3 and 3.4.1; opaque RDATA: RFC 3597 section 5.
 use Rattle.std.specs.Prelude.{◌≡◌, ℕ, ◌==◌, List, [], ◌∷◌, length, Ok, codes}
-use Rattle.std.specs.List.{slice_split}
+use Rattle.std.specs.List.{slice_split, AllZip}
 use Rattle.hex.specs.Hex.{decode_of}
 use Rattle.dns_iana.specs.Classes.{SpellsClass}
 use Rattle.dns_iana.specs.Types.{SpellsType}
@@ -19,11 +19,11 @@ use Rattle.dns_name.specs.NameReading.{name_labels}
 use Rattle.dnsmsg_tool.specs.ScriptData.{script_rtype_of}
 use Rattle.dnsmsg_tool.specs.declared.script_data.ScriptData.{ScriptData}
 use Rattle.dnsmsg_tool.specs.declared.script_data.ScriptData.TheVariants.{Known, Opaque}
-use Rattle.dnsmsg_tool.specs.ScriptWords.{LineWords, AreEach, IsNumberUpTo, IsOnly}
+use Rattle.dnsmsg_tool.specs.ScriptWords.{LineWords, IsNumberUpTo, IsOnly}
 
 -- an IPv4 address: four decimal numbers up to 255, with dots between
 abbrev pub IsAddressWord : List ℕ → List ℕ → Type 0
-IsAddressWord word octets = AreEach (IsNumberUpTo 255) (slice_split (λ c. c == 46) word) octets × (length octets ≡ 4)
+IsAddressWord word octets = AllZip (IsNumberUpTo 255) (slice_split (λ c. c == 46) word) octets × (length octets ≡ 4)
 
 -- one word of hexadecimal digits, which is missing if there are no octets
 abbrev pub AreDigits : LineWords → List ℕ → Type 0

@@ -1,5 +1,5 @@
 -- The words of a script's line, the numbers in them, and what reading words returns.
-use Rattle.std.specs.Prelude.{◌≤◌, ℕ, ◌==◌, not, ⊤, if◌then◌else◌, List, [], ◌∷◌, ◌++◌, length, map, Option, Some, None}
+use Rattle.std.specs.Prelude.{◌≤◌, ℕ, ◌==◌, not, if◌then◌else◌, List, [], ◌∷◌, ◌++◌, length, map, Option, Some, None}
 use Rattle.std.specs.Borrow.{Bor}
 use Rattle.std.specs.List.{filter, flat_map, slice_split}
 use Rattle.std.specs.Net.Grammar.{IsNumber}
@@ -27,12 +27,6 @@ spaced_words words = flat_map (λ word. word.now ++ 32 ∷ []) words
 -- the word is decimal digits, perhaps with leading zeros, of a number that is at most `most`
 abbrev pub IsNumberUpTo : ℕ → List ℕ → ℕ → Type 0
 IsNumberUpTo most word n = IsNumber 10 word n × (n ≤ most)
-
--- words and values, in order: `Is` holds of each word and its value
-abbrev pub AreEach : {X : Type 0} → (List ℕ → X → Type 0) → List (List ℕ) → List X → Type 0
-AreEach Is [] [] = ⊤
-AreEach Is (word ∷ words) (x ∷ xs) = Is word x × AreEach Is words xs
-AreEach Is words xs = ⊥
 
 -- one word, of which `Is` holds
 abbrev pub IsOnly : {X : Type 0} → (List ℕ → X → Type 0) → LineWords → X → Type 0

@@ -1,6 +1,5 @@
 //! Octets in hexadecimal digits (RFC 4648 section 8).
-ghost use Rattle.std.specs.Prelude.{◌≡◌, option_map, IfOk, Ok};
-ghost use Rattle.std.specs.Result.{result_ok};
+ghost use Rattle.std.specs.Prelude.{◌≡◌, IfOk, Ok};
 ghost use Rattle.hex.specs.Hex.{decode_of};
 ghost use Rattle.dnsmsg_tool.specs.ScriptWords.{ReadsValue};
 
@@ -9,9 +8,7 @@ use std::alloc::{AllocError, Global};
 
 /// Reads two digits for each octet, in either case. Returns `None` for any other text.
 pub(crate) fn octets(alloc: Global, digits: &[u8]) -> Result<Option<Vec<u8>>, AllocError>
-    ensures octets { IfOk result (λ found. option_map (λ octets. octets.items) found
-        ≡ result_ok (decode_of digits.now)) }
-    ensures reads { IfOk result (ReadsValue (λ octets. octets.items)
+    ensures { IfOk result (ReadsValue (λ octets. octets.items)
         (λ octets. decode_of digits.now ≡ Ok octets)) }
 {
     match hex::decode(alloc, digits) {

@@ -1,8 +1,9 @@
 //! OPT records in the lines of a script.
 ghost use Rattle.std.specs.Prelude.{IfOk, map};
+ghost use Rattle.std.specs.List.{AllZip};
 ghost use Rattle.dns_edns.specs.OptData.{option_of};
 ghost use Rattle.dnsmsg_tool.specs.ScriptOptions.{ArePlanFields, ArePlanWords, IsFlagWord, IsOptionWord, IsRcodeWord};
-ghost use Rattle.dnsmsg_tool.specs.ScriptWords.{AreEach, ReadsValue, texts};
+ghost use Rattle.dnsmsg_tool.specs.ScriptWords.{ReadsValue, texts};
 
 use crate::octet_digits;
 use crate::script_words::number;
@@ -81,7 +82,7 @@ fn options_of(
     words: &[&str],
 ) -> Result<Option<Vec<UnknownOptData<Vec<u8>>>>, AllocError>
     ensures { IfOk result (ReadsValue (λ options. map option_of options.items)
-        (AreEach IsOptionWord (texts words.now))) }
+        (AllZip IsOptionWord (texts words.now))) }
 {
     let mut options = Vec::with_capacity(alloc, words.len())?;
     for word in words {

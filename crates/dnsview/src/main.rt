@@ -9,7 +9,7 @@
 #[cfg(test)]
 mod tests;
 
-use dnsview_tool::{USAGE, file_of, print_unopened, tool};
+use dnsview_tool::{USAGE, file_of, print_failure, print_unopened, tool};
 use std::fs::File;
 use std::io::{BufWriter, ErrorKind, Read};
 use std::process::ExitCode;
@@ -58,7 +58,7 @@ fn main(rt: HostRuntime) -> ExitCode {
     match run(&rt) {
         Ok(status) => ExitCode::from(status),
         Err(error) => {
-            let _ = eprintln!(rt; "dnsview: {error}");
+            let _ = print_failure(rt.alloc(), &mut rt.stderr(), "failed", &error);
             ExitCode::from(FAILED)
         }
     }

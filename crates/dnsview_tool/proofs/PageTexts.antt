@@ -86,6 +86,7 @@ zip_mapped IsText f (x ∷ xs) [] h = h
 zip_mapped IsText f (x ∷ xs) (text ∷ texts) h = (h.0, zip_mapped IsText f xs texts h.1)
 
 module _ {X E : Type 0} (r : Result X E) (a b c d e f g : Option (List ℕ)) where
+  -- if the parts of a page are appended in order and the last call succeeds, the page is printed
   pub page_printed : (brief : Bool) (message : List ℕ) (rows : List Row) (made : List Line) (title : List ℕ) → map line_of made ≡ lines brief rows
       → are_printable title ≡ true → Appends a b (top_text title) → Appends b c (opening_text rows)
       → Appends c d (flat_map (λ line. line_cells message (line_of line)) made) → Appends d e (codes "\n</div>\n<div class=list>\n<p>")
