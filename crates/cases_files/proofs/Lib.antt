@@ -1,1 +1,2 @@
+mod OctetWords
 mod ReadLines

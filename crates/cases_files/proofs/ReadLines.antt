@@ -1,5 +1,5 @@
 -- The lines of a text, and those that an iterator has left.
-use Rattle.std.proofs.Common.{◌≡◌, ℕ, true, false, Some, None, List, [], ◌∷◌, ◌++◌, filter, map, Bor, sym, ap, subst, ◌∙◌, append_assoc, rules}
+use Rattle.std.proofs.Common.{◌≡◌, ℕ, true, false, Some, None, List, [], ◌∷◌, ◌++◌, filter, Bor, sym, ap, subst, ◌∙◌, append_assoc, rules}
 use Rattle.std.specs.Str.Iter.{lines_steps}
 use Rattle.std.specs.declared.str.Lines.{Lines}
 use Rattle.std.specs.Global.{Vec}
@@ -7,10 +7,7 @@ use Rattle.std.proofs.lemmas.Iterator.{YieldsList}
 use Rattle.std.proofs.lemmas.Grind.{flat_map-append}
 use Rattle.std.proofs.lemmas.List.{map-append}
 use Rattle.cases_files.specs.Block.{all_lines, is_kept}
-
--- the texts of lines
-abbrev pub texts : List (Bor (List ℕ)) → List (List ℕ)
-texts lines = map (λ line. line.now) lines
+use Rattle.cases_files.specs.Line.{texts}
 
 -- the kept lines of a text are these, and those that the iterator has left
 pub record HasRead (text done : List (List ℕ)) (s : Lines) : Type 0 where

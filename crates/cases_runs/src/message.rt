@@ -12,23 +12,42 @@ use std::alloc::{AllocError, Global};
 use std::io;
 use std::io::Write;
 
-/// Whether a key is one of the checks here.
-pub(crate) fn is_call(key: &str) -> bool {
-    matches!(
-        key,
-        "opt"
-            | "rcode"
-            | "canonical"
-            | "sole"
-            | "is-answer"
-            | "same-questions"
-            | "age"
-            | "cap"
-            | "change-cap"
-            | "least"
-            | "file"
-            | "rows"
-    )
+/// A call that a line of a case is about.
+#[derive(Clone, Copy)]
+pub(crate) enum Call {
+    Opt,
+    File,
+    Rows,
+    Rcode,
+    Canonical,
+    Sole,
+    Least,
+    IsAnswer,
+    SameQuestions,
+    Age,
+    Cap,
+    ChangeCap,
+}
+
+impl Call {
+    /// The call that a key names, if it is one.
+    pub(crate) fn of_key(key: &str) -> Option<Call> {
+        match key {
+            "opt" => Some(Call::Opt),
+            "file" => Some(Call::File),
+            "rows" => Some(Call::Rows),
+            "rcode" => Some(Call::Rcode),
+            "canonical" => Some(Call::Canonical),
+            "sole" => Some(Call::Sole),
+            "least" => Some(Call::Least),
+            "is-answer" => Some(Call::IsAnswer),
+            "same-questions" => Some(Call::SameQuestions),
+            "age" => Some(Call::Age),
+            "cap" => Some(Call::Cap),
+            "change-cap" => Some(Call::ChangeCap),
+            _ => None,
+        }
+    }
 }
 
 /// Checks a line of a case that says what a call returns, if it is one.
@@ -39,14 +58,14 @@ pub(crate) fn check_call<W: Write + Drop>(
     line: &str,
 ) -> io::Result<()> {
     let (key, text) = key_of(line);
-    if !is_call(key) {
+    let Some(call) = Call::of_key(key) else {
         return Ok(());
-    }
-    let shown = match key {
-        "opt" => opt_line(alloc, run.input.as_slice())?,
-        "file" => file_shown(alloc, text)?,
-        "rows" => rows_shown(alloc, text)?,
-        _ => message_shown(alloc, run, key, text)?,
+    };
+    let shown = match call {
+        Call::Opt => opt_line(alloc, run.input.as_slice())?,
+        Call::File => file_shown(alloc, text)?,
+        Call::Rows => rows_shown(alloc, text)?,
+        _ => message_shown(alloc, run, call, text)?,
     };
     report.check(line, text.as_bytes(), shown.as_bytes())
 }
@@ -82,17 +101,17 @@ fn rows_shown(alloc: Global, text: &str) -> io::Result<String> {
 }
 
 /// What a call returns for the message of a case.
-fn message_shown(alloc: Global, run: &Run<'_>, key: &str, text: &str) -> io::Result<String> {
+fn message_shown(alloc: Global, run: &Run<'_>, call: Call, text: &str) -> io::Result<String> {
     let Ok(message) = Message::from_slice(run.message.as_slice()) else {
         return Ok(String::from_str(alloc, "short message")?);
     };
-    match key {
-        "rcode" => Ok(format!(in alloc; "{}", message.opt_rcode().to_int())?),
-        "canonical" => canonical_shown(alloc, &message),
-        "sole" => sole_shown(alloc, &message),
-        "least" => least_shown(alloc, &message),
-        "age" | "cap" | "change-cap" => changed_shown(alloc, run, key, text),
-        _ => Ok(String::from_str(alloc, pair_word(run, key, &message))?),
+    match call {
+        Call::Rcode => Ok(format!(in alloc; "{}", message.opt_rcode().to_int())?),
+        Call::Canonical => canonical_shown(alloc, &message),
+        Call::Sole => sole_shown(alloc, &message),
+        Call::Least => least_shown(alloc, &message),
+        Call::Age | Call::Cap | Call::ChangeCap => changed_shown(alloc, run, call, text),
+        _ => Ok(String::from_str(alloc, pair_word(run, call, &message))?),
     }
 }
 
@@ -122,21 +141,20 @@ fn least_shown(alloc: Global, message: &Message<&[u8]>) -> io::Result<String> {
 }
 
 /// Whether the message is an answer to the other one, or their questions are the same.
-fn pair_word(run: &Run<'_>, key: &str, message: &Message<&[u8]>) -> &'static str {
+fn pair_word(run: &Run<'_>, call: Call, message: &Message<&[u8]>) -> &'static str {
     let Ok(other) = Message::from_slice(run.other.as_slice()) else {
         return "short message";
     };
-    let holds = if key == "is-answer" {
-        message.is_answer(&other)
-    } else {
-        message.question().same_questions(&other.question())
+    let holds = match call {
+        Call::IsAnswer => message.is_answer(&other),
+        _ => message.question().same_questions(&other.question()),
     };
     if holds { "yes" } else { "no" }
 }
 
 /// A number of seconds, and after `=` the message with its TTLs changed by it, or why they can't
 /// be.
-fn changed_shown(alloc: Global, run: &Run<'_>, key: &str, text: &str) -> io::Result<String> {
+fn changed_shown(alloc: Global, run: &Run<'_>, call: Call, text: &str) -> io::Result<String> {
     let (number, _) = text.split_once(' ').unwrap_or((text, ""));
     let Ok(seconds) = number.parse::<u32>() else {
         return Ok(String::from_str(alloc, "bad number")?);
@@ -145,7 +163,7 @@ fn changed_shown(alloc: Global, run: &Run<'_>, key: &str, text: &str) -> io::Res
     else {
         return Ok(String::from_str(alloc, "short message")?);
     };
-    match change(&mut message, key, seconds) {
+    match change(&mut message, call, seconds) {
         Ok(()) => {
             let digits = hex::encode(alloc, message.as_slice())?;
             Ok(format!(in alloc; "{number} = {digits}")?)
@@ -154,11 +172,11 @@ fn changed_shown(alloc: Global, run: &Run<'_>, key: &str, text: &str) -> io::Res
     }
 }
 
-/// Changes the TTLs of a message by the call that the key says.
-fn change(message: &mut Message<Vec<u8>>, key: &str, seconds: u32) -> Result<(), EditError> {
-    match key {
-        "age" => age_ttls(message, seconds),
-        "cap" => cap_ttls(message, Ttl::from_secs(seconds)),
+/// Changes the TTLs of a message by a call.
+fn change(message: &mut Message<Vec<u8>>, call: Call, seconds: u32) -> Result<(), EditError> {
+    match call {
+        Call::Age => age_ttls(message, seconds),
+        Call::Cap => cap_ttls(message, Ttl::from_secs(seconds)),
         _ => change_ttls(message, TtlChange::Cap(Ttl::from_secs(seconds))),
     }
 }

@@ -1,5 +1,5 @@
 //! A run of a program.
-use crate::message::is_call;
+use crate::message::Call;
 use cases_files::{Report, key_of, octets_of, push_times};
 use std::alloc::{AllocError, Global};
 use std::io;
@@ -61,7 +61,7 @@ impl<'a> Run<'a> {
             "starts" | "ends" | "has" | "count" | "line" | "most" => self.has_parts = true,
             "message" => return push_octets(alloc, &mut self.message, text),
             "other" => return push_octets(alloc, &mut self.other, text),
-            _ if is_call(key) => {}
+            _ if Call::of_key(key).is_some() => {}
             _ => return self.take_repeated(alloc, key, text),
         }
         Ok(true)

@@ -15,7 +15,7 @@ use dns_target::{
 use dns_wire::{AppendError, CloneTarget, Composer, FreezeBuilder, Name};
 use std::alloc::Global;
 use std::process::Abort;
-use tests_plain::Rule;
+use tests_plain::PlainRule;
 
 /// A target.
 #[derive(Clone, Copy)]
@@ -56,7 +56,7 @@ fn run_by<T: Composer>(
     rt: &impl Abort,
     alloc: Global,
     row: &str,
-    rule: Rule,
+    rule: PlainRule,
     target: T,
     case: &Case,
 ) {
@@ -70,22 +70,22 @@ fn run_by<T: Composer>(
 fn run_over(rt: &impl Abort, alloc: Global, row: &str, target: Target, case: &Case) {
     let vector = Vec::new(alloc);
     match target {
-        Target::Plain => run_by(rt, alloc, row, Rule::Plain, vector, case),
+        Target::Plain => run_by(rt, alloc, row, PlainRule::Plain, vector, case),
         Target::Static => {
             let target = StaticCompressor::new(vector);
-            run_by(rt, alloc, row, Rule::Static, target, case);
+            run_by(rt, alloc, row, PlainRule::Static, target, case);
         }
         Target::Tree => {
             let target = TreeCompressor::new(alloc, vector);
-            run_by(rt, alloc, row, Rule::Tree, target, case);
+            run_by(rt, alloc, row, PlainRule::Tree, target, case);
         }
         Target::Hash => {
             let target = HashCompressor::new(alloc, vector);
-            run_by(rt, alloc, row, Rule::Hash, target, case);
+            run_by(rt, alloc, row, PlainRule::Hash, target, case);
         }
         Target::Fingerprint => {
             let target = FingerprintCompressor::new(alloc, vector);
-            run_by(rt, alloc, row, Rule::Tree, target, case);
+            run_by(rt, alloc, row, PlainRule::Tree, target, case);
         }
     }
 }
@@ -456,7 +456,7 @@ fn forgets_a_refused_record(rt: HostRuntime) {
         &rt,
         alloc,
         "A refused record forgets only itself, over a static compressor",
-        Rule::Static,
+        PlainRule::Static,
         target,
         case,
     );
@@ -465,7 +465,7 @@ fn forgets_a_refused_record(rt: HostRuntime) {
         &rt,
         alloc,
         "A refused record forgets only itself, over a tree compressor",
-        Rule::Tree,
+        PlainRule::Tree,
         target,
         case,
     );
@@ -474,7 +474,7 @@ fn forgets_a_refused_record(rt: HostRuntime) {
         &rt,
         alloc,
         "A refused record forgets only itself, over a hash compressor",
-        Rule::Hash,
+        PlainRule::Hash,
         target,
         case,
     );
@@ -518,9 +518,16 @@ fn assert_within<const N: usize>(rt: &impl Abort, alloc: Global)
     let row = format!(in alloc; "an array of {N} octets").expect(rt, "memory");
     match N {
         0..12 => assert_no_header(rt, &row, target),
-        12..29 => run_by(rt, alloc, &row, Rule::Static, target, &NO_QUESTION),
-        29..45 => run_by(rt, alloc, &row, Rule::Static, target, &NO_ANSWER),
-        _ => run_by(rt, alloc, &row, Rule::Static, target, &CAPACITY_FOR_ALL),
+        12..29 => run_by(rt, alloc, &row, PlainRule::Static, target, &NO_QUESTION),
+        29..45 => run_by(rt, alloc, &row, PlainRule::Static, target, &NO_ANSWER),
+        _ => run_by(
+            rt,
+            alloc,
+            &row,
+            PlainRule::Static,
+            target,
+            &CAPACITY_FOR_ALL,
+        ),
     }
 }
 

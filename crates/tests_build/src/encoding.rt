@@ -3,11 +3,13 @@ use crate::steps::{Answer, Ask, Call, Case, Step};
 use std::alloc::Global;
 use std::process::Abort;
 use std::slice;
-use tests_plain::{Part, PlainMessage, QuestionItem, RecordItem, Rule, encode};
+use tests_plain::{PlainMessage, PlainPart, PlainQuestion, PlainRecord, PlainRule, encode};
 
 /// The names a to x.
-const LETTERS: &[u8] =
-    b"\x01a\x00\x01b\x00\x01c\x00\x01d\x00\x01e\x00\x01f\x00\x01g\x00\x01h\x00\x01i\x00\x01j\x00\x01k\x00\x01l\x00\x01m\x00\x01n\x00\x01o\x00\x01p\x00\x01q\x00\x01r\x00\x01s\x00\x01t\x00\x01u\x00\x01v\x00\x01w\x00\x01x\x00";
+const LETTERS: &[u8] = b"\
+    \x01a\x00\x01b\x00\x01c\x00\x01d\x00\x01e\x00\x01f\x00\x01g\x00\x01h\x00\
+    \x01i\x00\x01j\x00\x01k\x00\x01l\x00\x01m\x00\x01n\x00\x01o\x00\x01p\x00\
+    \x01q\x00\x01r\x00\x01s\x00\x01t\x00\x01u\x00\x01v\x00\x01w\x00\x01x\x00";
 
 /// The fields of the SOA record of the root zone: two names, and the numbers.
 const START: [&[u8]; 3] = [
@@ -22,18 +24,18 @@ struct Written<'a> {
     owner: &'a [u8],
     rtype: u16,
     ttl: u32,
-    parts: [Part<'a>; 3],
+    parts: [PlainPart<'a>; 3],
 }
 
 /// Appends a question of class IN.
 fn push_question<'a>(
     rt: &impl Abort,
-    items: &mut Vec<QuestionItem<'a>>,
+    items: &mut Vec<PlainQuestion<'a>>,
     name: &'a [u8],
     rtype: u16,
 ) {
     let class = 1;
-    let pushed = items.push(QuestionItem { name, rtype, class });
+    let pushed = items.push(PlainQuestion { name, rtype, class });
     pushed.expect(rt, "memory");
 }
 
@@ -42,7 +44,7 @@ fn questions_after<'a>(
     rt: &impl Abort,
     alloc: Global,
     steps: &'a [Step<Ask>],
-) -> Vec<QuestionItem<'a>> {
+) -> Vec<PlainQuestion<'a>> {
     let mut items = Vec::new(alloc);
     for (call, answer, _, _) in steps {
         match (call, answer) {
@@ -88,7 +90,11 @@ fn opaque<'a>(
         owner,
         rtype,
         ttl,
-        parts: [Part::Octets(first), Part::Octets(second), Part::Octets(&[])],
+        parts: [
+            PlainPart::Octets(first),
+            PlainPart::Octets(second),
+            PlainPart::Octets(&[]),
+        ],
     }
 }
 
@@ -99,9 +105,9 @@ fn server<'a>(owner: &'a [u8], ttl: u32, name: &'a [u8]) -> Written<'a> {
         rtype: 2,
         ttl,
         parts: [
-            Part::CompressibleName(name),
-            Part::Octets(&[]),
-            Part::Octets(&[]),
+            PlainPart::CompressibleName(name),
+            PlainPart::Octets(&[]),
+            PlainPart::Octets(&[]),
         ],
     }
 }
@@ -114,9 +120,9 @@ fn start() -> Written<'static> {
         rtype: 6,
         ttl: 86_390,
         parts: [
-            Part::CompressibleName(mname),
-            Part::CompressibleName(rname),
-            Part::Octets(numbers),
+            PlainPart::CompressibleName(mname),
+            PlainPart::CompressibleName(rname),
+            PlainPart::Octets(numbers),
         ],
     }
 }
@@ -159,10 +165,14 @@ fn records_after<'a>(
 }
 
 /// The items of these records.
-fn items_of<'a>(rt: &impl Abort, alloc: Global, records: &'a [Written<'a>]) -> Vec<RecordItem<'a>> {
+fn items_of<'a>(
+    rt: &impl Abort,
+    alloc: Global,
+    records: &'a [Written<'a>],
+) -> Vec<PlainRecord<'a>> {
     let mut items = Vec::new(alloc);
     for record in records {
-        let item = RecordItem {
+        let item = PlainRecord {
             owner: record.owner,
             rtype: record.rtype,
             class: 1,
@@ -175,7 +185,12 @@ fn items_of<'a>(rt: &impl Abort, alloc: Global, records: &'a [Written<'a>]) -> V
 }
 
 /// The encoding, by a rule, of what the message has after the calls of a case.
-pub(crate) fn encoding_after(rt: &impl Abort, alloc: Global, rule: Rule, case: &Case) -> Vec<u8> {
+pub(crate) fn encoding_after(
+    rt: &impl Abort,
+    alloc: Global,
+    rule: PlainRule,
+    case: &Case,
+) -> Vec<u8> {
     let zeros = vec![in alloc; 0; 16_400].expect(rt, "memory");
     let questions = questions_after(rt, alloc, case.questions);
     let answers = records_after(rt, alloc, case.answers, &zeros);

@@ -7,7 +7,7 @@ use dns_script::{Call, Reply, Stage, run};
 use dns_wire::Name;
 use std::alloc::Global;
 use std::process::Abort;
-use tests_plain::{Part, PlainMessage, RecordItem, Rule, encode};
+use tests_plain::{PlainMessage, PlainPart, PlainRecord, PlainRule, encode};
 
 type AddressCall = Call<(Name<[u8; 3]>, Rtype), (Name<[u8; 3]>, u32, A)>;
 
@@ -45,8 +45,8 @@ fn runs_a_thousand_calls(rt: HostRuntime) {
     let stage = stage.expect(&rt, "memory");
     let is_done = replies.len() == 1000 && are_done(&replies);
     assert_holds(&rt, "the replies", is_done);
-    let parts = [Part::Octets(b"\xC0\x00\x02\x01")];
-    let answer = RecordItem {
+    let parts = [PlainPart::Octets(b"\xC0\x00\x02\x01")];
+    let answer = PlainRecord {
         owner: b"\x01a\x00",
         rtype: 1,
         class: 1,
@@ -60,7 +60,7 @@ fn runs_a_thousand_calls(rt: HostRuntime) {
         authorities: &[],
         additionals: &[],
     };
-    let expected = encode(alloc, Rule::Plain, &message).expect(&rt, "memory");
+    let expected = encode(alloc, PlainRule::Plain, &message).expect(&rt, "memory");
     assert_octets(&rt, "the message", stage.as_slice(), &expected);
 }
 

@@ -108,6 +108,7 @@ octets_first (UncompressedName lowercased name ∷ parts) = []
 
 -- an NS record and an address that were pushed as the only answers
 module _ (law : TypedRecordsReadBack) (b : List ℕ) (zone : Labels) (class ttl : ℕ) (server owner : Labels) (class2 ttl2 : ℕ) (octets : List ℕ) (four : length octets ≡ 4) where
+  -- the state of a new builder onto which the NS record and then the address record were pushed as answers
   abbrev pub state : State
   state = with_record InAnswer (address_record owner class2 ttl2 octets) (with_record InAnswer (server_record zone class ttl server) (move_to InAnswer fresh))
 
@@ -118,8 +119,10 @@ module _ (law : TypedRecordsReadBack) (b : List ℕ) (zone : Labels) (class ttl 
       law state b h Answer layouts
       (All-cons P (server_record zone class ttl server) (address_record owner class2 ttl2 octets ∷ []) first (All-cons P (address_record owner class2 ttl2 octets) [] second (All-nil P)))
 
+  -- if the octets read back as this state, reading the answers as NS records yields the NS record and nothing else
   pub one_server : ReadsBack state b → HasOneAnswer (only 2 (DomainName End)) b (server_record zone class ttl server)
   one_server h = record { start = h.answers_start; starts = h.answers_at; only = answers (only 2 (DomainName End)) h refl tt }
 
+  -- if the octets read back as this state, reading the answers as A records yields the address record and nothing else
   pub one_address : ReadsBack state b → HasOneAnswer (only 1 (Fixed 4 End)) b (address_record owner class2 ttl2 octets)
   one_address h = record { start = h.answers_start; starts = h.answers_at; only = answers (only 1 (Fixed 4 End)) h tt (four, refl) }

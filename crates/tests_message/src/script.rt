@@ -17,7 +17,7 @@ use dns_message::target::{
 };
 use std::alloc::Global;
 use std::process::Abort;
-use tests_plain::{Part, PlainMessage, QuestionItem, RecordItem, Rule, encode};
+use tests_plain::{PlainMessage, PlainPart, PlainQuestion, PlainRecord, PlainRule, encode};
 
 /// A name in an array, so that the calls borrow nothing.
 type Owner = Name<ArrayVec<u8, 22>>;
@@ -153,8 +153,8 @@ const NS_WWW: &[u8] = b"\x02ns\x03www\x07example\x03com\x00";
 const A_NS_WWW: &[u8] = b"\x01a\x02ns\x03www\x07example\x03com\x00";
 
 /// An NS record of `tests_plain`. The array has the server.
-fn plain_server<'a>(owner: &'a [u8], parts: &'a [Part<'a>; 1]) -> RecordItem<'a> {
-    RecordItem {
+fn plain_server<'a>(owner: &'a [u8], parts: &'a [PlainPart<'a>; 1]) -> PlainRecord<'a> {
+    PlainRecord {
         owner,
         rtype: 2,
         class: 1,
@@ -164,7 +164,7 @@ fn plain_server<'a>(owner: &'a [u8], parts: &'a [Part<'a>; 1]) -> RecordItem<'a>
 }
 
 /// The OPT record: a payload size of 1,232, rcode 19 and DO.
-const PLAIN_OPT: RecordItem<'static> = RecordItem {
+const PLAIN_OPT: PlainRecord<'static> = PlainRecord {
     owner: b"\x00",
     rtype: 41,
     class: 1232,
@@ -173,13 +173,13 @@ const PLAIN_OPT: RecordItem<'static> = RecordItem {
 };
 
 /// The plain encoding of the items that the message has at the end.
-fn plain_octets(rt: &impl Abort, alloc: Global, rule: Rule) -> Vec<u8> {
-    let answer = [Part::CompressibleName(NS)];
-    let authority = [Part::CompressibleName(NS_WWW)];
-    let additional = [Part::CompressibleName(A_NS_WWW)];
+fn plain_octets(rt: &impl Abort, alloc: Global, rule: PlainRule) -> Vec<u8> {
+    let answer = [PlainPart::CompressibleName(NS)];
+    let authority = [PlainPart::CompressibleName(NS_WWW)];
+    let additional = [PlainPart::CompressibleName(A_NS_WWW)];
     let message = PlainMessage {
         header: [0, 0, 0, 3],
-        questions: &[QuestionItem {
+        questions: &[PlainQuestion {
             name: EXAMPLE,
             rtype: 2,
             class: 1,
@@ -195,10 +195,10 @@ fn plain_octets(rt: &impl Abort, alloc: Global, rule: Rule) -> Vec<u8> {
 fn the_octets_are_the_plain_encoding(rt: HostRuntime) {
     let alloc = rt.alloc();
     assert_eq!(rt;
-        plain_octets(&rt, alloc, Rule::Plain).as_slice(),
+        plain_octets(&rt, alloc, PlainRule::Plain).as_slice(),
         PLAIN.as_slice()
     );
-    for rule in [Rule::Static, Rule::Tree, Rule::Hash] {
+    for rule in [PlainRule::Static, PlainRule::Tree, PlainRule::Hash] {
         assert_eq!(rt;
             plain_octets(&rt, alloc, rule).as_slice(),
             COMPRESSED.as_slice()

@@ -3,6 +3,7 @@ use Rattle.std.proofs.Common.{◌≡◌, ℕ, ◌+◌, List, [], ◌∷◌, ◌+
 use Rattle.std.specs.Borrow.{Bor}
 use Rattle.std.specs.Int.{to_be_bytes, w16, w32}
 use Rattle.std.specs.FinMap.{len}
+use Rattle.std.specs.List.{AllZip}
 use Rattle.std.proofs.Math.Seq.{take-append_seam, drop-append_seam}
 use Rattle.dns_name.specs.Names.{Labels}
 use Rattle.dns_wire.specs.Encoders.{Rule, Encoder, encode_octets, both, with_length, encode_name}
@@ -13,12 +14,12 @@ use Rattle.dns_item.specs.Questions as questions
 use Rattle.dns_item.specs.Questions.{encode_question}
 use Rattle.dns_item.specs.Items as items
 use Rattle.dns_item.specs.Items.{encode_record, record_fields}
-use Rattle.tests_plain.specs.PlainNames.{IsNamed, AreEach, ListsTable, IsInRange, Represents}
+use Rattle.tests_plain.specs.PlainNames.{IsNamed, ListsTable, IsInRange, Represents}
 use Rattle.tests_plain.specs.PlainItems.{IsPart, IsQuestionItem, IsRecordItem}
 use Rattle.tests_plain.specs.declared.writing.PlainTarget.{PlainTarget}
-use Rattle.tests_plain.specs.declared.writing.Part.TheVariants as parts
-use Rattle.tests_plain.specs.declared.writing.QuestionItem.{QuestionItem}
-use Rattle.tests_plain.specs.declared.writing.RecordItem.{RecordItem}
+use Rattle.tests_plain.specs.declared.writing.PlainPart.TheVariants as parts
+use Rattle.tests_plain.specs.declared.writing.PlainQuestion.{PlainQuestion}
+use Rattle.tests_plain.specs.declared.writing.PlainRecord.{PlainRecord}
 
 -- Octets are appended.
 pub appends_octets : (old new : PlainTarget) (w : Written) (xs : List ℕ) → Represents old w → new.octets.items ≡ old.octets.items ++ xs → new.table ≡ old.table
@@ -47,25 +48,27 @@ appends_name_part rule octets (UncompressedName lowercased name) old new w is r 
 
 -- Values in order, by the encodings of each.
 module _ {X Y : Type 0} (R : X → Y → Type 0) (encoder : Y → Encoder) (encoders : List Y → Encoder) where
-  pub appends_none : encoders [] ≡ encode_octets [] → (xs : List X) (ys : List Y) (t : PlainTarget) (w : Written) → length xs ≡ 0 → AreEach R xs ys
+  -- If there are no values, a target to which nothing is appended has the encoding of all values.
+  pub appends_none : encoders [] ≡ encode_octets [] → (xs : List X) (ys : List Y) (t : PlainTarget) (w : Written) → length xs ≡ 0 → AllZip R xs ys
       → Represents t w → Represents t (append (encoders ys) w)
   appends_none e [] [] t w none is r = subst (λ (p : Encoder). Represents t (append p w)) (sym e) (appends_nothing t w r)
   appends_none e [] (y ∷ ys) t w none is r = absurd is
   appends_none e (x ∷ xs) ys t w none is r = absurd (omega arith)
 
   more_of : ((y : Y) (ys : List Y) → encoders (y ∷ ys) ≡ both (encoder y) (encoders ys))
-      → (first : X) (others : List X) (ys : List Y) (old mid new : PlainTarget) (w : Written) → AreEach R (first ∷ others) ys → Represents old w
+      → (first : X) (others : List X) (ys : List Y) (old mid new : PlainTarget) (w : Written) → AllZip R (first ∷ others) ys → Represents old w
       → ((y : Y) (w : Written) → R first y → Represents old w → Represents mid (append (encoder y) w))
-      → ((ys : List Y) (w : Written) → AreEach R others ys → Represents mid w → Represents new (append (encoders ys) w)) → Represents new (append (encoders ys) w)
+      → ((ys : List Y) (w : Written) → AllZip R others ys → Represents mid w → Represents new (append (encoders ys) w)) → Represents new (append (encoders ys) w)
   more_of e first others [] old mid new w is r f g = absurd is
   more_of e first others (y ∷ ys) old mid new w is r f g =
       subst (λ (p : Encoder). Represents new (append p w)) (sym (e y ys)) (appends_both (encoder y) (encoders ys) new w (g ys _ is.1 (f y w is.0 r)))
 
+  -- If the first value is appended and then the others, all values are appended in order.
   pub appends_more : ((y : Y) (ys : List Y) → encoders (y ∷ ys) ≡ both (encoder y) (encoders ys)) → (xs : List X) (first : X) (others : List X) (ys : List Y) (old mid new : PlainTarget) (w : Written)
-      → xs ≡ first ∷ others → AreEach R xs ys → Represents old w
+      → xs ≡ first ∷ others → AllZip R xs ys → Represents old w
       → ((y : Y) (w : Written) → R first y → Represents old w → Represents mid (append (encoder y) w))
-      → ((ys : List Y) (w : Written) → AreEach R others ys → Represents mid w → Represents new (append (encoders ys) w)) → Represents new (append (encoders ys) w)
-  appends_more e xs first others ys old mid new w same is r f g = more_of e first others ys old mid new w (subst (λ xs. AreEach R xs ys) same is) r f g
+      → ((ys : List Y) (w : Written) → AllZip R others ys → Represents mid w → Represents new (append (encoders ys) w)) → Represents new (append (encoders ys) w)
+  appends_more e xs first others ys old mid new w same is r f g = more_of e first others ys old mid new w (subst (λ xs. AllZip R xs ys) same is) r f g
 
 -- No parts encode as no octets.
 pub no_parts : (rule : Rule) → encode_parts rule [] ≡ encode_octets []
@@ -101,7 +104,7 @@ appends_length encoder old zeros mid new w start rdata r at zero same f is octet
     }
 
 -- A question is its name and two numbers.
-pub appends_question : (rule : Rule) (item : QuestionItem) (x : questions.QuestionItem) (mid new : PlainTarget) (w : Written) → IsQuestionItem item x
+pub appends_question : (rule : Rule) (item : PlainQuestion) (x : questions.QuestionItem) (mid new : PlainTarget) (w : Written) → IsQuestionItem item x
     → Represents mid (append (encode_name rule x.name) w)
     → new.octets.items ≡ mid.octets.items ++ to_be_bytes w16 item.rtype ++ to_be_bytes w16 item.class → new.table ≡ mid.table → Represents new (append (encode_question rule x) w)
 unfolding encode_question
@@ -111,7 +114,7 @@ appends_question rule item x mid new w is r octets table =
     appends_both (encode_name rule x.name) (encode_octets fields) new w (appends_octets mid new _ fields r (octets ∙ same) table)
 
 -- A record is its owner, three numbers, and its RDATA after its length.
-pub appends_record : (rule : Rule) (item : RecordItem) (x : items.RecordItem) (mid fields new : PlainTarget) (w : Written) → IsRecordItem item x → Represents mid (append (encode_name rule x.owner) w)
+pub appends_record : (rule : Rule) (item : PlainRecord) (x : items.RecordItem) (mid fields new : PlainTarget) (w : Written) → IsRecordItem item x → Represents mid (append (encode_name rule x.owner) w)
     → fields.octets.items ≡ mid.octets.items ++ to_be_bytes w16 item.rtype ++ to_be_bytes w16 item.class ++ to_be_bytes w32 item.ttl → fields.table ≡ mid.table
     → ((w : Written) → Represents fields w → Represents new (append (with_length (encode_parts rule x.parts)) w)) → Represents new (append (encode_record rule x) w)
 unfolding encode_record

@@ -2,10 +2,11 @@
 use Rattle.std.proofs.Common.{◌≡◌, ◌≢◌, ℕ, ◌+◌, ◌<◌, Bool, true, false, cond, List, [], ◌∷◌, ◌++◌, length, ap, sym, ◌∙◌, subst, refl, arith, inl, inr, ◌⊎◌, append_assoc, length-append}
 use Rattle.std.specs.Prelude.{Option, Some, None, is_some, option_map, nat_lt, ◌&&◌}
 use Rattle.std.specs.Borrow.{Bor}
-use Rattle.std.specs.List.{list_all}
+use Rattle.std.specs.List.{list_all, AllZip}
 use Rattle.std.specs.FinMap.{get, insert, len, from_entries, get-empty, len-insert}
 use Rattle.std.proofs.lemmas.Bool.{and_parts}
 use Rattle.std.proofs.lemmas.Grind.{common_steps}
+use Rattle.std.proofs.lemmas.Slice.Zip.{AllZip-long}
 use Rattle.dns_name.specs.Names.{Labels, framed, uncompressed, pointer_end}
 use Rattle.dns_name.specs.Unique.{same_name}
 use Rattle.dns_name.proofs.theory.UncompressedNames.{name_at_uncompressed, name_tail}
@@ -15,18 +16,15 @@ use Rattle.dns_wire.specs.Targets.{Written, append}
 use Rattle.dns_wire.proofs.theory.CompressionTables.{get-insert_same, get-insert_other, insert_cases, AreShorter, get-add_suffixes_longer}
 use Rattle.dns_wire.proofs.theory.EncodedNames.{CompressesAs, compresses_as}
 use Rattle.dns_wire.proofs.theory.EncodedNames.CompressesAs.{at_root, at_entry, at_kept, at_far}
-use Rattle.tests_plain.specs.PlainNames.{IsNamed, AreEach, IsEntry, IsSuffix, AppendsCompressed, ListsTable, IsInRange, SplitsFirst, Compresses, Represents, rule_of}
+use Rattle.tests_plain.specs.PlainNames.{IsNamed, IsEntry, IsSuffix, AppendsCompressed, ListsTable, IsInRange, SplitsFirst, Compresses, Represents, rule_of}
 use Rattle.tests_plain.specs.declared.writing.Suffix.{Suffix}
 use Rattle.tests_plain.specs.declared.writing.PlainTarget.{PlainTarget}
-use Rattle.tests_plain.specs.declared.writing.Rule as plain
-use Rattle.tests_plain.specs.declared.writing.Rule.TheVariants as rules
+use Rattle.tests_plain.specs.declared.writing.PlainRule as plain
+use Rattle.tests_plain.specs.declared.writing.PlainRule.TheVariants as rules
 
 -- Related lists have the same length.
-pub same_count : {X Y : Type 0} (R : X → Y → Type 0) (xs : List X) (ys : List Y) → AreEach R xs ys → length xs ≡ length ys
-same_count R [] [] is = refl
-same_count R [] (y ∷ ys) is = absurd is
-same_count R (x ∷ xs) [] is = absurd is
-same_count R (x ∷ xs) (y ∷ ys) is = omega (arith, same_count R xs ys is.1)
+pub same_count : {X Y : Type 0} (R : X → Y → Type 0) (xs : List X) (ys : List Y) → AllZip R xs ys → length xs ≡ length ys
+same_count R xs ys is = sym (AllZip-long R xs ys is)
 
 -- Names with the same octets are the same.
 same_labels : (octets : List ℕ) (m n : Labels) → IsNamed octets m → IsNamed octets n → m ≡ n
@@ -41,7 +39,7 @@ pub finds_none : (table : List Suffix) (m : CompressionTable) (labels : Labels) 
 finds_none (s ∷ ss) m labels none t = absurd (omega arith)
 finds_none [] m labels none t = go t.entries t.listed t.whole
   where
-    go : (entries : List (Labels × TableEntry)) → AreEach IsEntry [] entries → m ≡ from_entries entries → None ≡ offset_in (get m labels)
+    go : (entries : List (Labels × TableEntry)) → AllZip IsEntry [] entries → m ≡ from_entries entries → None ≡ offset_in (get m labels)
     go [] l w = sym (ap (λ (m : CompressionTable). offset_in (get m labels)) w ∙ ap offset_in (get-empty suffix_cmp labels))
     go (e ∷ es) l w = absurd l
 
@@ -65,9 +63,9 @@ pub record Newest (first : Suffix) (older : List Suffix) (m : CompressionTable) 
 
 -- The first entry of a list is the newest of its name.
 pub newest : (table : List Suffix) (first : Suffix) (older : List Suffix) (m : CompressionTable) → table ≡ first ∷ older → ListsTable table m → Newest first older m
-newest table first older m e t = go t.entries (subst (λ xs. AreEach IsEntry xs t.entries) e t.listed) t.whole
+newest table first older m e t = go t.entries (subst (λ xs. AllZip IsEntry xs t.entries) e t.listed) t.whole
   where
-    go : (entries : List (Labels × TableEntry)) → AreEach IsEntry (first ∷ older) entries → m ≡ from_entries entries → Newest first older m
+    go : (entries : List (Labels × TableEntry)) → AllZip IsEntry (first ∷ older) entries → m ≡ from_entries entries → Newest first older m
     go [] l w = absurd l
     go (e ∷ es) l w = record {
       key = e.0;
@@ -98,16 +96,17 @@ module _ (rule : Rule) (m : CompressionTable) (offset entry_count : ℕ) (label 
   abbrev after : CompressedName
   after = compress rule m (offset + 1 + length label) (entry_count + 1) parent
 
+  -- If the label and then the compressed parent are appended, so is the compressed name, and its first suffix is the name itself.
   pub with_label : (old mid new : List ℕ) (first : Suffix) (others suffixes : List Suffix) → get m (label ∷ parent) ≡ None → may_enter rule offset entry_count ≡ true
       → mid ≡ old ++ framed label → AppendsCompressed mid new others after → IsNamed first.name.items (label ∷ parent) → first.offset ≡ offset → suffixes ≡ first ∷ others
       → AppendsCompressed old new suffixes (compress rule m offset entry_count (label ∷ parent))
   with_label old mid new first others suffixes none enters octets is named at all =
       let suffix : WrittenSuffix = record { labels = label ∷ parent; offset = offset } in
       let P : Option TableEntry → Bool → Type 0 = λ o b. AppendsCompressed old new suffixes (compress_label o b label suffix after) in
-      let each : AreEach IsSuffix (first ∷ others) (suffix ∷ after.suffixes) = (record { named = named; offset = at }, is.suffixes) in
+      let each : AllZip IsSuffix (first ∷ others) (suffix ∷ after.suffixes) = (record { named = named; offset = at }, is.suffixes) in
       let made : P None true = record {
         octets = is.octets ∙ ap (λ xs. xs ++ after.octets) octets ∙ append_assoc old (framed label) after.octets;
-        suffixes = subst (λ xs. AreEach IsSuffix xs (suffix ∷ after.suffixes)) (sym all) each;
+        suffixes = subst (λ xs. AllZip IsSuffix xs (suffix ∷ after.suffixes)) (sym all) each;
       } in
       subst (λ o. P o (may_enter rule offset entry_count)) (sym none) (subst (λ b. P None b) (sym enters) made)
 
@@ -134,7 +133,7 @@ compresses_first rule m offset entry_count (label ∷ parent) name parts old mid
     (with_label rule m offset entry_count label parent old mid new first others suffixes (no_entry _ none) enters whole after_is (subst (λ xs. IsNamed xs (label ∷ parent)) (sym same) is) at all)
 
 -- The suffixes of a name are added to a table.
-pub adds : (suffixes : List Suffix) (written : List WrittenSuffix) (table : List Suffix) (m : CompressionTable) (end : ℕ) → AreEach IsSuffix suffixes written → ListsTable table m
+pub adds : (suffixes : List Suffix) (written : List WrittenSuffix) (table : List Suffix) (m : CompressionTable) (end : ℕ) → AllZip IsSuffix suffixes written → ListsTable table m
     → ListsTable (suffixes ++ table) (add_suffixes m written end)
 adds [] [] table m end each t = t
 adds [] (w ∷ ws) table m end each t = absurd each
@@ -172,7 +171,7 @@ count_as {m = m} end (at_kept {p = p} {first = first} {rest = rest} {ss = ss} e 
 count_as {m = m} end (at_far e k) = omega arith
 
 -- The table and the suffixes are as long as the table after them.
-adds_count : (suffixes : List Suffix) (written : List WrittenSuffix) (table : List Suffix) (m : CompressionTable) (end : ℕ) → AreEach IsSuffix suffixes written
+adds_count : (suffixes : List Suffix) (written : List WrittenSuffix) (table : List Suffix) (m : CompressionTable) (end : ℕ) → AllZip IsSuffix suffixes written
     → length table ≡ len m → len (add_suffixes m written end) ≡ length written + len m
     → length (suffixes ++ table) ≡ len (add_suffixes m written end)
 adds_count suffixes written table m end each t added =
@@ -231,7 +230,7 @@ written_in_range rule m p entry_count name f = in_range_as f (compresses_as rule
 abbrev pub each_in_range : List Suffix → Bool
 each_in_range suffixes = list_all (λ suffix. nat_lt suffix.offset pointer_end) suffixes
 
-same_range : (suffixes : List Suffix) (written : List WrittenSuffix) → AreEach IsSuffix suffixes written → each_in_range suffixes ≡ list_all is_in_range written
+same_range : (suffixes : List Suffix) (written : List WrittenSuffix) → AllZip IsSuffix suffixes written → each_in_range suffixes ≡ list_all is_in_range written
 same_range [] [] each = refl
 same_range [] (w ∷ ws) each = absurd each
 same_range (s ∷ ss) [] each = absurd each
@@ -272,7 +271,8 @@ module _ (old new : PlainTarget) (labels : Labels) (w : Written) (r : Represents
     in_range = r.in_range;
   }
 
-  pub appends_compressed : (rule : plain.Rule) (suffixes : List Suffix) (b : Bool) → rule ≢ rules.Plain → AppendsCompressed old.octets.items new.octets.items suffixes (compressed_by (rule_of rule))
+  -- If a compressed name is appended, and its suffixes enter the table where all are in range, its encoding is appended.
+  pub appends_compressed : (rule : plain.PlainRule) (suffixes : List Suffix) (b : Bool) → rule ≢ rules.Plain → AppendsCompressed old.octets.items new.octets.items suffixes (compressed_by (rule_of rule))
       → b ≡ list_all is_in_range (compressed_by (rule_of rule)).suffixes
       → new.table.items ≡ cond b (suffixes ++ old.table.items) old.table.items
       → Represents new (append (encode_name (rule_of rule) labels) w)
@@ -288,7 +288,7 @@ module _ (old new : PlainTarget) (labels : Labels) (w : Written) (r : Represents
       with_entering Hash suffixes _ _ refl is (table ∙ ap (λ c. cond c (suffixes ++ old.table.items) old.table.items) all)
 
   -- The same, of what compressing the name at the end of the octets returned.
-  pub appends_name : (rule : plain.Rule) (name : List ℕ) (suffixes : List Suffix) (entry_count : ℕ) (b : Bool) → rule ≢ rules.Plain → IsNamed name labels
+  pub appends_name : (rule : plain.PlainRule) (name : List ℕ) (suffixes : List Suffix) (entry_count : ℕ) (b : Bool) → rule ≢ rules.Plain → IsNamed name labels
       → entry_count ≡ length old.table.items → Compresses (rule_of rule) name entry_count old new.octets.items suffixes
       → b ≡ each_in_range suffixes → new.table.items ≡ cond b (suffixes ++ old.table.items) old.table.items
       → Represents new (append (encode_name (rule_of rule) labels) w)

@@ -2,17 +2,18 @@
 use Rattle.std.specs.Prelude.{◌≡◌, ℕ, ◌<◌, List, [], ◌∷◌, ◌++◌, length, Option, Some, None}
 use Rattle.std.specs.FinMap.{get, from_entries, len}
 use Rattle.std.specs.Borrow.{Bor}
+use Rattle.std.specs.List.{AllZip}
 use Rattle.dns_name.specs.Names.{Labels, IsName, framed, uncompressed, pointer_end}
 use Rattle.dns_wire.specs.Encoders.{CompressionTable, TableEntry, Rule, Plain, Static, Tree, Hash, Encoder, CompressedName, compress}
 use Rattle.dns_wire.specs.Encoders as encoders
 use Rattle.dns_wire.specs.Targets.{Written, append}
-use Rattle.tests_plain.specs.declared.writing.Rule as plain
-use Rattle.tests_plain.specs.declared.writing.Rule.TheVariants as rules
+use Rattle.tests_plain.specs.declared.writing.PlainRule as plain
+use Rattle.tests_plain.specs.declared.writing.PlainRule.TheVariants as rules
 use Rattle.tests_plain.specs.declared.writing.Suffix.{Suffix}
 use Rattle.tests_plain.specs.declared.writing.PlainTarget.{PlainTarget}
 
 -- the rule
-abbrev pub rule_of : plain.Rule → Rule
+abbrev pub rule_of : plain.PlainRule → Rule
 rule_of rules.Plain = Plain
 rule_of rules.Static = Static
 rule_of rules.Tree = Tree
@@ -22,13 +23,6 @@ rule_of rules.Hash = Hash
 pub record IsNamed (octets : List ℕ) (name : Labels) : Type 0 where
   pub is_name : IsName name
   pub whole : octets ≡ uncompressed name
-
--- each value is related to the one at the same position, and there are no more of them
-abbrev pub AreEach : {X Y : Type 0} → (X → Y → Type 0) → List X → List Y → Type 0
-AreEach R [] [] = Unit {0}
-AreEach R [] (y ∷ ys) = ⊥
-AreEach R (x ∷ xs) [] = ⊥
-AreEach R (x ∷ xs) (y ∷ ys) = R x y × AreEach R xs ys
 
 -- the suffix is the key of the entry, with the entry's offset
 pub record IsEntry (suffix : Suffix) (entry : Labels × TableEntry) : Type 0 where
@@ -49,7 +43,7 @@ pub record IsSuffix (suffix : Suffix) (written : encoders.Suffix) : Type 0 where
 -- the suffixes are the entries of the table, the newest first
 pub record ListsTable (suffixes : List Suffix) (m : CompressionTable) : Type 0 where
   pub entries : List (Labels × TableEntry)
-  pub listed : AreEach IsEntry suffixes entries
+  pub listed : AllZip IsEntry suffixes entries
   pub whole : m ≡ from_entries entries
 
 -- a pointer can hold the offset of each entry
@@ -66,7 +60,7 @@ pub record Represents (plain : PlainTarget) (w : Written) : Type 0 where
 -- The octets are appended to those of the target, and the suffixes are in order those of the compressed name.
 pub record AppendsCompressed (old new : List ℕ) (plain_suffixes : List Suffix) (compressed : CompressedName) : Type 0 where
   pub octets : new ≡ old ++ compressed.octets
-  pub suffixes : AreEach IsSuffix plain_suffixes compressed.suffixes
+  pub suffixes : AllZip IsSuffix plain_suffixes compressed.suffixes
 
 -- A name is appended as it is compressed while the table has this number of entries, and the suffixes are its own.
 abbrev pub Compresses : Rule → List ℕ → ℕ → PlainTarget → List ℕ → List Suffix → Type 0

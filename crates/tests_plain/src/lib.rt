@@ -14,4 +14,6 @@ pub use reading::{
     EntryKind, Items, PlainEntry, PlainName, entries, entry_at, entry_end, name_at, name_end,
     section_start,
 };
-pub use writing::{Part, PlainMessage, PlainTarget, QuestionItem, RecordItem, Rule, encode};
+pub use writing::{
+    PlainMessage, PlainPart, PlainQuestion, PlainRecord, PlainRule, PlainTarget, encode,
+};

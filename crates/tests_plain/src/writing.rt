@@ -2,7 +2,7 @@
 //! uncompressed octets.
 ghost use Rattle.std.specs.Prelude.{[], ◌≡◌, ◌++◌, nat_lt, drop, ◌+◌, ◌<◌, ◌≤◌, ◌^◌, length, map, IfSome, OnOk, IfOk, option_map};
 ghost use Rattle.std.specs.FinMap.{get};
-ghost use Rattle.std.specs.List.{list_all};
+ghost use Rattle.std.specs.List.{list_all, AllZip};
 ghost use Rattle.std.specs.Int.{to_be_bytes, w16};
 ghost use Rattle.dns_name.specs.Names.{Labels, pointer_end};
 ghost use Rattle.dns_wire.specs.Encoders.{CompressionTable, may_enter, encode_name, with_length};
@@ -11,7 +11,7 @@ ghost use Rattle.dns_wire.specs.Targets.{with_empty_table};
 ghost use Rattle.dns_item.specs.Questions.{encode_question};
 ghost use Rattle.dns_item.specs.Items.{encode_record};
 ghost use Rattle.dns_build.specs.State.{State, all_of, encode};
-ghost use Rattle.tests_plain.specs.PlainNames.{rule_of, IsNamed, AreEach, SplitsFirst, ListsTable, Compresses, Represents, Appends};
+ghost use Rattle.tests_plain.specs.PlainNames.{rule_of, IsNamed, SplitsFirst, ListsTable, Compresses, Represents, Appends};
 ghost use Rattle.tests_plain.specs.PlainItems.{IsPart, IsQuestionItem, IsRecordItem, HasItems};
 
 use std::alloc::{AllocError, Global};
@@ -19,7 +19,7 @@ use std::alloc::{AllocError, Global};
 /// A rule by which names are compressed (RFC 1035 section 4.1.4): that of a target that doesn't
 /// compress, or of a static, tree or hash compressor.
 #[derive(Clone, Copy)]
-pub enum Rule {
+pub enum PlainRule {
     Plain,
     Static,
     Tree,
@@ -29,14 +29,14 @@ pub enum Rule {
 /// A part of RDATA: octets, or a name that may be compressed. A name that never is (RFC 3597
 /// section 4) is octets. Nothing is said of what is written for a name that is none.
 #[derive(Clone, Copy)]
-pub enum Part<'a> {
+pub enum PlainPart<'a> {
     Octets(&'a [u8]),
     CompressibleName(&'a [u8]),
 }
 
 /// A question (RFC 1035 section 4.1.2). Nothing is said of one whose `name` is no name.
 #[derive(Clone, Copy)]
-pub struct QuestionItem<'a> {
+pub struct PlainQuestion<'a> {
     pub name: &'a [u8],
     pub rtype: u16,
     pub class: u16,
@@ -45,22 +45,22 @@ pub struct QuestionItem<'a> {
 /// A record (RFC 1035 section 4.1.3). The TTL is in seconds. Nothing is said of one whose `owner`,
 /// or a name among whose parts, is no name.
 #[derive(Clone, Copy)]
-pub struct RecordItem<'a> {
+pub struct PlainRecord<'a> {
     pub owner: &'a [u8],
     pub rtype: u16,
     pub class: u16,
     pub ttl: u32,
-    pub parts: &'a [Part<'a>],
+    pub parts: &'a [PlainPart<'a>],
 }
 
 /// A message: the four octets before the counts, and the items of the sections.
 #[derive(Clone, Copy)]
 pub struct PlainMessage<'a> {
     pub header: [u8; 4],
-    pub questions: &'a [QuestionItem<'a>],
-    pub answers: &'a [RecordItem<'a>],
-    pub authorities: &'a [RecordItem<'a>],
-    pub additionals: &'a [RecordItem<'a>],
+    pub questions: &'a [PlainQuestion<'a>],
+    pub answers: &'a [PlainRecord<'a>],
+    pub authorities: &'a [PlainRecord<'a>],
+    pub additionals: &'a [PlainRecord<'a>],
 }
 
 /// A suffix that is written as labels, and its offset.
@@ -103,14 +103,14 @@ fn find(table: &[Suffix], name: &[u8]) -> Option<usize>
 }
 
 /// Whether a suffix at an offset may enter a table with this number of entries.
-fn may_enter(rule: Rule, offset: usize, entry_count: usize) -> bool
+fn may_enter(rule: PlainRule, offset: usize, entry_count: usize) -> bool
     ensures { result ≡ may_enter (rule_of rule) offset entry_count }
 {
     match rule {
-        Rule::Plain => false,
-        Rule::Static => offset < 16384 && entry_count < 24,
-        Rule::Tree => offset < 16384,
-        Rule::Hash => true,
+        PlainRule::Plain => false,
+        PlainRule::Static => offset < 16384 && entry_count < 24,
+        PlainRule::Tree => offset < 16384,
+        PlainRule::Hash => true,
     }
 }
 
@@ -154,7 +154,12 @@ impl PlainTarget {
 
     /// Appends a name as it is compressed while the table has `count` entries, and keeps the table.
     /// Returns the suffixes of the name that may enter it.
-    fn compress(&mut self, rule: Rule, name: &[u8], count: usize) -> Result<Vec<Suffix>, AllocError>
+    fn compress(
+        &mut self,
+        rule: PlainRule,
+        name: &[u8],
+        count: usize,
+    ) -> Result<Vec<Suffix>, AllocError>
         requires { count + length name.now < 2 ^ 64 }
         ensures table { OnOk result (self.new.table ≡ self.old.table) }
         ensures octets { IfOk result (λ suffixes.
@@ -182,11 +187,11 @@ impl PlainTarget {
     }
 
     /// Appends a name by a rule. Nothing is said of octets that are no name.
-    pub fn push_name(&mut self, rule: Rule, name: &[u8]) -> Result<(), AllocError>
+    pub fn push_name(&mut self, rule: PlainRule, name: &[u8]) -> Result<(), AllocError>
         ensures { OnOk result
             (Appends (IsNamed name.now) (encode_name (rule_of rule)) self.old self.new) }
     {
-        if let Rule::Plain = rule {
+        if let PlainRule::Plain = rule {
             self.octets.extend_from_slice(name)?;
             return Ok(());
         }
@@ -199,20 +204,20 @@ impl PlainTarget {
         Ok(())
     }
 
-    fn push_part(&mut self, rule: Rule, part: Part<'_>) -> Result<(), AllocError>
+    fn push_part(&mut self, rule: PlainRule, part: PlainPart<'_>) -> Result<(), AllocError>
         ensures { OnOk result
             (Appends (IsPart part.entry) (encode_part (rule_of rule)) self.old self.new) }
     {
         match part {
-            Part::Octets(octets) => self.octets.extend_from_slice(octets)?,
-            Part::CompressibleName(name) => self.push_name(rule, name)?,
+            PlainPart::Octets(octets) => self.octets.extend_from_slice(octets)?,
+            PlainPart::CompressibleName(name) => self.push_name(rule, name)?,
         }
         Ok(())
     }
 
-    fn push_parts(&mut self, rule: Rule, parts: &[Part<'_>]) -> Result<(), AllocError>
+    fn push_parts(&mut self, rule: PlainRule, parts: &[PlainPart<'_>]) -> Result<(), AllocError>
         ensures { OnOk result
-            (Appends (AreEach IsPart parts.now) (encode_parts (rule_of rule)) self.old self.new) }
+            (Appends (AllZip IsPart parts.now) (encode_parts (rule_of rule)) self.old self.new) }
     {
         let Some((first, others)) = parts.split_first() else {
             return Ok(());
@@ -223,8 +228,8 @@ impl PlainTarget {
     }
 
     /// Appends RDATA after its length.
-    fn push_rdata(&mut self, rule: Rule, parts: &[Part<'_>]) -> Result<(), AllocError>
-        ensures { OnOk result (Appends (AreEach IsPart parts.now)
+    fn push_rdata(&mut self, rule: PlainRule, parts: &[PlainPart<'_>]) -> Result<(), AllocError>
+        ensures { OnOk result (Appends (AllZip IsPart parts.now)
             (λ x. with_length (encode_parts (rule_of rule) x)) self.old self.new) }
     {
         let start = self.octets.len();
@@ -238,8 +243,12 @@ impl PlainTarget {
         Ok(())
     }
 
-    fn push_questions(&mut self, rule: Rule, items: &[QuestionItem<'_>]) -> Result<(), AllocError>
-        ensures { OnOk result (Appends (AreEach IsQuestionItem items.now)
+    fn push_questions(
+        &mut self,
+        rule: PlainRule,
+        items: &[PlainQuestion<'_>],
+    ) -> Result<(), AllocError>
+        ensures { OnOk result (Appends (AllZip IsQuestionItem items.now)
             (λ xs. all_of (map (encode_question (rule_of rule)) xs)) self.old self.new) }
     {
         let Some((question, others)) = items.split_first() else {
@@ -252,8 +261,8 @@ impl PlainTarget {
         Ok(())
     }
 
-    fn push_records(&mut self, rule: Rule, items: &[RecordItem<'_>]) -> Result<(), AllocError>
-        ensures { OnOk result (Appends (AreEach IsRecordItem items.now)
+    fn push_records(&mut self, rule: PlainRule, items: &[PlainRecord<'_>]) -> Result<(), AllocError>
+        ensures { OnOk result (Appends (AllZip IsRecordItem items.now)
             (λ xs. all_of (map (encode_record (rule_of rule)) xs)) self.old self.new) }
     {
         let Some((record, others)) = items.split_first() else {
@@ -270,7 +279,11 @@ impl PlainTarget {
 }
 
 /// Returns the octets of a message, with names compressed by a rule.
-pub fn encode(alloc: Global, rule: Rule, message: &PlainMessage<'_>) -> Result<Vec<u8>, AllocError>
+pub fn encode(
+    alloc: Global,
+    rule: PlainRule,
+    message: &PlainMessage<'_>,
+) -> Result<Vec<u8>, AllocError>
     ensures { IfOk result (λ octets. (s : State) → HasItems message.now s
         → octets.items ≡ (encode (rule_of rule) s).octets) }
 {

@@ -10,7 +10,7 @@ use dns_target::{FingerprintCompressor, HashCompressor, StaticCompressor, TreeCo
 use dns_wire::Composer;
 use std::alloc::Global;
 use std::process::Abort;
-use tests_plain::{PlainTarget, Rule};
+use tests_plain::{PlainRule, PlainTarget};
 
 const ROOT: &[u8] = b"\x00";
 
@@ -84,7 +84,7 @@ fn compression_lens(rt: &impl Abort, alloc: Global, names: &[&[u8]]) -> Vec<usiz
 }
 
 /// The plain encoding of names by a rule.
-fn plain_octets(rt: &impl Abort, alloc: Global, rule: Rule, names: &[&[u8]]) -> Vec<u8> {
+fn plain_octets(rt: &impl Abort, alloc: Global, rule: PlainRule, names: &[&[u8]]) -> Vec<u8> {
     let mut plain = PlainTarget::new(alloc);
     for name in names {
         plain.push_name(rule, name).expect(rt, "memory");
@@ -120,13 +120,13 @@ fn assert_shortest(rt: &impl Abort, alloc: Global, names: &[&[u8]]) -> usize {
 
 /// Fails unless the names take `len` octets on each compressor, and are the plain encoding.
 fn assert_len(rt: &impl Abort, alloc: Global, names: &[&[u8]], len: Option<usize>) {
-    let octets = plain_octets(rt, alloc, Rule::Static, names);
+    let octets = plain_octets(rt, alloc, PlainRule::Static, names);
     let offsets = StaticCompressor::new(Vec::new(alloc));
     assert_written(rt, "a static compressor", offsets, names, &octets, len);
-    let octets = plain_octets(rt, alloc, Rule::Hash, names);
+    let octets = plain_octets(rt, alloc, PlainRule::Hash, names);
     let hash = HashCompressor::new(alloc, Vec::new(alloc));
     assert_written(rt, "a hash compressor", hash, names, &octets, len);
-    let octets = plain_octets(rt, alloc, Rule::Tree, names);
+    let octets = plain_octets(rt, alloc, PlainRule::Tree, names);
     let tree = TreeCompressor::new(alloc, Vec::new(alloc));
     assert_written(rt, "a tree compressor", tree, names, &octets, len);
     let fingerprints = FingerprintCompressor::new(alloc, Vec::new(alloc));

@@ -2,7 +2,8 @@ use Rattle.std.proofs.Common.{◌≡◌, ◌∙◌, ◌++◌, Some, true, false,
 use Rattle.std.proofs.lemmas.Iterator.Splits.{YieldsList-from_lines}
 use Rattle.std.specs.Str.Lines.{lines}
 use Rattle.cases_files.specs.Block.{all_lines, is_content, is_kept}
-use Rattle.cases_files.proofs.ReadLines.{texts, starts, skips, keeps, ends, all_lines-push, texts-push}
+use Rattle.cases_files.specs.Line.{texts}
+use Rattle.cases_files.proofs.ReadLines.{starts, skips, keeps, ends, all_lines-push, texts-push}
 use Rattle.cases_files.proofs.block.blocks.Goals as goal
 
 pub loop-line-init : goal.loop-line-init

@@ -1,7 +1,8 @@
 use Rattle.std.proofs.Common.{◌++◌}
 use Rattle.std.specs.Str.Lines.{lines}
 use Rattle.cases_files.specs.Block.{all_lines}
-use Rattle.cases_files.proofs.ReadLines.{texts, HasRead}
+use Rattle.cases_files.specs.Line.{texts}
+use Rattle.cases_files.proofs.ReadLines.{HasRead}
 use Rattle.cases_files.proofs.block.blocks.Given as goal
 
 abbrev pub invariant-loop-line : goal.invariant-loop-line

@@ -2,7 +2,7 @@ use Rattle.std.proofs.Common.{sym, ◌∙◌, ◌≡◌, ap, subst, refl, true, 
 use Rattle.dns_wire.specs.Encoders.{encode_name}
 use Rattle.dns_wire.specs.Targets.{append}
 use Rattle.tests_plain.specs.PlainNames.{rule_of, Represents}
-use Rattle.tests_plain.specs.declared.writing.Rule.{Rule}
+use Rattle.tests_plain.specs.declared.writing.PlainRule.{PlainRule}
 use Rattle.tests_plain.specs.declared.writing.PlainTarget.{PlainTarget}
 use Rattle.tests_plain.proofs.TableSteps.{appends_plain, appends_name, each_in_range}
 use Rattle.tests_plain.proofs.writing.PlainTarget.push_name.Goals as goal
@@ -10,7 +10,7 @@ use Rattle.tests_plain.proofs.writing.PlainTarget.push_name.Goals as goal
 pub returns-in-Plain : goal.returns-in-Plain
 returns-in-Plain c = λ x w is r.
     let new : PlainTarget = record { octets = c.extend_from_slice.new.self; table = c.args.self.now.table } in
-    subst (λ (rule : Rule). Represents new (append (encode_name (rule_of rule) x) w)) (sym c.in-Plain.is)
+    subst (λ (rule : PlainRule). Represents new (append (encode_name (rule_of rule) x) w)) (sym c.in-Plain.is)
     (appends_plain c.args.self.now new x w r c.args.name.now is c.in_ok-extend_from_slice.ensures.items refl)
 
 pub returns-in_ok-append : goal.returns-in_ok-append
