@@ -1,10 +1,11 @@
--- How long the texts of names are.
-use Rattle.std.proofs.Common.{ℕ, ◌+◌, ◌*◌, ◌≤◌, List, [], ◌∷◌, length, length-append, arith}
+-- How long names and their texts are.
+use Rattle.std.proofs.Common.{◌≡◌, ℕ, inl, inr, ap, ◌+◌, ◌*◌, ◌≤◌, List, [], ◌∷◌, length, length-append, arith}
 use Rattle.std.proofs.lemmas.Bool.Decides.{nat_tests}
 use Rattle.std.proofs.lemmas.List.Elements.{All-head, All-tail}
 use Rattle.std.specs.Prelude.{All}
-use Rattle.dns_name.specs.Names.{Labels, IsLabel, IsName, name_size}
-use Rattle.dns_name.specs.NameTexts.{octet_text, label_text, name_text}
+use Rattle.dns_name.specs.Names.{Labels, IsLabel, IsName, name_size, uncompressed}
+use Rattle.dns_name.specs.NameTexts.{SpellsName, octet_text, label_text, name_text}
+use Rattle.dns_name.proofs.theory.LabelsLemmas.{length-uncompressed}
 
 octet_short : (o : ℕ) → length (octet_text o) ≤ 4
 octet_short o = grind (arith, nat_tests)
@@ -45,3 +46,8 @@ name_text_short (label ∷ name) is =
     let count = counted label name is.labels in
     let short = is.short in
     omega arith
+
+-- a name that a text represents has at most 255 octets
+pub spelled_short : (text : List ℕ) (name : Labels) → SpellsName text name → length (uncompressed name) ≤ 255
+spelled_short text name (inl is) = let size : length (uncompressed name) ≡ 1 = ap (λ (n : Labels). length (uncompressed n)) is.1 in omega arith
+spelled_short text name (inr is) = let size = length-uncompressed name in let short = is.1.short in omega arith

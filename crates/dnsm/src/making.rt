@@ -5,9 +5,9 @@ ghost use Rattle.dns_code.specs.Header.{fields_in};
 ghost use Rattle.dns_code.specs.HeaderSection.{header_size};
 ghost use Rattle.dns_item.specs.Questions.{QuestionItem};
 ghost use Rattle.dnsm_make.specs.Built.{HasTooMany, IsBuilt, IsUnbuilt, header_of};
-ghost use Rattle.dnsm_status.specs.CallerBuffers.{WritesOctets};
+ghost use Rattle.dnsm_status.specs.CallerBuffers.{IsLonger, WritesOctets};
 ghost use Rattle.dnsm_status.specs.Codes.{number_of};
-ghost use Rattle.dnsm_make.specs.Made.{AsksNothing, AsksOne, IsLonger, IsQuery, IsResponse};
+ghost use Rattle.dnsm_make.specs.Made.{AsksNothing, AsksOne, IsQuery, IsResponse};
 ghost use Rattle.dnsm_read.specs.Asked.{HoldsQuery};
 ghost use Rattle.dnsm_text.specs.Texts.{SpellsNoName};
 

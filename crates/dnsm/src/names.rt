@@ -49,6 +49,7 @@ pub extern "C" fn dnsm_name_octets(
     ensures no_room { result ≡ number_of CallError.NoRoom → (name : Labels)
         × NameAt message.now place name × (length out.old < length (uncompressed name))
         × (len.new ≡ length (uncompressed name)) }
+    ensures short { result ≡ number_of CallError.NoRoom → length out.old < 255 }
     ensures no_name { result ≢ 0 → result ≢ number_of CallError.NoRoom
         → LacksName message.now place result }
 {
@@ -84,6 +85,7 @@ pub extern "C" fn dnsm_name_from_text(text: &[u8], out: &mut [u8], len: &mut usi
     ensures no_room { result ≡ number_of CallError.NoRoom → (name : Labels)
         × SpellsName text.now name × (length out.old < length (uncompressed name))
         × (len.new ≡ length (uncompressed name)) }
+    ensures short { result ≡ number_of CallError.NoRoom → length out.old < 255 }
     ensures no_name { result ≢ 0 → result ≢ number_of CallError.NoRoom
         → (result ≡ number_of CallError.BadText) × SpellsNoName text.now }
 {

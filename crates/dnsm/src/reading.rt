@@ -1,16 +1,12 @@
-//! Reads messages with a cursor.
-ghost use Rattle.std.specs.Prelude.{◌≡◌, ◌≢◌, ◌<◌, ◌≤◌, ◌+◌, ◌-◌, ◌^◌, ◌++◌, ◌∷◌, ℕ, [], length, take, min, get_or};
-ghost use Rattle.dns_name.specs.Names.{Labels, NameAt};
+//! Reads messages with a cursor, and compares a response with its query.
+ghost use Rattle.std.specs.Prelude.{◌≡◌, ◌≢◌, ◌<◌, ◌≤◌, ◌+◌, ℕ, length};
 ghost use Rattle.dns_code.specs.HeaderSection.{header_size};
-ghost use Rattle.dns_item.specs.Items.{RecordEntry};
-ghost use Rattle.dnsm_status.specs.CallerBuffers.{WritesText};
 ghost use Rattle.dnsm_status.specs.Codes.{number_of};
-ghost use Rattle.dnsm_read.specs.DataNames.{IsDataName, LacksDataName, data_end, up_to_data_end};
+ghost use Rattle.dnsm_read.specs.Responses.{Answers, LacksAnswer};
 ghost use Rattle.dnsm_read.specs.Steps.{EndsFrom, IsOpen, Opens, Spans, GivesNext};
-ghost use Rattle.dnsm_read.specs.DataTexts.{NoRecordAt, RecordAt, data_text};
 
-use dnsm_read::{Cursor, Header, Item, data_name, data_text, walk};
-use dnsm_status::{CallError, buffers, code};
+use dnsm_read::{Cursor, Header, Item, answers, walk};
+use dnsm_status::{CallError, code};
 
 /// Reads the header, and sets the cursor before the first question.
 #[unsafe(no_mangle)]
@@ -53,59 +49,16 @@ pub extern "C" fn dnsm_next(message: &[u8], cursor: &mut Cursor, item: &mut Item
     code::of(walk::next(message, cursor, item))
 }
 
-/// Writes the RDATA of a record in presentation format, and a zero octet: by the fields of its
-/// type, or as octets (RFC 3597 section 5) if it is malformed.
+/// Checks that a response answers a query: QR is set, and its ID, its opcode and its questions are
+/// those of the query. Names are compared ASCII case-insensitively.
 #[unsafe(no_mangle)]
-pub extern "C" fn dnsm_data_text(
-    message: &[u8],
-    item: &Item,
-    out: &mut [u8],
-    len: &mut usize,
-) -> u32
-    ensures writes { WritesText out.old out.new len.new result }
-    ensures ended { result ≡ 0 → get_or out.new len.new 1 ≡ 0 }
-    ensures text { result ≡ 0 → (x : RecordEntry) × RecordAt message.now item.now.place x
-        × (take (len.new + 1) out.new ≡ data_text message.now x ++ 0 ∷ []) }
-    ensures no_room { result ≡ number_of CallError.NoRoom → (x : RecordEntry)
-        × RecordAt message.now item.now.place x
-        × (length out.old < length (data_text message.now x) + 1)
-        × (len.new ≡ min (length (data_text message.now x)) (2 ^ 64 - 1)) }
-    ensures question { item.now.section ≡ 0 → result ≡ number_of CallError.BadSection }
-    ensures no_record { item.now.section ≢ 0 → result ≢ 0 → result ≢ number_of CallError.NoRoom
-        → NoRecordAt message.now item.now.place result }
-    ensures reported { result ≢ 0 → (fault : CallError) × (result ≡ number_of fault) }
+pub extern "C" fn dnsm_answers(query: &[u8], response: &[u8]) -> u32
+    ensures answers { result ≡ 0 → Answers query.now response.now }
+    ensures accepted { Answers query.now response.now → result ≡ 0 }
+    ensures none { result ≢ 0 → LacksAnswer query.now response.now result }
 {
-    match data_text::data(message, item, out) {
-        Ok(end) => buffers::finish(end, out, len),
-        Err(fault) => buffers::refuse(fault, len),
-    }
-}
-
-/// Sets `place` to the offset of the name with this index in the RDATA of a record. The name is read
-/// without the octets after the RDATA. A question has no RDATA.
-#[unsafe(no_mangle)]
-pub extern "C" fn dnsm_data_name(
-    message: &[u8],
-    item: &Item,
-    index: usize,
-    place: &mut usize,
-) -> u32
-    ensures question { item.now.section ≡ 0 → result ≡ number_of CallError.BadSection }
-    ensures name { result ≡ 0 → IsDataName message.now item.now index place.new }
-    ensures read { result ≡ 0 → (name : Labels)
-        × NameAt (up_to_data_end message.now item.now) place.new name
-        × NameAt message.now place.new name }
-    ensures within { result ≡ 0 → (item.now.«data» ≤ place.new)
-        × (place.new < data_end item.now) }
-    ensures none { item.now.section ≢ 0 → result ≢ 0
-        → LacksDataName message.now item.now index result }
-    ensures unchanged { result ≢ 0 → place.new ≡ place.old }
-{
-    match data_name::data_name(message, item, index) {
-        Ok(found) => {
-            *place = found;
-            0
-        }
+    match answers::answers(query, response) {
+        Ok(()) => 0,
         Err(fault) => code::of_fault(fault),
     }
 }

@@ -16,10 +16,6 @@ use Rattle.dnsm_read.specs.Asked.{HoldsQuery}
 use Rattle.dnsm_status.specs.Codes.{number_of, ReportsFault}
 use Rattle.dnsm_status.specs.declared.code.CallError.TheVariants as faults
 
--- some octets with this property are n, more than `capacity`
-abbrev pub IsLonger : (List ℕ → Type 0) → ℕ → ℕ → Type 0
-IsLonger P capacity n = (octets : List ℕ) × P octets × (capacity < length octets) × (n ≡ length octets)
-
 -- the state with a header and one question
 abbrev pub asking : HeaderFields → QuestionItem → State
 asking header x = record fresh { stage = InQuestion; header = header; questions = x ∷ [] }

@@ -4,10 +4,9 @@ use Rattle.dns_wire.specs.TargetLaws.{Agree}
 use Rattle.dns_item.specs.Questions.{QuestionItem}
 use Rattle.dns_item.specs.Items.{RecordItem}
 use Rattle.dns_build.specs.State.{State, with_question, with_record, InAnswer, InAuthority, InAdditional}
-use Rattle.dnsm_put.specs.declared.draft.PutItem.{PutItem}
 use Rattle.dnsm_put.specs.declared.draft.Draft.{Draft}
-use Rattle.dnsm_put.specs.Items.{IsQuestionOf, IsRecordOf, QuestionFrom, RecordFrom, HoldsQuestion, HoldsRecord}
-use Rattle.dnsm_put.specs.Drafts.{AllFrom, IsDraftOf, Adds, DraftsStay}
+use Rattle.dnsm_put.specs.Items.{QuestionFrom, RecordFrom, HoldsQuestion, HoldsRecord}
+use Rattle.dnsm_put.specs.Drafts.{AllFrom, IsDraftOf, AddsTo, DraftsStay}
 use Rattle.dnsm_put.proofs.Buffers.{agree_both, agree_of_take, kept_later}
 
 all_more : {X : Type 0} (P : ℕ → ℕ → X → Type 0) (xs : List X) (p q r : ℕ) (x : X) → AllFrom P xs p q → P q r x → AllFrom P (xs ++ x ∷ []) p r
@@ -171,9 +170,10 @@ put_additional_to b c d e s x p holds i =
     }
 
 -- an item that was put adds to the state
-pub adds : (b c : List ℕ) (d e : Draft) (item : PutItem) → Put b c d e item.section → (item.section ≡ 0 → (x : QuestionItem) → IsQuestionOf item x → HoldsQuestion c d.len e.len x)
-    → (item.section ≢ 0 → (x : RecordItem) → IsRecordOf item x → HoldsRecord c d.len e.len x) → Adds b c d e item
-adds b c d e item p question other =
+pub adds : (IsAsked : QuestionItem → Type 0) (IsStated : RecordItem → Type 0) (b c : List ℕ) (d e : Draft) (section : ℕ) → Put b c d e section
+    → (section ≡ 0 → (x : QuestionItem) → IsAsked x → HoldsQuestion c d.len e.len x) → (section ≢ 0 → (x : RecordItem) → IsStated x → HoldsRecord c d.len e.len x)
+    → AddsTo section IsAsked IsStated b c d e
+adds IsAsked IsStated b c d e section p question other =
     let P : ℕ → Type 0 = λ k. Put b c d e k in
     record {
       question = λ z s x i of. put_question_to b c d e s x (subst P z p) (question z x of) i;

@@ -18,7 +18,7 @@ use Rattle.dnsm_put.specs.declared.rdata.Layout.{Layout}
 use Rattle.dnsm_put.specs.declared.rdata.Layout.TheVariants.{Name, TwoNames, Plain}
 use Rattle.dnsm_put.specs.Rdata.{AreDataOf, HasFields, layout_of, octets_alone}
 use Rattle.dnsm_put.specs.Writing.{IsPut, AreWritten, IsNamed}
-use Rattle.dnsm_put.specs.Items.{IsQuestionOf, IsRecordOf, Means, HoldsQuestion, HoldsRecord}
+use Rattle.dnsm_put.specs.Items.{IsQuestionOf, IsRecordOf, IsRecordWith, Means, HoldsQuestion, HoldsRecord}
 use Rattle.dnsm_put.proofs.Buffers.{at_over, length_over, take_over, at_agreed, agree_of_take, agree_both, agree_from, agree_to, agree_after}
 
 -- a question at its offset
@@ -77,13 +77,19 @@ holds_question out1 out2 p r q most fields item x of low named room fe put c a =
       pointed = (r, named.pointed c b0 b2, j);
     }
 
+-- The record that an item means has the parts that it has.
+pub with_parts : (item : PutItem) (x : RecordItem) → IsRecordOf item x → IsRecordWith item x.parts x
+with_parts item x of = record { is_record = of.is_record; owner = of.owner; rtype = of.rtype; class = of.class; ttl = of.ttl; parts = refl }
+
 -- a record that was written: its owner, its fields, its RDATA, and then RDLENGTH
-pub holds_record : (out1 out2 out3 out4 : List ℕ) (p r start q most : ℕ) (fields sized : List ℕ) (item : PutItem) (x : RecordItem) → IsRecordOf item x → 12 ≤ p
+pub holds_record : (out1 out2 out3 out4 : List ℕ) (p r start q most : ℕ) (fields sized : List ℕ) (item : PutItem) (x : RecordItem) (ps : List Part) → IsRecordWith item ps x → 12 ≤ p
     → IsNamed out1 p p r x.owner → most ≤ length out1
     → fields ≡ to_be_bytes w16 item.rtype ++ to_be_bytes w16 item.class ++ to_be_bytes w32 item.ttl ++ (0 ∷ 0 ∷ []) → IsPut out1 out2 r most fields start
-    → take start out3 ≡ take start out2 → length out3 ≡ length out2 → AreWritten out3 r start q x.parts → q - start ≤ 65535
+    → take start out3 ≡ take start out2 → length out3 ≡ length out2 → AreWritten out3 r start q ps → q - start ≤ 65535
     → sized ≡ to_be_bytes w16 (q - start) → out4 ≡ overwritten out3 (r + 8) sized → q ≤ most → HoldsRecord out4 p q x
-holds_record out1 out2 out3 out4 p r start q most fields sized item x of low named room fe put2 kept long3 written few ze e4 within c a =
+holds_record out1 out2 out3 out4 p r start q most fields sized item x ps of low named room fe put2 kept long3 wrote few ze e4 within c a =
+    let W : List Part → Type 0 = λ qs. AreWritten out3 r start q qs in
+    let written : AreWritten out3 r start q x.parts = subst W (sym of.parts) wrote in
     let e2 = put2.written in
     let es = put2.ends in
     let f : fields ≡ record_fields x ++ (0 ∷ 0 ∷ []) = fe ∙ (λ i. to_be_bytes w16 (sym of.rtype i) ++ to_be_bytes w16 (sym of.class i) ++ to_be_bytes w32 (sym of.ttl i) ++ (0 ∷ 0 ∷ [])) in

@@ -2,6 +2,10 @@ pub mod Buffers
 pub mod Steps
 pub mod NamesWritten
 pub mod RdataWritten
+pub mod DataChecked
+pub mod FieldsWritten
+pub mod Copied
+pub mod Responses
 pub mod ItemsWritten
 pub mod Drafts
 pub mod Finished

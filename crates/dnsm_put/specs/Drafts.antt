@@ -1,5 +1,5 @@
 -- Messages under construction in a buffer. RFC 1035 section 4.1.
-use Rattle.std.specs.Prelude.{◌≡◌, ℕ, ◌<◌, ◌≤◌, List, [], ◌∷◌, ◌++◌, length, get_or}
+use Rattle.std.specs.Prelude.{◌≡◌, ℕ, ◌-◌, ◌^◌, ◌<◌, ◌≤◌, List, [], ◌∷◌, ◌++◌, length, get_or, replicate}
 use Rattle.std.specs.Int.{to_be_bytes, w16}
 use Rattle.dns_wire.specs.TargetLaws.{Agree}
 use Rattle.dns_item.specs.Questions.{QuestionItem}
@@ -39,12 +39,30 @@ pub record IsDraftOf (b : List ℕ) (d : Draft) (s : State) : Type 0 where
   pub no_additionals : d.section < 3 → s.additionals ≡ []
   pub items : (c : List ℕ) → Agree b c 12 d.len → HoldsItems c d.len s
 
--- what an accepted item adds to the state, in its section
-pub record Adds (b c : List ℕ) (d e : Draft) (item : PutItem) : Type 0 where
-  pub question : item.section ≡ 0 → (s : State) (x : QuestionItem) → IsDraftOf b d s → IsQuestionOf item x → IsDraftOf c e (with_question x s)
-  pub answer : item.section ≡ 1 → (s : State) (x : RecordItem) → IsDraftOf b d s → IsRecordOf item x → IsDraftOf c e (with_record InAnswer x s)
-  pub authority : item.section ≡ 2 → (s : State) (x : RecordItem) → IsDraftOf b d s → IsRecordOf item x → IsDraftOf c e (with_record InAuthority x s)
-  pub additional : item.section ≡ 3 → (s : State) (x : RecordItem) → IsDraftOf b d s → IsRecordOf item x → IsDraftOf c e (with_record InAdditional x s)
+-- What an accepted item adds to the state, in its section: the question, or the record, that it is.
+pub record AddsTo (section : ℕ) (IsAsked : QuestionItem → Type 0) (IsStated : RecordItem → Type 0) (b c : List ℕ) (d e : Draft) : Type 0 where
+  pub question : section ≡ 0 → (s : State) (x : QuestionItem) → IsDraftOf b d s → IsAsked x → IsDraftOf c e (with_question x s)
+  pub answer : section ≡ 1 → (s : State) (x : RecordItem) → IsDraftOf b d s → IsStated x → IsDraftOf c e (with_record InAnswer x s)
+  pub authority : section ≡ 2 → (s : State) (x : RecordItem) → IsDraftOf b d s → IsStated x → IsDraftOf c e (with_record InAuthority x s)
+  pub additional : section ≡ 3 → (s : State) (x : RecordItem) → IsDraftOf b d s → IsStated x → IsDraftOf c e (with_record InAdditional x s)
+
+-- what an item of the caller adds
+abbrev pub Adds : List ℕ → List ℕ → Draft → Draft → PutItem → Type 0
+Adds b c d e item = AddsTo item.section (IsQuestionOf item) (IsRecordOf item) b c d e
+
+-- A draft with this ID and flags, and without items, limit, reserved octets and hints.
+abbrev pub empty_draft : ℕ → ℕ → Draft
+empty_draft id flags = record {
+  len = header_size;
+  limit = 2 ^ 64 - 1;
+  reserved = 0;
+  id = id;
+  flags = flags;
+  counts = replicate 4 0;
+  section = 0;
+  unchecked = 0;
+  hints = replicate 64 0;
+}
 
 -- Each draft that is no longer than `len` and was one of a state still is. So a copy of a draft can be used again after more items were put, and a refused item changes nothing.
 abbrev pub DraftsStay : List ℕ → List ℕ → ℕ → Type 0

@@ -1,7 +1,7 @@
 -- What the items of a caller mean, and where they are encoded. RFC 1035 sections 4.1.2 and 4.1.3.
 use Rattle.std.specs.Prelude.{◌≡◌, ◌≢◌, ℕ, ◌+◌, List, length, ◌==◌, if◌then◌else◌}
 use Rattle.dns_name.specs.Names.{uncompressed}
-use Rattle.dns_wire.specs.Parts.{PartsPointed}
+use Rattle.dns_wire.specs.Parts.{Part, PartsPointed}
 use Rattle.dns_wire.specs.TargetLaws.{Agree}
 use Rattle.dns_item.specs.Questions.{QuestionItem, IsQuestion, ReadsQuestion}
 use Rattle.dns_item.specs.Items.{RecordItem, IsRecord, ReadsRecordItem}
@@ -24,6 +24,15 @@ pub record IsRecordOf (item : PutItem) (x : RecordItem) : Type 0 where
   pub class : x.class ≡ item.class
   pub ttl : x.ttl ≡ item.ttl
   pub parts : AreDataOf (layout_of item) item.rdata.now x.parts
+
+-- the record with the numbers and the name of an item, and with these fields as its RDATA
+pub record IsRecordWith (item : PutItem) (fields : List Part) (x : RecordItem) : Type 0 where
+  pub is_record : IsRecord x
+  pub owner : item.name.now ≡ uncompressed x.owner
+  pub rtype : x.rtype ≡ item.rtype
+  pub class : x.class ≡ item.class
+  pub ttl : x.ttl ≡ item.ttl
+  pub parts : x.parts ≡ fields
 
 -- The item means a question, or a record.
 pub record Means (item : PutItem) : Type 0 where

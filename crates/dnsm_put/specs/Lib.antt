@@ -4,3 +4,5 @@ pub mod Items
 pub mod Drafts
 pub mod Refusals
 pub mod PutLayouts
+pub mod Responses
+pub mod Copies

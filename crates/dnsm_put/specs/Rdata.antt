@@ -3,6 +3,8 @@ use Rattle.std.specs.Prelude.{◌≡◌, ℕ, zero, suc, ◌≤◌, List, [], �
 use Rattle.dns_name.specs.Names.{Labels, IsName, uncompressed}
 use Rattle.dns_name.specs.Uncompressed.{IsUncompressed}
 use Rattle.dns_wire.specs.Parts.{Part, Octets, CompressibleName}
+use Rattle.fields_octets.specs.LayoutTypes.{layout_type}
+use Rattle.fields_octets.specs.UncompressedData.{IsUncompressedData}
 use Rattle.dnsm_put.specs.declared.draft.PutItem.{PutItem}
 use Rattle.dnsm_put.specs.declared.rdata.Layout.{Layout}
 use Rattle.dnsm_put.specs.declared.rdata.Layout.TheVariants.{Name, TwoNames, Plain}
@@ -58,3 +60,11 @@ abbrev pub AreDataOf : Layout → List ℕ → List Part → Type 0
 AreDataOf (Name before) rdata parts = (n : Labels) × (parts ≡ octets_before before rdata ++ (CompressibleName n ∷ [])) × (drop before rdata ≡ uncompressed n)
 AreDataOf (TwoNames after) rdata parts = (t : AreTwoNames after rdata) × (parts ≡ CompressibleName t.first ∷ CompressibleName t.second ∷ octets_alone t.rest)
 AreDataOf Plain rdata parts = parts ≡ octets_alone rdata
+
+-- the type by whose fields the RDATA of an item is read. RFC 2136 section 2.4
+abbrev pub data_type : PutItem → ℕ
+data_type item = layout_type item.class (length item.rdata.now) item.rtype
+
+-- The RDATA of an item is the fields of its record type, uncompressed.
+abbrev pub IsTypeData : PutItem → Type 0
+IsTypeData item = (parts : List Part) × IsUncompressedData (data_type item) item.rdata.now parts

@@ -8,8 +8,12 @@ use Rattle.dnsm_put.specs.declared.draft.PutError.{PutError}
 use Rattle.dnsm_put.specs.declared.draft.PutError.TheVariants.{BadSection, BadName, LongData, BadData, TooMany, NoRoom}
 use Rattle.dnsm_status.specs.declared.code.CallError.{CallError}
 use Rattle.dnsm_status.specs.declared.code.CallError.TheVariants as faults
-use Rattle.dnsm_put.specs.Rdata.{HasFields, layout_of}
+use Rattle.dnsm_put.specs.Rdata.{HasFields, IsTypeData, layout_of}
 use Rattle.dnsm_put.specs.Items.{item_size}
+
+-- The RDATA hasn't the names of its record type; or the draft asks for more, and it isn't the fields of that type.
+abbrev pub LacksData : Draft → PutItem → Type 0
+LacksData d item = (HasFields (layout_of item) item.rdata.now → ⊥) ⊎ ((d.unchecked ≡ 0) × (IsTypeData item → ⊥))
 
 -- The error is a reason not to put the item at the end of the draft, in a buffer of n octets. There is no room if the item, with its names uncompressed, and
 -- the reserved octets would pass the end of the buffer or the limit, or if the draft has no header section.
@@ -17,7 +21,7 @@ abbrev pub IsDue : Draft → ℕ → PutItem → PutError → Type 0
 IsDue d n item BadSection = (3 < item.section) ⊎ (item.section < d.section)
 IsDue d n item BadName = IsUncompressed item.name.now → ⊥
 IsDue d n item LongData = (item.section ≢ 0) × (65535 < length item.rdata.now)
-IsDue d n item BadData = (item.section ≢ 0) × (HasFields (layout_of item) item.rdata.now → ⊥)
+IsDue d n item BadData = (item.section ≢ 0) × LacksData d item
 IsDue d n item TooMany = get_or d.counts item.section 0 ≡ 65535
 IsDue d n item NoRoom = header_size ≤ d.len → min d.limit n < d.len + item_size item + d.reserved
 
@@ -41,6 +45,7 @@ pub record IsAcceptable (d : Draft) (item : PutItem) : Type 0 where
   pub name : IsUncompressed item.name.now
   pub short : item.section ≢ 0 → length item.rdata.now ≤ 65535
   pub fields : item.section ≢ 0 → HasFields (layout_of item) item.rdata.now
+  pub checked : item.section ≢ 0 → d.unchecked ≡ 0 → IsTypeData item
   pub few : get_or d.counts item.section 0 < 65535
 
 -- the fault that reports why an item isn't put

@@ -2,7 +2,8 @@
 use Rattle.std.specs.Prelude.{◌≡◌, ℕ, ◌+◌, ◌<◌, ◌≤◌, List, length, get_or}
 use Rattle.dns_octets.specs.Octets.{overwritten}
 use Rattle.dns_name.specs.Names.{Labels, IsName, uncompressed, NameAt, NameEndsAt, pointer_end}
-use Rattle.dns_wire.specs.Parts.{Part, PartsAt, PartsPointed, WellPointed}
+use Rattle.dns_wire.specs.Parts.{Part, Octets, CompressibleName, UncompressedName, PartsAt, PartsPointed, WellPointed}
+use Rattle.dns_wire.specs.Targets.{At}
 use Rattle.dns_wire.specs.TargetLaws.{NameAtWithin, Agree}
 
 -- The octets were written at offset `at`, and end at `end`, which is `most` or before.
@@ -33,3 +34,9 @@ pub record AreWritten (b : List ℕ) (top p q : ℕ) (parts : List Part) : Type 
   pub within : q ≤ length b
   pub parts_at : (c : List ℕ) → Agree b c 12 top → Agree b c p q → PartsAt c q p parts
   pub pointed : (c : List ℕ) → Agree b c 12 top → Agree b c p q → PartsPointed c q p parts
+
+-- The part is encoded from p to q: octets, or a name that is never compressed, as they are; a name that may be compressed, with an earlier label at its pointer.
+abbrev pub IsPartWritten : List ℕ → ℕ → ℕ → ℕ → Part → Type 0
+IsPartWritten b top p q (Octets octets) = (q ≡ p + length octets) × At b p octets
+IsPartWritten b top p q (CompressibleName name) = IsNamed b top p q name
+IsPartWritten b top p q (UncompressedName lowercased name) = (q ≡ p + length (uncompressed name)) × IsName name × At b p (uncompressed name)

@@ -1,6 +1,8 @@
 //! A message under construction, the items that it takes, and why it refuses one.
 ghost use Rattle.std.specs.Prelude.{◌≡◌};
+ghost use Rattle.dnsm_put.specs.Drafts.{empty_draft};
 
+use dns_code::HeaderSection;
 use dnsm_status::CallError;
 use thiserror::Error;
 
@@ -22,6 +24,9 @@ pub struct Draft {
     pub counts: [u16; 4],
     /// The section of the last item.
     pub section: u8,
+    /// 0 if the RDATA of each record is checked by the fields of its type. Otherwise only the names
+    /// of types of RFC 1035 are.
+    pub unchecked: u8,
     /// Offsets at which names may begin. They may have any values.
     pub hints: [u16; 64],
 }
@@ -80,4 +85,20 @@ impl From<PutError> for CallError {
             PutError::NoRoom => CallError::NoRoom,
         }
     }
+}
+
+/// Makes a draft one without items, limit, reserved octets and hints.
+#[inline(always)]
+pub(crate) fn clear(draft: &mut Draft, id: u16, flags: u16)
+    ensures { draft.new ≡ empty_draft id flags }
+{
+    draft.len = HeaderSection::LEN;
+    draft.limit = usize::MAX;
+    draft.reserved = 0;
+    draft.id = id;
+    draft.flags = flags;
+    draft.counts = [0; 4];
+    draft.section = 0;
+    draft.unchecked = 0;
+    draft.hints = [0; 64];
 }

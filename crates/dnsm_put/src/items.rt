@@ -10,22 +10,23 @@ ghost use Rattle.dnsm_put.specs.Items.{HoldsQuestion, HoldsRecord, IsQuestionOf,
 ghost use Rattle.dnsm_put.specs.Drafts.{Adds};
 ghost use Rattle.dnsm_put.specs.Refusals.{IsAcceptable, IsRefused};
 
+use crate::checked::may_have;
 use crate::draft::{Draft, PutError, PutItem};
 use crate::names::{is_name, put_name};
 use crate::octets::put_octets;
-use crate::rdata::{has_fields, put_rdata};
+use crate::rdata::put_rdata;
 use dns_code::HeaderSection;
 use dns_wire::MAX_OCTETS;
 
 /// The number of the question section.
-const QUESTION: u8 = 0;
+pub(crate) const QUESTION: u8 = 0;
 
 /// The number of the additional section, the last one.
-const ADDITIONAL: u8 = 3;
+pub(crate) const ADDITIONAL: u8 = 3;
 
 /// The offset that an item has to end at or before.
 #[inline(always)]
-fn most_of(draft: &Draft, out_len: usize) -> usize
+pub(crate) fn most_of(draft: &Draft, out_len: usize) -> usize
     ensures { result ≡ min draft.now.limit out_len - draft.now.reserved }
 {
     let most = if draft.limit < out_len {
@@ -48,7 +49,7 @@ fn question_fields_of(item: &PutItem<'_>) -> [u8; 4]
 
 /// The eight octets after the owner of a record, and two for RDLENGTH, which are zero.
 #[inline(always)]
-fn record_fields_of(item: &PutItem<'_>) -> [u8; 10]
+pub(crate) fn record_fields_of(item: &PutItem<'_>) -> [u8; 10]
     ensures { result ≡ to_be_bytes w16 item.now.rtype ++ to_be_bytes w16 item.now.class
         ++ to_be_bytes w32 item.now.ttl ++ (0 ∷ 0 ∷ []) }
 {
@@ -61,7 +62,7 @@ fn record_fields_of(item: &PutItem<'_>) -> [u8; 10]
 /// Writes a question at offset `at`. Returns the offset after it, or `None` if it would be past
 /// `most`.
 #[inline(always)]
-fn put_question(
+pub(crate) fn put_question(
     hints: &mut [u16; 64],
     out: &mut [u8],
     at: usize,
@@ -179,7 +180,7 @@ fn check(draft: &Draft, item: &PutItem<'_>) -> Result<(), PutError>
     if is_record && item.rdata.len() > MAX_OCTETS {
         return Err(PutError::LongData);
     }
-    if is_record && !has_fields(item) {
+    if is_record && !may_have(draft, item) {
         return Err(PutError::BadData);
     }
     if draft.counts[usize::from(item.section)] == u16::MAX {
@@ -199,7 +200,8 @@ pub(crate) fn append(draft: &mut Draft, out: &mut [u8], item: &PutItem<'_>) -> R
     ensures refused { IfErr result (λ error.
         IsRefused draft.old (length out.old) item.now error) }
     ensures settings { (draft.new.id ≡ draft.old.id) × (draft.new.flags ≡ draft.old.flags)
-        × (draft.new.limit ≡ draft.old.limit) × (draft.new.reserved ≡ draft.old.reserved) }
+        × (draft.new.limit ≡ draft.old.limit) × (draft.new.reserved ≡ draft.old.reserved)
+        × (draft.new.unchecked ≡ draft.old.unchecked) }
     ensures same { OnErr result ((draft.new.len ≡ draft.old.len)
         × (draft.new.counts ≡ draft.old.counts) × (draft.new.section ≡ draft.old.section)) }
     ensures length { length out.new ≡ length out.old }

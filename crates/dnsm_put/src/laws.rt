@@ -4,6 +4,7 @@ ghost use Rattle.std.specs.Prelude.{◌≡◌};
 ghost use Rattle.dnsm_put.specs.PutLayouts.{PutLayoutsAreFields};
 
 use crate::draft::{Draft, PutError, PutItem};
+use crate::response::ResponseError;
 
 /// The names that `put` compresses are those among the fields of the record types in `TABLE` of
 /// `fields_octets` that may be compressed.
@@ -17,6 +18,7 @@ pub fn draft_clones()
     ensures draft { (a b : _) → ⟦<Draft as Clone>⟧.is_clone a b → b ≡ a }
     ensures item { (a b : _) → ⟦<PutItem<'static> as Clone>⟧.is_clone a b → b ≡ a }
     ensures error { (a b : _) → ⟦<PutError as Clone>⟧.is_clone a b → b ≡ a }
+    ensures reason { (a b : _) → ⟦<ResponseError as Clone>⟧.is_clone a b → b ≡ a }
 {}
 
 /// Cloning these values never fails.
@@ -24,4 +26,5 @@ pub fn draft_clones_never_fail()
     ensures draft { (a : _) → ⟦<Draft as Clone>⟧.is_infallible a }
     ensures item { (a : _) → ⟦<PutItem<'static> as Clone>⟧.is_infallible a }
     ensures error { (a : _) → ⟦<PutError as Clone>⟧.is_infallible a }
+    ensures reason { (a : _) → ⟦<ResponseError as Clone>⟧.is_infallible a }
 {}

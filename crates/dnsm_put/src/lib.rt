@@ -13,32 +13,42 @@
 //! `dnsm` exports these functions to C.
 #![tactic(auto)]
 
+mod checked;
+mod copies;
 mod draft;
+mod fields;
 mod items;
 pub mod laws;
 mod names;
 mod octets;
 mod rdata;
+mod response;
 
 ghost use Rattle.std.specs.Prelude.{◌≡◌, ◌⊎◌, ◌+◌, ◌<◌, ◌≤◌, length, take, replicate, IfOk, IfErr, OnOk, OnErr};
 ghost use Rattle.dns_build.specs.State.{State, with_header, up_to, InBuilder};
 ghost use Rattle.dns_build.specs.MessageOf.{ReadsBack, PointsToLabels};
 ghost use Rattle.dns_code.specs.HeaderSection.{header_size};
+ghost use Rattle.dns_octets.specs.Octets.{overwritten};
+ghost use Rattle.dnsm_put.specs.Copies.{AddsFrom, IsItemIn, IsRefusedFrom};
 ghost use Rattle.dnsm_put.specs.Items.{Means};
 ghost use Rattle.dnsm_put.specs.Drafts.{Adds, DraftsStay, IsDraftOf, header_of, header_octets_of, HasSmallCounts};
 ghost use Rattle.dnsm_put.specs.Refusals.{IsAcceptable, IsRefused};
 ghost use Rattle.dnsm_put.specs.declared.draft.Draft.{Draft};
 
 use dns_code::HeaderSection;
+use dnsm_read::Item;
+use draft::clear;
 pub use draft::{Draft, PutError, PutItem};
 use octets::put_octets;
+pub use response::{ResponseError, begin_response};
 
 /// Begins a message without items, in a buffer of at least 12 octets. There is no limit, no octet is
-/// reserved, and no hint of an older draft is left. Writes nothing to the buffer.
+/// reserved, RDATA is checked, and no hint of an older draft is left. Writes nothing to the buffer.
 pub fn begin(draft: &mut Draft, out: &[u8], id: u16, flags: u16) -> Result<(), PutError>
     ensures begun { OnOk result ((s : State) → IsDraftOf out.now draft.new (up_to InBuilder s)) }
     ensures header { OnOk result ((draft.new.id ≡ id) × (draft.new.flags ≡ flags)) }
-    ensures settings { OnOk result ((draft.new.limit ≡ usize.MAX) × (draft.new.reserved ≡ 0)) }
+    ensures settings { OnOk result ((draft.new.limit ≡ usize.MAX) × (draft.new.reserved ≡ 0)
+        × (draft.new.unchecked ≡ 0)) }
     ensures section { OnOk result (draft.new.section ≡ 0) }
     ensures hints { OnOk result (draft.new.hints ≡ replicate 64 0) }
     ensures no_room { IfErr result (λ error. (error ≡ PutError.NoRoom)
@@ -48,14 +58,7 @@ pub fn begin(draft: &mut Draft, out: &[u8], id: u16, flags: u16) -> Result<(), P
     if out.len() < HeaderSection::LEN {
         return Err(PutError::NoRoom);
     }
-    draft.len = HeaderSection::LEN;
-    draft.limit = usize::MAX;
-    draft.reserved = 0;
-    draft.id = id;
-    draft.flags = flags;
-    draft.counts = [0; 4];
-    draft.section = 0;
-    draft.hints = [0; 64];
+    clear(draft, id, flags);
     Ok(())
 }
 
@@ -70,13 +73,45 @@ pub fn put(draft: &mut Draft, out: &mut [u8], item: &PutItem<'_>) -> Result<(), 
     ensures refused { IfErr result (λ error.
         IsRefused draft.old (length out.old) item.now error) }
     ensures settings { (draft.new.id ≡ draft.old.id) × (draft.new.flags ≡ draft.old.flags)
-        × (draft.new.limit ≡ draft.old.limit) × (draft.new.reserved ≡ draft.old.reserved) }
+        × (draft.new.limit ≡ draft.old.limit) × (draft.new.reserved ≡ draft.old.reserved)
+        × (draft.new.unchecked ≡ draft.old.unchecked) }
     ensures same { OnErr result ((draft.new.len ≡ draft.old.len)
         × (draft.new.counts ≡ draft.old.counts) × (draft.new.section ≡ draft.old.section)) }
     ensures length { length out.new ≡ length out.old }
+    ensures kept { take draft.old.len out.new ≡ take draft.old.len out.old }
     ensures stay { DraftsStay out.old out.new draft.old.len }
 {
     items::append(draft, out, item)
+}
+
+/// Appends an item of another message, as `dnsm_next` gives it: the name at its offset, its type and
+/// class, and its TTL, which a cache may have lowered, in its section. Names in its RDATA are
+/// decompressed, and those of types of RFC 1035 compressed anew (RFC 3597 section 4). On an error the
+/// octets of the buffer after the message may have changed.
+pub fn put_from(
+    draft: &mut Draft,
+    out: &mut [u8],
+    message: &[u8],
+    item: &Item,
+) -> Result<(), PutError>
+    ensures adds { OnOk result
+        (AddsFrom out.old out.new draft.old draft.new message.now item.now) }
+    ensures means { OnOk result (IsItemIn message.now item.now) }
+    ensures room { OnOk result ((draft.new.len + draft.old.reserved ≤ length out.old)
+        × (draft.new.len + draft.old.reserved ≤ draft.old.limit)) }
+    ensures section { OnOk result (draft.new.section ≡ item.now.section) }
+    ensures refused { IfErr result (λ error.
+        IsRefusedFrom draft.old (length out.old) message.now item.now error) }
+    ensures settings { (draft.new.id ≡ draft.old.id) × (draft.new.flags ≡ draft.old.flags)
+        × (draft.new.limit ≡ draft.old.limit) × (draft.new.reserved ≡ draft.old.reserved)
+        × (draft.new.unchecked ≡ draft.old.unchecked) }
+    ensures same { OnErr result ((draft.new.len ≡ draft.old.len)
+        × (draft.new.counts ≡ draft.old.counts) × (draft.new.section ≡ draft.old.section)) }
+    ensures length { length out.new ≡ length out.old }
+    ensures kept { take draft.old.len out.new ≡ take draft.old.len out.old }
+    ensures stay { DraftsStay out.old out.new draft.old.len }
+{
+    copies::append_from(draft, out, message, item)
 }
 
 /// The header section of a draft.
@@ -106,6 +141,9 @@ pub fn finish(draft: &Draft, out: &mut [u8]) -> Result<usize, PutError>
     ensures long { IfOk result (λ len. header_size ≤ len) }
     ensures no_room { IfErr result (λ error. (error ≡ PutError.NoRoom)
         × ((draft.now.len < header_size) ⊎ (length out.old < draft.now.len))) }
+    ensures written { OnOk result
+        (out.new ≡ overwritten out.old 0 (header_octets_of draft.now)) }
+    ensures same { OnErr result (out.new ≡ out.old) }
     ensures length { length out.new ≡ length out.old }
     ensures stay { (d : Draft) (s : State) → IsDraftOf out.old d s → IsDraftOf out.new d s }
 {

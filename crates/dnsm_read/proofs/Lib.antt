@@ -1,3 +1,10 @@
 pub mod theory
+mod DataFieldLemmas
 mod DataTextLemmas
+mod FieldOffsetLemmas
+mod FieldValueLemmas
+mod FieldWalks
+mod NameCounts
+mod OctetWalks
+mod OptSearchLemmas
 mod WalkLemmas

@@ -1,2 +1,4 @@
+pub mod DataLemmas
 pub mod DataNameLemmas
 pub mod OptLemmas
+pub mod UncompressedLemmas

@@ -2,7 +2,12 @@ pub mod Walk
 pub mod Steps
 pub mod Names
 pub mod Asked
+pub mod DataFields
+pub mod FieldOffsets
 pub mod DataNames
+pub mod FieldValues
 pub mod DataTexts
 pub mod Opts
+pub mod OnlyOpts
+pub mod Responses
 pub mod NameTables

@@ -3,7 +3,7 @@ use Rattle.std.specs.Prelude.{◌≡◌, ◌==◌, ◌⊎◌, ◌<◌, ◌≤◌
 use Rattle.dns_edns.specs.OptHeader.{fields_in}
 use Rattle.dns_edns.specs.Options.{OptionItem, OptionBegins}
 use Rattle.dnsm_status.specs.Codes.{number_of}
-use Rattle.dnsm_read.specs.DataNames.{data_end, up_to_data_end}
+use Rattle.dnsm_read.specs.DataFields.{data_end, up_to_data_end}
 use Rattle.dnsm_status.specs.declared.code.CallError.TheVariants as faults
 use Rattle.dnsm_read.specs.declared.opts.Opt.{Opt}
 use Rattle.dnsm_read.specs.declared.opts.OptOption.{OptOption}

@@ -1,92 +1,72 @@
 //! The names in RDATA.
-ghost use Rattle.std.specs.Prelude.{◌≡◌, ◌≢◌, ◌<◌, ◌≤◌, Some, length, true, false, Err, IfErr, IfOk};
+ghost use Rattle.std.specs.Prelude.{◌≡◌, ◌≢◌, Err, IfErr, IfOk};
 ghost use Rattle.dns_name.specs.Names.{Labels, NameAt};
+ghost use Rattle.dns_name.specs.NameTexts.{dotted_text};
+ghost use Rattle.dns_name.specs.ParsedName.{labels};
+ghost use Rattle.fields_octets.specs.Shapes.{shape_of};
+ghost use Rattle.fields_octets.specs.Table.{definitions_of};
 ghost use Rattle.dnsm_status.specs.Codes.{number_of};
-ghost use Rattle.dnsm_read.specs.DataNames.{HasName, IsDataName, IsNoRdata, IsPlaceOf, IsRdata, LacksDataName, before_name, data_end, first_names};
+ghost use Rattle.dnsm_read.specs.DataNames.{IsDataName, LacksDataName, IsNameInData, is_name_shape, names_in, up_to_data_end};
+ghost use Rattle.dnsm_status.specs.CallerBuffers.{Holds};
 
-use crate::walk::{Item, name_end};
-use dns_data::ParseAnyRecordData;
+use crate::data_fields::{data_type, fields};
+use crate::field_offsets;
+use crate::name_text::write_name;
+use crate::walk::Item;
 use dns_iana::Rtype;
-use dns_name::Parser;
+use dns_name::ParsedName;
 use dnsm_status::CallError;
-use fields_octets::FieldData;
+use dnsm_status::sink::End;
+use fields_octets::{Kind, Shape, fields_of};
 
-/// The record type of SOA, whose RDATA begins with two names.
-const SOA_RTYPE: u16 = 6;
-
-/// The offset after the RDATA of an item, if that is within the message.
-pub(crate) fn data_end(octets: &[u8], item: &Item) -> Result<usize, CallError>
-    ensures end { IfOk result (λ end. (end ≡ data_end item.now) × (end ≤ length octets.now)) }
-    ensures none { IfErr result (λ fault. (fault ≡ CallError.ShortInput)
-        × (length octets.now < data_end item.now)) }
+/// Whether a field of this kind is a name.
+fn is_name(kind: Kind) -> bool
+    ensures { result ≡ is_name_shape (shape_of kind) }
 {
-    let size = usize::from(item.data_len);
-    if item.data > octets.len() || size > octets.len() - item.data {
-        return Err(CallError::ShortInput);
-    }
-    Ok(item.data + size)
-}
-
-/// How many octets precede the first name in RDATA of a type, if it has names.
-#[tactic(auto, unfolding(std::specs::Prelude::find, crate::specs::DataNames::first_names))]
-fn before_name(rtype: u16) -> Option<usize>
-    ensures { result ≡ before_name rtype }
-{
-    match rtype {
-        2 | 5 | 6 | 12 | 39 => Some(0),
-        15 => Some(2),
-        33 => Some(6),
-        _ => None,
+    match kind.shape() {
+        Shape::Name | Shape::UncompressedName(_, _) => true,
+        _ => false,
     }
 }
 
-/// How many octets precede the first name in RDATA of a type that has a name with this index.
-fn before_first(rtype: u16, index: usize) -> Result<usize, CallError>
-    ensures name { IfOk result (λ before. HasName rtype index
-        × (before_name rtype ≡ Some before)) }
-    ensures none { IfErr result (λ fault. (fault ≡ CallError.NoName) × (HasName rtype index → ⊥)) }
+/// How many fields of a record type are names.
+fn names_in(rtype: Rtype) -> usize
+    ensures { result ≡ names_in (definitions_of rtype) }
 {
-    let Some(before) = before_name(rtype) else {
+    let fields = fields_of(rtype.to_int());
+    let mut count = 0;
+    for field in fields {
+        if is_name(field.1) {
+            count += 1;
+        }
+    }
+    count
+}
+
+/// The name with this index in the RDATA of a record, and its offset. A question has no RDATA.
+fn name_in<'a>(
+    octets: &'a [u8],
+    item: &Item,
+    index: usize,
+) -> Result<(usize, ParsedName<'a>), CallError>
+    ensures question { item.now.section ≡ 0 → result ≡ Err CallError.BadSection }
+    ensures place { IfOk result (λ found. IsDataName octets.now item.now index found.0) }
+    ensures name { IfOk result (λ found.
+        NameAt (up_to_data_end octets.now item.now) found.0 (labels found.1)) }
+    ensures none { IfErr result (λ fault. item.now.section ≢ 0
+        → LacksDataName octets.now item.now index (number_of fault)) }
+{
+    if item.section == 0 {
+        return Err(CallError::BadSection);
+    }
+    if index >= names_in(data_type(item)) {
         return Err(CallError::NoName);
-    };
-    if index == 0 || (index == 1 && rtype == SOA_RTYPE) {
-        return Ok(before);
     }
-    Err(CallError::NoName)
-}
-
-/// Whether the octets from offset `start` on are RDATA of this type.
-fn is_rdata(octets: &[u8], rtype: u16, start: usize) -> bool
-    requires { start ≤ length octets.now }
-    ensures whole { result ≡ true → IsRdata octets.now rtype start }
-    ensures malformed { result ≡ false → IsNoRdata octets.now rtype start }
-{
-    let mut parser = Parser::new(octets);
-    let Ok(()) = parser.seek(start) else {
-        unreachable!()
-    };
-    let Ok(_) = FieldData::parse_any_rdata(Rtype::from_int(rtype), &mut parser) else {
-        return false;
-    };
-    parser.remaining() == 0
-}
-
-/// The offset of the name with this index in RDATA that takes all octets from `start` on. The first
-/// name is after `before` octets.
-fn place_in(octets: &[u8], rtype: u16, start: usize, index: usize, before: usize) -> usize
-    requires rdata { IsRdata octets.now rtype start }
-    requires name { HasName rtype index }
-    requires before { before_name rtype ≡ Some before }
-    ensures place { IsPlaceOf octets.now rtype start index result }
-    ensures name { (name : Labels) × NameAt octets.now result name }
-{
-    if index == 0 {
-        return start + before;
+    let (seen, data) = fields(octets, item)?;
+    match field_offsets::name_at(seen, data.fields(), item.data, index) {
+        Some(found) => Ok(found),
+        None => unreachable!(),
     }
-    let Ok(place) = name_end(octets, start) else {
-        unreachable!()
-    };
-    place
 }
 
 /// The offset of the name with this index in the RDATA of a record. A question has no RDATA.
@@ -96,14 +76,33 @@ pub fn data_name(octets: &[u8], item: &Item, index: usize) -> Result<usize, Call
     ensures none { IfErr result (λ fault. item.now.section ≢ 0
         → LacksDataName octets.now item.now index (number_of fault)) }
 {
-    if item.section == 0 {
-        return Err(CallError::BadSection);
+    match name_in(octets, item, index) {
+        Ok((place, _)) => Ok(place),
+        Err(fault) => Err(fault),
     }
-    let before = before_first(item.rtype, index)?;
-    let end = data_end(octets, item)?;
-    let seen = &octets[..end];
-    if !is_rdata(seen, item.rtype, item.data) {
-        return Err(CallError::BadData);
+}
+
+/// The name with this index in the RDATA of a record. A question has no RDATA.
+pub fn name<'a>(octets: &'a [u8], item: &Item, index: usize) -> Result<ParsedName<'a>, CallError>
+    ensures question { item.now.section ≡ 0 → result ≡ Err CallError.BadSection }
+    ensures name { IfOk result (λ name. IsNameInData octets.now item.now index (labels name)) }
+    ensures none { IfErr result (λ fault. item.now.section ≢ 0
+        → LacksDataName octets.now item.now index (number_of fault)) }
+{
+    match name_in(octets, item, index) {
+        Ok((_, name)) => Ok(name),
+        Err(fault) => Err(fault),
     }
-    Ok(place_in(seen, item.rtype, item.data, index, before))
+}
+
+/// Writes the name with this index in the RDATA of a record, with a dot after each label.
+pub fn name_text(octets: &[u8], item: &Item, index: usize, out: &mut [u8]) -> Result<End, CallError>
+    ensures question { item.now.section ≡ 0 → result ≡ Err CallError.BadSection }
+    ensures text { IfOk result (λ end. (name : Labels) × IsNameInData octets.now item.now index name
+        × Holds out.new (dotted_text name) end) }
+    ensures none { IfErr result (λ fault. item.now.section ≢ 0
+        → LacksDataName octets.now item.now index (number_of fault)) }
+{
+    let name = name(octets, item, index)?;
+    Ok(write_name(&name, out))
 }

@@ -5,13 +5,21 @@
 //! C.
 #![tactic(auto)]
 
+pub mod answers;
 pub mod asked;
+pub mod data_fields;
 pub mod data_name;
+pub mod data_octets;
 pub mod data_text;
+mod field_offsets;
+pub mod find_opt;
 pub mod laws;
 pub mod name_text;
+pub mod next_field;
 pub mod opts;
 pub mod walk;
 
+pub use find_opt::FoundOpt;
+pub use next_field::DataField;
 pub use opts::{Opt, OptOption};
 pub use walk::{Cursor, Header, Item};

@@ -23,7 +23,7 @@ pub fn name(octets: &[u8], place: usize, out: &mut [u8]) -> Result<End, CallErro
 }
 
 /// Writes a name with a dot after each label.
-fn write_name(name: &ParsedName<'_>, out: &mut [u8]) -> End
+pub(crate) fn write_name(name: &ParsedName<'_>, out: &mut [u8]) -> End
     ensures { Holds out.new (dotted_text (labels name.now)) result }
 {
     let mut sink = Sink { out, end: START };

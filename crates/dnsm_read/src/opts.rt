@@ -3,11 +3,11 @@ ghost use Rattle.std.specs.Prelude.{◌≡◌, ◌≢◌, ◌+◌, ◌<◌, ◌�
 ghost use Rattle.dns_code.specs.Bits.{number_in};
 ghost use Rattle.dns_edns.specs.Options.{OptionBegins, encode_option};
 ghost use Rattle.dnsm_status.specs.Codes.{number_of};
-ghost use Rattle.dnsm_read.specs.DataNames.{data_end};
+ghost use Rattle.dnsm_read.specs.DataFields.{data_end};
 ghost use Rattle.dnsm_read.specs.Opts.{BeginsNoOption, HasFields, HoldsOpt, IsInData, IsOpt, LacksOption, data_from, option_at};
 ghost use Rattle.dnsm_status.specs.CallerBuffers.{Holds};
 
-use crate::data_name::data_end;
+use crate::data_fields::data_end;
 use crate::walk::Item;
 use dns_wire::MAX_OCTETS;
 use dnsm_status::CallError;
@@ -44,7 +44,7 @@ pub struct OptOption {
 }
 
 /// Whether the item is an OPT record.
-fn is_opt(item: &Item) -> bool
+pub(crate) fn is_opt(item: &Item) -> bool
     ensures yes { result ≡ true → IsOpt item.now }
     ensures no { IsOpt item.now → result ≡ true }
 {
@@ -52,7 +52,7 @@ fn is_opt(item: &Item) -> bool
 }
 
 /// The fields in a class and a TTL.
-fn fields_in(class: u16, ttl: u32) -> Opt
+pub(crate) fn fields_in(class: u16, ttl: u32) -> Opt
     ensures { HasFields class ttl result }
 {
     Opt {
@@ -118,6 +118,8 @@ pub fn next_option(
         (data_from octets.now item.now place.old) (data_from octets.now item.now place.new)) }
     ensures within { IfOk result (λ given. given ≡ true
         → (place.old < place.new) × (place.new ≤ data_end item.now)) }
+    ensures data { IfOk result (λ given. given ≡ true
+        → option.new.«data» + option.new.data_len ≡ place.new) }
     ensures end { IfOk result (λ given. given ≢ true → place.old ≡ data_end item.now) }
     ensures none { IfErr result (λ fault.
         LacksOption octets.now item.now place.old (number_of fault)) }

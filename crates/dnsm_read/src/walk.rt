@@ -176,7 +176,7 @@ fn read_question(octets: &[u8], place: usize) -> Result<(Item, usize), ParseErro
 }
 
 /// Reads the record of `section` at offset `place`. Also returns the offset after it.
-fn read_record(octets: &[u8], section: u8, place: usize) -> Result<(Item, usize), ParseError>
+pub fn read_record(octets: &[u8], section: u8, place: usize) -> Result<(Item, usize), ParseError>
     ensures returned { ReturnsRecord octets.now section place result }
     ensures spans { IfOk result (λ found. Spans found.0 place found.1) }
 {

@@ -19,3 +19,7 @@ pub record WritesText (old new : List ℕ) (len status : ℕ) : Type 0 where
 pub record Holds (out text : List ℕ) (end : ℕ) : Type 0 where
   pub counted : end ≡ min (length text) (2 ^ 64 - 1)
   pub held : length text ≤ length out → take (length text) out ≡ text
+
+-- some octets with this property are n, more than `capacity`
+abbrev pub IsLonger : (List ℕ → Type 0) → ℕ → ℕ → Type 0
+IsLonger P capacity n = (octets : List ℕ) × P octets × (capacity < length octets) × (n ≡ length octets)

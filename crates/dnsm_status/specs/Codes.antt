@@ -32,6 +32,11 @@ number_of faults.NotOpt = 18
 number_of faults.BadOption = 19
 number_of faults.NoName = 20
 number_of faults.BadData = 21
+number_of faults.NoOpt = 22
+number_of faults.TwoOpts = 23
+number_of faults.BadOwner = 24
+number_of faults.NoResponse = 25
+number_of faults.OtherQuery = 26
 
 -- the status of a call: 0 if there is an item, 1 at the end, otherwise the number of the fault
 abbrev pub code_of : Result Bool CallError → ℕ

@@ -16,7 +16,7 @@ status_sentences =
     ∷ (number_of faults.LongName, codes "a name has more than 255 octets")
     ∷ (number_of faults.Form, codes "malformed octets")
     ∷ (number_of faults.NoRoom, codes "the output buffer is too short")
-    ∷ (number_of faults.BadText, codes "the text is no valid name")
+    ∷ (number_of faults.BadText, codes "the text, or the name of an item, isn't valid")
     ∷ (number_of faults.NoQuestion, codes "the query doesn't have exactly one question")
     ∷ (number_of faults.BadSection, codes "a section number exceeds 3 or is out of order, or a question has no RDATA")
     ∷ (number_of faults.NoMemory, codes "an allocation failed")
@@ -30,6 +30,11 @@ status_sentences =
     ∷ (number_of faults.BadOption, codes "an option is not whole within the RDATA")
     ∷ (number_of faults.NoName, codes "the RDATA has no such name")
     ∷ (number_of faults.BadData, codes "the octets are no RDATA of the record type")
+    ∷ (number_of faults.NoOpt, codes "the additional section has no OPT record")
+    ∷ (number_of faults.TwoOpts, codes "the additional section has two OPT records")
+    ∷ (number_of faults.BadOwner, codes "the owner of the OPT record isn't the root")
+    ∷ (number_of faults.NoResponse, codes "the message is no response")
+    ∷ (number_of faults.OtherQuery, codes "the response is that of another query")
     ∷ []
 
 -- the text of a status

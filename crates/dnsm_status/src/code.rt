@@ -22,7 +22,7 @@ pub enum CallError {
     Form,
     /// The caller's buffer, or the limit of a draft, is too short.
     NoRoom,
-    /// The text, or the octets of an item, are no valid name.
+    /// The text can't be read, or the name of an item to put can't.
     BadText,
     /// The query doesn't have exactly one question.
     NoQuestion,
@@ -51,6 +51,16 @@ pub enum CallError {
     NoName,
     /// The octets aren't RDATA of the record type.
     BadData,
+    /// The additional section has no OPT record.
+    NoOpt,
+    /// The additional section has more than one OPT record (RFC 6891 section 6.1.1).
+    TwoOpts,
+    /// The owner of the OPT record isn't the root (RFC 6891 section 6.1.2).
+    BadOwner,
+    /// QR is clear, so this is no response.
+    NoResponse,
+    /// The ID, the opcode or the questions aren't those of the query.
+    OtherQuery,
 }
 
 impl From<ShortMessage> for CallError {
@@ -118,6 +128,11 @@ pub fn of_fault(fault: CallError) -> u32
         CallError::BadOption => 19,
         CallError::NoName => 20,
         CallError::BadData => 21,
+        CallError::NoOpt => 22,
+        CallError::TwoOpts => 23,
+        CallError::BadOwner => 24,
+        CallError::NoResponse => 25,
+        CallError::OtherQuery => 26,
     }
 }
 

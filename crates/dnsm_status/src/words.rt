@@ -1,5 +1,5 @@
 //! The sentences of statuses, and words in a caller's buffer.
-ghost use Rattle.std.specs.Prelude.{◌≡◌, ◌++◌, decimal, option_map, unwrap_or, OnErr};
+ghost use Rattle.std.specs.Prelude.{◌≡◌, ◌<◌, ◌++◌, decimal, option_map, unwrap_or, OnErr};
 ghost use Rattle.dns_print.specs.Printing.{PrintsOnOk};
 ghost use Rattle.dns_iana.specs.Mnemonics.{mnemonic};
 ghost use Rattle.dnsm_status.specs.Statuses.{status_sentences, status_text};
@@ -55,7 +55,7 @@ fn sentence(status: u32) -> Option<&'static str>
         5 => Some("a name has more than 255 octets"),
         6 => Some("malformed octets"),
         7 => Some("the output buffer is too short"),
-        8 => Some("the text is no valid name"),
+        8 => Some("the text, or the name of an item, isn't valid"),
         9 => Some("the query doesn't have exactly one question"),
         10 => Some("a section number exceeds 3 or is out of order, or a question has no RDATA"),
         11 => Some("an allocation failed"),
@@ -69,13 +69,19 @@ fn sentence(status: u32) -> Option<&'static str>
         19 => Some("an option is not whole within the RDATA"),
         20 => Some("the RDATA has no such name"),
         21 => Some("the octets are no RDATA of the record type"),
+        22 => Some("the additional section has no OPT record"),
+        23 => Some("the additional section has two OPT records"),
+        24 => Some("the owner of the OPT record isn't the root"),
+        25 => Some("the message is no response"),
+        26 => Some("the response is that of another query"),
         _ => None,
     }
 }
 
 /// Writes what a status means.
 pub fn status(number: u32, out: &mut [u8]) -> End
-    ensures { Holds out.new (status_text number) result }
+    ensures text { Holds out.new (status_text number) result }
+    ensures short { result < 100 }
 {
     write_word(sentence(number), "unknown status ", number, out)
 }

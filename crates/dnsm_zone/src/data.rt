@@ -1,8 +1,9 @@
 //! RDATA from text.
 ghost use Rattle.std.specs.Prelude.{◌≡◌, ◌⊎◌, IfOk, IfErr};
+ghost use Rattle.std.specs.Str.{IsUtf8};
 ghost use Rattle.fields_octets.specs.DataOrders.{octets_of_parts};
 ghost use Rattle.fields_octets.specs.OwnedData.{owned_parts_of};
-ghost use Rattle.fields_read_records.specs.DataWords.{IsDataText};
+ghost use Rattle.fields_read_records.specs.DataWords.{IsDataText, MayBeData};
 ghost use Rattle.dnsm_zone.specs.Lines.{AreData, AreNoData, HasWords, LacksData};
 
 use crate::words::{fault_of, words_of};
@@ -16,7 +17,8 @@ use std::alloc::Global;
 /// The RDATA of this type that the words represent.
 fn data_of(alloc: Global, rtype: u16, words: &[&str]) -> Result<OwnedFieldData, CallError>
     ensures data { IfOk result (λ found. IsDataText rtype words.now (owned_parts_of found)) }
-    ensures none { IfErr result (λ fault. (fault ≡ CallError.NoMemory)
+    ensures none { IfErr result (λ fault.
+        ((fault ≡ CallError.NoMemory) × MayBeData rtype words.now)
         ⊎ ((fault ≡ CallError.BadText) × AreNoData rtype words.now)) }
 {
     match from_text(alloc, Rtype::from_int(rtype), words) {
@@ -42,7 +44,8 @@ fn octets_of(alloc: Global, found: &OwnedFieldData) -> Result<Vec<u8>, CallError
 /// `BadText` if the text is no such RDATA, `NoMemory` if an allocation fails.
 pub fn data_from_text(alloc: Global, rtype: u16, text: &[u8]) -> Result<Vec<u8>, CallError>
     ensures data { IfOk result (λ octets. HasWords (AreData rtype octets.items) text.now) }
-    ensures none { IfErr result (λ fault. (fault ≡ CallError.NoMemory)
+    ensures none { IfErr result (λ fault.
+        ((fault ≡ CallError.NoMemory) × IsUtf8 text.now)
         ⊎ ((fault ≡ CallError.BadText) × LacksData rtype text.now)) }
 {
     let words = words_of(alloc, text)?;

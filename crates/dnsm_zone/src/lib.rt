@@ -1,9 +1,10 @@
 //! RDATA and records of zone files, as octets (RFC 1035 section 5.1).
 //!
-//! These functions allocate. No call for C uses them yet.
+//! These functions allocate. `dnsm` exports them to C.
 #![tactic(auto)]
 
 mod data;
+pub mod laws;
 mod record;
 mod words;
 

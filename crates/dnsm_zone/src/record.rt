@@ -1,10 +1,11 @@
 //! Records from text.
 ghost use Rattle.std.specs.Prelude.{◌≡◌, ◌⊎◌, [], length, IfOk, IfErr};
+ghost use Rattle.std.specs.Str.{IsUtf8};
 ghost use Rattle.dns_name.specs.NameReading.{name_labels};
 ghost use Rattle.dns_item.specs.Items.{ReadsRecordItem};
 ghost use Rattle.dns_item.specs.Record.{record_item};
 ghost use Rattle.fields_octets.specs.OwnedData.{owned_parts_of, owned_rtype_of};
-ghost use Rattle.fields_read_records.specs.RecordWords.{IsRecordText};
+ghost use Rattle.fields_read_records.specs.RecordWords.{IsRecordText, MayBeRecord};
 ghost use Rattle.dnsm_zone.specs.Lines.{AreNoRecord, AreRecord, HasWords, LacksRecord, octets_of_record};
 
 use crate::words::{fault_of, words_of};
@@ -23,7 +24,8 @@ type OwnedRecord = Record<Name<ArrayVec<u8, 255>>, OwnedFieldData>;
 fn record_of(alloc: Global, words: &[&str]) -> Result<OwnedRecord, CallError>
     ensures found { IfOk result (λ found.
         IsRecordText words.now (record_item name_labels owned_rtype_of owned_parts_of found)) }
-    ensures none { IfErr result (λ fault. (fault ≡ CallError.NoMemory)
+    ensures none { IfErr result (λ fault.
+        ((fault ≡ CallError.NoMemory) × MayBeRecord words.now)
         ⊎ ((fault ≡ CallError.BadText) × AreNoRecord words.now)) }
 {
     match read_record(alloc, words) {
@@ -51,7 +53,8 @@ fn octets_of(alloc: Global, found: &OwnedRecord) -> Result<Vec<u8>, CallError>
 /// `BadText` if the text is no record, `NoMemory` if an allocation fails.
 pub fn record_from_text(alloc: Global, text: &[u8]) -> Result<Vec<u8>, CallError>
     ensures found { IfOk result (λ octets. HasWords (AreRecord octets.items) text.now) }
-    ensures none { IfErr result (λ fault. (fault ≡ CallError.NoMemory)
+    ensures none { IfErr result (λ fault.
+        ((fault ≡ CallError.NoMemory) × IsUtf8 text.now)
         ⊎ ((fault ≡ CallError.BadText) × LacksRecord text.now)) }
 {
     let words = words_of(alloc, text)?;

@@ -1,5 +1,6 @@
 //! The words of a text.
-ghost use Rattle.std.specs.Prelude.{◌≡◌, ◌⊎◌, IfOk, IfErr};
+ghost use Rattle.std.specs.Prelude.{◌≡◌, ◌⊎◌, IfOk, IfErr, OnOk};
+ghost use Rattle.std.specs.Str.{IsUtf8};
 ghost use Rattle.fields_read_words.specs.LineWords.{AreWordsOf, texts};
 ghost use Rattle.dnsm_zone.specs.Lines.{HasNoWords, text_fault};
 
@@ -21,7 +22,9 @@ pub(crate) fn fault_of(error: TextError) -> CallError
 /// The words of a text.
 pub(crate) fn words_of(alloc: Global, text: &[u8]) -> Result<Vec<&str>, CallError>
     ensures words { IfOk result (λ words. AreWordsOf text.now (texts words.items)) }
-    ensures none { IfErr result (λ fault. (fault ≡ CallError.NoMemory)
+    ensures text { OnOk result (IsUtf8 text.now) }
+    ensures none { IfErr result (λ fault.
+        ((fault ≡ CallError.NoMemory) × IsUtf8 text.now)
         ⊎ ((fault ≡ CallError.BadText) × HasNoWords text.now)) }
 {
     let Ok(text) = std::str::from_utf8(text) else {

@@ -16,6 +16,12 @@ returns-clause-pointed c = λ s i.
     let put = put_there c.put_octets-header.result c.put_octets-header.ensures.put (c.put_octets-header.ensures.room (omega arith)) in
     finished_pointed c.args.out.now c.put_octets-header.new.out c.args.draft.now s (put.1.written ∙ ap (overwritten c.args.out.now 0) c.header_section.ensures.octets) i
 
+pub returns-clause-written : goal.returns-clause-written
+returns-clause-written c =
+    let twelve : length c.header_section.result ≡ 12 = ap length c.header_section.ensures.octets in
+    let put = put_there c.put_octets-header.result c.put_octets-header.ensures.put (c.put_octets-header.ensures.room (omega arith)) in
+    put.1.written ∙ ap (overwritten c.args.out.now 0) c.header_section.ensures.octets
+
 pub returns-clause-stay : goal.returns-clause-stay
 returns-clause-stay c = λ d s i.
     let twelve : length c.header_section.result ≡ 12 = ap length c.header_section.ensures.octets in

@@ -5,7 +5,7 @@ use Rattle.std.specs.Prelude.{◌==◌}
 use Rattle.std.proofs.lemmas.List.{drop-drop, drop-take, length-take-le, take-append-drop, take-take}
 use Rattle.dns_code.specs.Bits.{number_in}
 use Rattle.dns_edns.specs.Options.{OptionBegins, encode_option}
-use Rattle.dnsm_read.specs.DataNames.{data_end}
+use Rattle.dnsm_read.specs.DataFields.{data_end}
 use Rattle.dnsm_read.specs.Opts.{BeginsNoOption, HasFields, HoldsOpt, IsInData, LacksOption, data_from}
 use Rattle.dnsm_read.specs.declared.opts.Opt.{Opt}
 use Rattle.dnsm_read.specs.declared.walk.Item.{Item}

@@ -5,7 +5,7 @@ use Rattle.dnsm_status.specs.Codes.{number_of}
 use Rattle.dnsm_status.specs.declared.code.CallError.{CallError}
 use Rattle.dnsm_status.specs.declared.code.CallError.TheVariants.{ShortInput, BadLabel, BadPointer, LongName, Form, NoRoom, BadText, NoQuestion, BadSection, NoMemory}
 use Rattle.dnsm_status.specs.declared.code.CallError.TheVariants.{LongData, TooMany, IsResponse, OtherOpcode, OtherClass, OtherType, NotOpt, BadOption, NoName}
-use Rattle.dnsm_status.specs.declared.code.CallError.TheVariants.{BadData}
+use Rattle.dnsm_status.specs.declared.code.CallError.TheVariants.{BadData, NoOpt, TwoOpts, BadOwner, NoResponse, OtherQuery}
 
 -- the number of a fault isn't that of success
 no_success : (fault : CallError) → number_of fault ≡ 0 → ⊥
@@ -29,6 +29,11 @@ no_success NotOpt is = omega arith
 no_success BadOption is = omega arith
 no_success NoName is = omega arith
 no_success BadData is = omega arith
+no_success NoOpt is = omega arith
+no_success TwoOpts is = omega arith
+no_success BadOwner is = omega arith
+no_success NoResponse is = omega arith
+no_success OtherQuery is = omega arith
 
 module _ (out : List ℕ) (len status : ℕ) (none : len ≡ 0) where
   -- a call that fails writes nothing

@@ -1,4 +1,5 @@
 use Rattle.std.proofs.Common.{◌+◌, length, get_or, set, arith, ap, refl}
+use Rattle.dnsm_put.specs.Items.{IsQuestionOf, IsRecordOf}
 use Rattle.dnsm_put.proofs.Drafts.{adds}
 use Rattle.dnsm_put.proofs.items.append.Goals as goal
 
@@ -13,7 +14,7 @@ returns-clause-adds c =
     let m = c.most_of-most.ensures in
     let l = c.put_item.ensures.length in
     let e = c.from-section.ensures in
-    adds c.args.out.now c.put_item.new.out d _ c.args.item.now (record {
+    adds (IsQuestionOf c.args.item.now) (IsRecordOf c.args.item.now) c.args.out.now c.put_item.new.out d _ c.args.item.now.section (record {
       kept = c.put_item.ensures.kept;
       long = l;
       within = omega arith;

@@ -1,6 +1,6 @@
 use Rattle.std.proofs.Common.{arith, ◌∙◌}
 use Rattle.dnsm_put.proofs.Buffers.{kept_put, kept_later, length_put, put_there}
-use Rattle.dnsm_put.proofs.ItemsWritten.{holds_record}
+use Rattle.dnsm_put.proofs.ItemsWritten.{holds_record, with_parts}
 use Rattle.dnsm_put.proofs.items.put_record.Goals as goal
 
 pub returns-in_err-end-clause-kept : goal.returns-in_err-end-clause-kept
@@ -28,7 +28,7 @@ returns-clause-holds c = λ x of.
     let m = length_put c.put_name.new.out c.put_octets.new.out c.in_ok-fields.fields c.args.most c.in_ok-start.start _ (omega arith) put in
     let sized = put_there c.put_octets-size.result c.put_octets-size.ensures.put (c.put_octets-size.ensures.room (omega arith)) in
     holds_record c.put_name.new.out c.put_octets.new.out c.put_rdata.new.out c.put_octets-size.new.out c.args.at c.in_ok-fields.fields c.in_ok-start.start
-    c.in_ok-end.end c.args.most c.record_fields_of.result c.to_be_bytes.result c.args.item.now x of (omega arith)
+    c.in_ok-end.end c.args.most c.record_fields_of.result c.to_be_bytes.result c.args.item.now x x.parts (with_parts c.args.item.now x of) (omega arith)
     (c.in_ok-fields.ensures.named x.owner of.is_record.owner of.owner) (omega arith) c.record_fields_of.ensures put c.put_rdata.ensures.kept c.put_rdata.ensures.length
     (c.in_ok-end.ensures.written x.parts of.is_record.parts of.parts) (omega arith) c.to_be_bytes.ensures sized.1.written (omega arith)
 

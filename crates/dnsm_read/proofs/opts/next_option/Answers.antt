@@ -30,3 +30,6 @@ returns-clause-within c =
           c.in-Some.data_len _ end.1 (omega arith) option.within
           (omega (arith, c.from.ensures)),
     )
+
+pub returns-clause-data : goal.returns-clause-data
+returns-clause-data c = λ given. omega (arith, c.from.ensures)

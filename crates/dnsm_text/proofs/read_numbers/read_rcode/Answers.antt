@@ -1,0 +1,17 @@
+use Rattle.std.proofs.Common.{◌∙◌, ap, refl, sym}
+use Rattle.std.specs.Prelude.{Some, codes}
+use Rattle.dns_iana.specs.RegisteredTexts.{SpellsOptRcode}
+use Rattle.dns_iana.specs.Registry.{registered_opt_rcodes}
+use Rattle.dns_iana.proofs.theory.AsciiTexts.{opt_rcodes_ascii, spelled_utf8}
+use Rattle.dnsm_text.proofs.ReadNumbers.{no_number, same_number}
+use Rattle.dnsm_text.proofs.read_numbers.read_rcode.Goals as goal
+
+pub returns-in_default : goal.returns-in_default
+returns-in_default c =
+    no_number (SpellsOptRcode c.args.text.now) (λ n is. c.in_default.ensures.cases.0 (spelled_utf8 registered_opt_rcodes (codes "RCODE") opt_rcodes_ascii refl c.args.text.now n is.0))
+
+pub returns-in-Some : goal.returns-in-Some
+returns-in-Some c = same_number SpellsOptRcode _ _ c.in-Ok.ensures.cases.0 _ c.from_registered_name.ensures _ (c.in-Some.is ∙ ap (λ n. Some n) (sym c.to_int.ensures.value))
+
+pub returns-in-None : goal.returns-in-None
+returns-in-None c = same_number SpellsOptRcode _ _ c.in-Ok.ensures.cases.0 _ c.from_registered_name.ensures _ c.in-None.is
