@@ -4,7 +4,7 @@
  *     2. Reading a message
  *     3. Names
  *     4. RDATA
- *     5. Types and classes as text
+ *     5. Numbers, and their texts
  *     6. EDNS
  *     7. Queries, and responses of one address
  *     8. Writing a message by one call
@@ -12,29 +12,30 @@
  *
  * and each begins with an example. There `message` are the `message_len` octets of a message.
  *
- * Calls. Each but dnsm_opt_ttl returns a status: DNSM_OK, or the reason why there is no result. No call prints, blocks, or ends
- * the process.
+ * Calls. Each but dnsm_version and dnsm_opt_ttl returns a status: DNSM_OK, or the reason why there is no result. No call
+ * prints, blocks, or ends the process.
  *
  * Threads. No call keeps state, so any thread may make any call at any time, if no other thread changes what the call uses.
- * Only dnsm_build allocates, by malloc, realloc and free. Don't call it from a signal handler, nor in the forked child of a
- * process with threads. All other calls may be made in both.
+ * Only dnsm_build, dnsm_data_from_text and dnsm_record_from_text allocate, by malloc, realloc and free. Don't call them from a
+ * signal handler, nor in the forked child of a process with threads. All other calls may be made in both.
  *
- * Lifetimes. No call keeps a pointer that it was passed, and none returns memory that the caller has to free. Items, options and
- * cursors contain offsets into a message, no pointers: they stay valid as long as the message does, also if it is moved. An
- * offset counts octets from the start of the message.
+ * Lifetimes. No call keeps a pointer that it was passed, and none returns memory that the caller has to free. Items, options
+ * and cursors contain offsets into a message, no pointers: they stay valid as long as the message does, also if it is moved.
+ * An offset counts octets from the start of the message.
  *
- * Pointers. One that comes with a length may be null if the length is 0. Each other pointer has to be valid, and aligned. What a
- * call writes may not overlap anything else that is passed to it. It needn't be initialised, except where a call says so.
+ * Pointers. One that comes with a length may be null if the length is 0. Each other pointer has to be valid, and aligned. What
+ * a call writes may not overlap anything else that is passed to it. It needn't be initialised, except where a call says so.
  *
- * Results in a buffer. Each call with `out`, `out_len` and `len` but dnsm_finish writes its result into the `out_len` octets at
- * `out`, and sets `*len` to its length. A text is followed by a zero octet, which `*len` doesn't count. If the buffer is too
- * short, the call returns DNSM_NO_ROOM, sets `*len` to the length that the result would have, and leaves anything in the
+ * Results in a buffer. Each call with `out`, `out_len` and `len` but dnsm_finish writes its result into the `out_len` octets
+ * at `out`, and sets `*len` to its length. A text is followed by a zero octet, which `*len` doesn't count. If the buffer is
+ * too short, the call returns DNSM_NO_ROOM, sets `*len` to the length that the result would have, and leaves anything in the
  * buffer: octets need a buffer of `*len` octets, and a text one of `*len` + 1. So a call with a null `out` and length 0 gives
  * the length. On each other error `*len` is 0.
  *
- * Processor and systems. The library is compiled for Linux on x86-64, with pointers of 64 bits, and for processors of the level
- * x86-64-v2 (SSE4.2), as all since about 2009 are. On an older one a program doesn't start, or ends in an illegal instruction. The
- * library is tried on Debian 12, with glibc 2.36 and with musl; this file with gcc 12 and clang 14, as C99, C11 and C++17.
+ * Processor and systems. The library is compiled for Linux on x86-64, with pointers of 64 bits, and for processors of the
+ * level x86-64-v2 (SSE4.2), as all since about 2009 are. On an older one a program doesn't start, or ends in an illegal
+ * instruction. The library is tried on Debian 12, with glibc 2.36 and with musl; this file with gcc 12 and clang 14, as C99,
+ * C11 and C++17.
  *
  * Sanitizers. The library isn't instrumented: the address sanitizer doesn't see its reads and writes, so it doesn't report a
  * length that is too great. valgrind does. */
@@ -55,11 +56,23 @@ extern "C" {
  *     size_t len;
  *     if (dnsm_status_text(DNSM_NO_ROOM, sentence, sizeof sentence, &len) == DNSM_OK)
  *         printf("%s (%zu characters)\n", sentence, len);
+ *     if (!dnsm_is_compatible())
+ *         printf("the library has version %lu\n", (unsigned long)dnsm_version());
  */
 
 /* The version of this header and its library, as text and as a number: 10000 * major + 100 * minor + patch. */
 #define DNSM_VERSION "2.0.0"
 #define DNSM_VERSION_NUMBER 20000
+
+/* The version of the library that the program runs with, as a number. */
+uint32_t dnsm_version(void);
+
+/* Whether that library has all that this header has: its major version is the same, and it isn't older. */
+static inline bool dnsm_is_compatible(void)
+{
+    const uint32_t version = dnsm_version();
+    return version >= DNSM_VERSION_NUMBER && version / 10000 == DNSM_VERSION_NUMBER / 10000;
+}
 
 /* What a call returns. A later version may have more of them. */
 typedef uint32_t dnsm_status;
@@ -72,7 +85,7 @@ enum {
     DNSM_LONG_NAME = 5,     /* a name has more than 255 octets */
     DNSM_FORM = 6,          /* returned only if the caller gave the cursor this status */
     DNSM_NO_ROOM = 7,       /* the output buffer, or the limit of a draft, is too short */
-    DNSM_BAD_TEXT = 8,      /* a text, or the name of a dnsm_put_item, is no valid name */
+    DNSM_BAD_TEXT = 8,      /* a text can't be read, or the name of an item to put can't */
     DNSM_NO_QUESTION = 9,   /* the query doesn't have exactly one question */
     DNSM_BAD_SECTION = 10,  /* a section number exceeds 3 or is before that of the last item, or RDATA of a question is asked for */
     DNSM_NO_MEMORY = 11,    /* an allocation failed */
@@ -85,8 +98,12 @@ enum {
     DNSM_NOT_OPT = 18,      /* the item is no OPT record */
     DNSM_BAD_OPTION = 19,   /* an option isn't whole within the RDATA, or its offset isn't there */
     DNSM_NO_NAME = 20,      /* the RDATA has no such name */
-    DNSM_BAD_DATA = 21      /* the octets are no RDATA of the record type */
-    /* 22 is no status, and is kept free. */
+    DNSM_BAD_DATA = 21,     /* the octets are no RDATA of the record type */
+    DNSM_NO_OPT = 22,       /* the additional section has no OPT record */
+    DNSM_TWO_OPTS = 23,     /* the additional section has two OPT records */
+    DNSM_BAD_OWNER = 24,    /* the owner of the OPT record isn't the root */
+    DNSM_NO_RESPONSE = 25,  /* QR isn't set, so this is no response */
+    DNSM_OTHER_QUERY = 26   /* the ID, the opcode or the questions of a response aren't those of the query */
 };
 
 /* Writes what a status means, in English, as "the output buffer is too short", or "unknown status" with the number if there is no
@@ -141,7 +158,7 @@ typedef struct dnsm_cursor {
 typedef struct dnsm_item {
     size_t place;      /* offset of the name, for dnsm_name_text and dnsm_name_octets */
     size_t data;       /* offset of the RDATA, whose data_len octets all lie within the message; of a question its end */
-    uint32_t ttl;      /* in seconds; 0 for a question */
+    uint32_t ttl;      /* in seconds; 0 for a question. A record has it at offset data - 6, in four octets, big-endian */
     uint16_t type;
     uint16_t class_;
     uint16_t data_len; /* 0 for a question */
@@ -178,6 +195,9 @@ dnsm_status dnsm_next(const uint8_t *message, size_t message_len, dnsm_cursor *c
  *     if (dnsm_name_from_text("a\\.b.example", 12, name, sizeof name, &len) == DNSM_OK)
  *         printf("a name of %zu octets\n", len);
  *
+ * Comparisons, keys and hashes ignore ASCII case (RFC 1035 section 2.3.3). A server that looks up many names computes the key of
+ * each once, and sorts them by it.
+ *
  * Names as text. The text of a name is its labels, separated by dots (RFC 1035 section 5.1). A final dot may be left out, and
  * changes nothing: each name is absolute. The root is a single dot. In a label, each graphic ASCII character but the dot and the
  * backslash (0x21 to 0x7e) represents itself. A backslash and a graphic character that is no digit represent that character, as
@@ -187,9 +207,9 @@ dnsm_status dnsm_next(const uint8_t *message, size_t message_len, dnsm_cursor *c
  * no origin, `@` is an ordinary character, and names of other scripts have to be in ASCII already (IDNA). A text that is passed
  * comes with its length, and needs no zero octet. */
 
-/* Lengths of output buffers that are always enough: DNSM_NAME_TEXT for dnsm_name_text, and DNSM_NAME_OCTETS for dnsm_name_octets
- * and dnsm_name_from_text. */
-enum { DNSM_NAME_TEXT = 1005, DNSM_NAME_OCTETS = 255 };
+/* Lengths of output buffers that are always enough: DNSM_NAME_TEXT for dnsm_name_text and dnsm_data_name_text,
+ * DNSM_NAME_OCTETS for dnsm_name_octets, dnsm_name_from_text and dnsm_data_name_octets, and DNSM_NAME_KEY for dnsm_name_key. */
+enum { DNSM_NAME_TEXT = 1005, DNSM_NAME_OCTETS = 255, DNSM_NAME_KEY = 504 };
 
 /* Writes the name at offset `place` as text, with a dot after each label. dnsm_name_from_text reads it back as the same name.
  * To read a name in RDATA without the octets after the RDATA, pass the end of the RDATA as `message_len`: the item's `data` plus
@@ -215,20 +235,61 @@ dnsm_status dnsm_name_end(const uint8_t *message, size_t message_len, size_t pla
  * Errors: DNSM_NO_ROOM, and DNSM_BAD_TEXT if the text is no name. */
 dnsm_status dnsm_name_from_text(const char *text, size_t text_len, uint8_t *out, size_t out_len, size_t *len);
 
+/* Sets `*equal` to 1 if two names are equal, each at an offset of octets of its own, else to 0.
+ *
+ * Errors: those of dnsm_name_end for the first name, or else for the second. Then `*equal` isn't written. */
+dnsm_status dnsm_name_equal(const uint8_t *message, size_t message_len, size_t place, const uint8_t *other, size_t other_len,
+                            size_t other_place, uint8_t *equal);
+
+/* Sets `*below` to 1 if the first name is the second or a subdomain of it (RFC 1034 section 3.1), else to 0.
+ *
+ * Errors: those of dnsm_name_equal. */
+dnsm_status dnsm_name_below(const uint8_t *message, size_t message_len, size_t place, const uint8_t *other, size_t other_len,
+                            size_t other_place, uint8_t *below);
+
+/* Sets `*order` to 0 if the first name is before the second as RFC 4034 section 6.1 orders names, to 1 if they are equal, and to 2
+ * if it is after it.
+ *
+ * Errors: those of dnsm_name_equal. */
+dnsm_status dnsm_name_order(const uint8_t *message, size_t message_len, size_t place, const uint8_t *other, size_t other_len,
+                            size_t other_place, uint8_t *order);
+
+/* Writes the key of the name at offset `place`. Keys compare as RFC 4034 section 6.1 orders names: by memcmp, and if one
+ * begins with the other, by length. The keys of a name's subdomains begin with its own. The key has the labels from the root's
+ * side on, in lower case, each followed by a zero octet; within a label the octets 0 and 1 are 1 1 and 1 2.
+ *
+ * Errors: those of dnsm_name_text. */
+dnsm_status dnsm_name_key(const uint8_t *message, size_t message_len, size_t place, uint8_t *out, size_t out_len, size_t *len);
+
+/* Sets `*hash` to a hash of the name at offset `place`. If others choose the names, the seed has to be secret and random, of 16
+ * octets: else they can choose names with the same hash.
+ *
+ * Errors: those of dnsm_name_end. Then `*hash` isn't written. */
+dnsm_status dnsm_name_hash(const uint8_t *message, size_t message_len, size_t place, const uint8_t *seed, size_t seed_len,
+                           uint32_t *hash);
+
 /* 4. RDATA
  *
  *     dnsm_header header;
  *     dnsm_cursor cursor;
  *     dnsm_item item;
+ *     dnsm_data_field field;
  *     char text[1200];
- *     size_t len, place;
+ *     uint8_t data[512];
+ *     size_t len, index;
  *     dnsm_open(message, message_len, &header, &cursor);
  *     while (dnsm_next(message, message_len, &cursor, &item) == DNSM_OK) {
  *         if (dnsm_data_text(message, message_len, &item, text, sizeof text, &len) == DNSM_OK)
  *             puts(text);
- *         if (dnsm_data_name(message, message_len, &item, 0, &place) == DNSM_OK)
- *             printf("a name at offset %zu\n", place);
+ *         if (dnsm_data_name_text(message, message_len, &item, 0, text, sizeof text, &len) == DNSM_OK)
+ *             printf("with the name %s\n", text);
+ *         for (index = 0; dnsm_next_field(message, message_len, &item, &index, &field) == DNSM_OK;)
+ *             printf("field %zu is of kind %u\n", index, field.kind);
+ *         if (dnsm_data_octets(message, message_len, &item, data, sizeof data, &len) == DNSM_OK)
+ *             printf("%zu octets with names uncompressed\n", len);
  *     }
+ *     if (dnsm_data_from_text(DNSM_TYPE_MX, "10 mail.example.org.", 20, data, sizeof data, &len) == DNSM_OK)
+ *         printf("%zu octets from text\n", len);
  */
 
 /* Writes the RDATA of a record as in a zone file (RFC 1035 section 5.1): the fields of its type, separated by spaces, for the 65
@@ -242,23 +303,151 @@ dnsm_status dnsm_name_from_text(const char *text, size_t text_len, uint8_t *out,
 dnsm_status dnsm_data_text(const uint8_t *message, size_t message_len, const dnsm_item *item, char *out, size_t out_len,
                            size_t *len);
 
-/* Sets `*place` to the offset of a name in the RDATA of a record, for dnsm_name_text and dnsm_name_octets: of the first name if
- * `index` is 0, and of the second name of SOA if it is 1. The types are NS, CNAME, SOA, PTR, MX, SRV and DNAME. A name can be read
- * there, and no octet after the RDATA belongs to it, also where it has a compression pointer.
+/* Writes the RDATA of a record, with names uncompressed: what dnsm_put and dnsm_build take. It is checked to be the fields of
+ * its type, for the 65 types of dnsm_data_text; RDATA of other types may be any octets. Nothing after the RDATA is read.
  *
- * Errors, the first that applies: DNSM_BAD_SECTION for a question, which has no RDATA; DNSM_NO_NAME if RDATA of this type has no
- * name with this index; DNSM_SHORT_INPUT if the RDATA isn't within the message, which happens only for an item that dnsm_next
- * didn't write for these octets; DNSM_BAD_DATA if the RDATA isn't that of its type, which dnsm_data_text writes as `\#`. On an
- * error `*place` isn't written. */
+ * Errors: DNSM_BAD_SECTION for a question, which has no RDATA; DNSM_SHORT_INPUT if the RDATA isn't within the message, which
+ * happens only for an item that dnsm_next didn't write for these octets; DNSM_BAD_DATA if it isn't that of its type, or has more
+ * than 65,535 octets once its names are uncompressed; DNSM_NO_ROOM. */
+dnsm_status dnsm_data_octets(const uint8_t *message, size_t message_len, const dnsm_item *item, uint8_t *out, size_t out_len,
+                             size_t *len);
+
+/* Checks that the RDATA of a record is that of its type.
+ *
+ * Errors: those of dnsm_data_octets but DNSM_NO_ROOM. */
+dnsm_status dnsm_check_data(const uint8_t *message, size_t message_len, const dnsm_item *item);
+
+/* Sets `*place` to the offset of a name in the RDATA of a record, for dnsm_name_text and dnsm_name_octets with the end of the
+ * RDATA as `message_len`. The names are counted from 0, in the order of the fields, for each type with a field that is a name. In
+ * IPSECKEY, AMTRELAY and HIP names are parts of fields of octets, and aren't counted. No octet after the RDATA belongs to the
+ * name, also where it has a compression pointer.
+ *
+ * Errors, the first that applies: DNSM_BAD_SECTION for a question; DNSM_NO_NAME if RDATA of this type has no name with this
+ * index; and those of dnsm_data_octets but DNSM_NO_ROOM. On an error `*place` isn't written. */
 dnsm_status dnsm_data_name(const uint8_t *message, size_t message_len, const dnsm_item *item, size_t index, size_t *place);
 
-/* 5. Types and classes as text
+/* Writes such a name as text, or as its octets.
+ *
+ * Errors: those of dnsm_data_name, and DNSM_NO_ROOM. */
+dnsm_status dnsm_data_name_text(const uint8_t *message, size_t message_len, const dnsm_item *item, size_t index, char *out,
+                                size_t out_len, size_t *len);
+dnsm_status dnsm_data_name_octets(const uint8_t *message, size_t message_len, const dnsm_item *item, size_t index, uint8_t *out,
+                                  size_t out_len, size_t *len);
+
+/* What a field of RDATA is: a number; a record type, in `number`; the octets of an address; a name, at `place`; a string,
+ * without its length; octets after their length of 16 bits; or other octets. */
+enum {
+    DNSM_FIELD_NUMBER = 0,
+    DNSM_FIELD_TYPE = 1,
+    DNSM_FIELD_IPV4 = 2,
+    DNSM_FIELD_IPV6 = 3,
+    DNSM_FIELD_NAME = 4,
+    DNSM_FIELD_STRING = 5,
+    DNSM_FIELD_SIZED = 6,
+    DNSM_FIELD_OCTETS = 7
+};
+
+/* A field of RDATA. Members that don't belong to its kind are 0. */
+typedef struct dnsm_data_field {
+    size_t place;    /* offset of a name or of octets */
+    size_t len;      /* the number of octets */
+    uint64_t number;
+    uint8_t kind;
+} dnsm_data_field;
+
+/* Reads the field with this index, and adds one to the index. Set it to 0 before the first call. The character strings of TXT, and
+ * the parameters of SVCB, are one field of octets.
+ *
+ * Returns DNSM_OK with a field, or DNSM_END if there are no more. Without a field, nothing is written.
+ *
+ * Errors: those of dnsm_check_data. */
+dnsm_status dnsm_next_field(const uint8_t *message, size_t message_len, const dnsm_item *item, size_t *index,
+                            dnsm_data_field *field);
+
+/* Writes the RDATA that a text represents, as in a zone file: what dnsm_data_text writes for RDATA of this type, or `\#` with a
+ * length and hexadecimal digits (RFC 3597 section 5), which have to be RDATA of this type, too. Names are absolute. Allocates.
+ *
+ * Errors: DNSM_NO_ROOM, DNSM_BAD_TEXT, and DNSM_NO_MEMORY. */
+dnsm_status dnsm_data_from_text(uint16_t type, const char *text, size_t text_len, uint8_t *out, size_t out_len, size_t *len);
+
+/* Writes the octets of the record that a text represents, as in a line of a zone file: owner, TTL in seconds, class, type, and
+ * RDATA. Sets the item as for a record of the answer section at the start of these octets, so that dnsm_put_from takes both.
+ * Allocates.
+ *
+ * Errors: DNSM_NO_ROOM, DNSM_BAD_TEXT, and DNSM_NO_MEMORY. Then the item isn't written. */
+dnsm_status dnsm_record_from_text(const char *text, size_t text_len, uint8_t *out, size_t out_len, size_t *len, dnsm_item *item);
+
+/* 5. Numbers, and their texts
  *
  *     char type[16], class_[16];
  *     size_t len;
- *     if (dnsm_type_text(65, type, sizeof type, &len) == DNSM_OK && dnsm_class_text(1, class_, sizeof class_, &len) == DNSM_OK)
+ *     uint16_t number;
+ *     if (dnsm_type_text(DNSM_TYPE_HTTPS, type, sizeof type, &len) == DNSM_OK &&
+ *         dnsm_class_text(DNSM_CLASS_IN, class_, sizeof class_, &len) == DNSM_OK)
  *         printf("%s %s\n", class_, type);
- */
+ *     if (dnsm_type_from_text("mx", 2, &number) == DNSM_OK)
+ *         printf("type %u\n", number);
+ *
+ * Texts are read in any case, and need no zero octet: the name that IANA has registered, as dnsm_type_text writes it, or the word
+ * that it writes for a number without a name, as TYPE, and the number in decimal digits. A call that reads one sets a number, and
+ * returns DNSM_BAD_TEXT if the text is none; then the number isn't written. */
+
+/* The numbers that IANA has registered, by their names: of record types, classes, opcodes, rcodes of up to twelve bits (16 is
+ * BADVERS), options of OPT records, and extended errors (RFC 8914). Any other number may be used, too. */
+enum {
+    DNSM_TYPE_A = 1, DNSM_TYPE_NS = 2, DNSM_TYPE_MD = 3, DNSM_TYPE_MF = 4, DNSM_TYPE_CNAME = 5, DNSM_TYPE_SOA = 6,
+    DNSM_TYPE_MB = 7, DNSM_TYPE_MG = 8, DNSM_TYPE_MR = 9, DNSM_TYPE_NULL = 10, DNSM_TYPE_WKS = 11, DNSM_TYPE_PTR = 12,
+    DNSM_TYPE_HINFO = 13, DNSM_TYPE_MINFO = 14, DNSM_TYPE_MX = 15, DNSM_TYPE_TXT = 16, DNSM_TYPE_RP = 17,
+    DNSM_TYPE_AFSDB = 18, DNSM_TYPE_X25 = 19, DNSM_TYPE_ISDN = 20, DNSM_TYPE_RT = 21, DNSM_TYPE_NSAP = 22,
+    DNSM_TYPE_NSAP_PTR = 23, DNSM_TYPE_SIG = 24, DNSM_TYPE_KEY = 25, DNSM_TYPE_PX = 26, DNSM_TYPE_GPOS = 27,
+    DNSM_TYPE_AAAA = 28, DNSM_TYPE_LOC = 29, DNSM_TYPE_NXT = 30, DNSM_TYPE_EID = 31, DNSM_TYPE_NIMLOC = 32,
+    DNSM_TYPE_SRV = 33, DNSM_TYPE_ATMA = 34, DNSM_TYPE_NAPTR = 35, DNSM_TYPE_KX = 36, DNSM_TYPE_CERT = 37, DNSM_TYPE_A6 = 38,
+    DNSM_TYPE_DNAME = 39, DNSM_TYPE_SINK = 40, DNSM_TYPE_OPT = 41, DNSM_TYPE_APL = 42, DNSM_TYPE_DS = 43,
+    DNSM_TYPE_SSHFP = 44, DNSM_TYPE_IPSECKEY = 45, DNSM_TYPE_RRSIG = 46, DNSM_TYPE_NSEC = 47, DNSM_TYPE_DNSKEY = 48,
+    DNSM_TYPE_DHCID = 49, DNSM_TYPE_NSEC3 = 50, DNSM_TYPE_NSEC3PARAM = 51, DNSM_TYPE_TLSA = 52, DNSM_TYPE_SMIMEA = 53,
+    DNSM_TYPE_HIP = 55, DNSM_TYPE_NINFO = 56, DNSM_TYPE_RKEY = 57, DNSM_TYPE_TALINK = 58, DNSM_TYPE_CDS = 59,
+    DNSM_TYPE_CDNSKEY = 60, DNSM_TYPE_OPENPGPKEY = 61, DNSM_TYPE_CSYNC = 62, DNSM_TYPE_ZONEMD = 63, DNSM_TYPE_SVCB = 64,
+    DNSM_TYPE_HTTPS = 65, DNSM_TYPE_DSYNC = 66, DNSM_TYPE_HHIT = 67, DNSM_TYPE_BRID = 68, DNSM_TYPE_SPF = 99,
+    DNSM_TYPE_UINFO = 100, DNSM_TYPE_UID = 101, DNSM_TYPE_GID = 102, DNSM_TYPE_UNSPEC = 103, DNSM_TYPE_NID = 104,
+    DNSM_TYPE_L32 = 105, DNSM_TYPE_L64 = 106, DNSM_TYPE_LP = 107, DNSM_TYPE_EUI48 = 108, DNSM_TYPE_EUI64 = 109,
+    DNSM_TYPE_NXNAME = 128, DNSM_TYPE_TKEY = 249, DNSM_TYPE_TSIG = 250, DNSM_TYPE_IXFR = 251, DNSM_TYPE_AXFR = 252,
+    DNSM_TYPE_MAILB = 253, DNSM_TYPE_MAILA = 254, DNSM_TYPE_ANY = 255, DNSM_TYPE_URI = 256, DNSM_TYPE_CAA = 257,
+    DNSM_TYPE_AVC = 258, DNSM_TYPE_DOA = 259, DNSM_TYPE_AMTRELAY = 260, DNSM_TYPE_RESINFO = 261, DNSM_TYPE_WALLET = 262,
+    DNSM_TYPE_CLA = 263, DNSM_TYPE_IPN = 264, DNSM_TYPE_TA = 32768, DNSM_TYPE_DLV = 32769
+};
+enum {
+    DNSM_CLASS_IN = 1, DNSM_CLASS_CH = 3, DNSM_CLASS_HS = 4, DNSM_CLASS_NONE = 254, DNSM_CLASS_ANY = 255
+};
+enum {
+    DNSM_OPCODE_QUERY = 0, DNSM_OPCODE_IQUERY = 1, DNSM_OPCODE_STATUS = 2, DNSM_OPCODE_NOTIFY = 4, DNSM_OPCODE_UPDATE = 5,
+    DNSM_OPCODE_DSO = 6
+};
+enum {
+    DNSM_RCODE_NOERROR = 0, DNSM_RCODE_FORMERR = 1, DNSM_RCODE_SERVFAIL = 2, DNSM_RCODE_NXDOMAIN = 3, DNSM_RCODE_NOTIMP = 4,
+    DNSM_RCODE_REFUSED = 5, DNSM_RCODE_YXDOMAIN = 6, DNSM_RCODE_YXRRSET = 7, DNSM_RCODE_NXRRSET = 8, DNSM_RCODE_NOTAUTH = 9,
+    DNSM_RCODE_NOTZONE = 10, DNSM_RCODE_DSOTYPENI = 11, DNSM_RCODE_BADVERS = 16, DNSM_RCODE_BADKEY = 17,
+    DNSM_RCODE_BADTIME = 18, DNSM_RCODE_BADMODE = 19, DNSM_RCODE_BADNAME = 20, DNSM_RCODE_BADALG = 21,
+    DNSM_RCODE_BADTRUNC = 22, DNSM_RCODE_BADCOOKIE = 23
+};
+enum {
+    DNSM_OPTION_LLQ = 1, DNSM_OPTION_UPDATE_LEASE = 2, DNSM_OPTION_NSID = 3, DNSM_OPTION_DAU = 5, DNSM_OPTION_DHU = 6,
+    DNSM_OPTION_N3U = 7, DNSM_OPTION_EDNS_CLIENT_SUBNET = 8, DNSM_OPTION_EDNS_EXPIRE = 9, DNSM_OPTION_COOKIE = 10,
+    DNSM_OPTION_EDNS_TCP_KEEPALIVE = 11, DNSM_OPTION_PADDING = 12, DNSM_OPTION_CHAIN = 13, DNSM_OPTION_EDNS_KEY_TAG = 14,
+    DNSM_OPTION_EXTENDED_DNS_ERROR = 15, DNSM_OPTION_EDNS_CLIENT_TAG = 16, DNSM_OPTION_EDNS_SERVER_TAG = 17,
+    DNSM_OPTION_REPORT_CHANNEL = 18, DNSM_OPTION_ZONEVERSION = 19, DNSM_OPTION_UMBRELLA_IDENT = 20292,
+    DNSM_OPTION_DEVICEID = 26946
+};
+enum {
+    DNSM_EDE_OTHER_ERROR = 0, DNSM_EDE_UNSUPPORTED_DNSKEY_ALGORITHM = 1, DNSM_EDE_UNSUPPORTED_DS_DIGEST_TYPE = 2,
+    DNSM_EDE_STALE_ANSWER = 3, DNSM_EDE_FORGED_ANSWER = 4, DNSM_EDE_DNSSEC_INDETERMINATE = 5, DNSM_EDE_DNSSEC_BOGUS = 6,
+    DNSM_EDE_SIGNATURE_EXPIRED = 7, DNSM_EDE_SIGNATURE_NOT_YET_VALID = 8, DNSM_EDE_DNSKEY_MISSING = 9,
+    DNSM_EDE_RRSIGS_MISSING = 10, DNSM_EDE_NO_ZONE_KEY_BIT_SET = 11, DNSM_EDE_NSEC_MISSING = 12, DNSM_EDE_CACHED_ERROR = 13,
+    DNSM_EDE_NOT_READY = 14, DNSM_EDE_BLOCKED = 15, DNSM_EDE_CENSORED = 16, DNSM_EDE_FILTERED = 17, DNSM_EDE_PROHIBITED = 18,
+    DNSM_EDE_STALE_NXDOMAIN_ANSWER = 19, DNSM_EDE_NOT_AUTHORITATIVE = 20, DNSM_EDE_NOT_SUPPORTED = 21,
+    DNSM_EDE_NO_REACHABLE_AUTHORITY = 22, DNSM_EDE_NETWORK_ERROR = 23, DNSM_EDE_INVALID_DATA = 24,
+    DNSM_EDE_SIGNATURE_EXPIRED_BEFORE_VALID = 25, DNSM_EDE_TOO_EARLY = 26, DNSM_EDE_UNSUPPORTED_NSEC3_ITERATIONS_VALUE = 27,
+    DNSM_EDE_UNABLE_TO_CONFORM_TO_POLICY = 28, DNSM_EDE_SYNTHESIZED = 29, DNSM_EDE_INVALID_QUERY_TYPE = 30
+};
 
 /* Writes a record type: the name that IANA has registered for it, as SRV, RRSIG or HTTPS, and ANY for 255; or TYPE with its
  * number, if there is none (RFC 3597 section 5). 16 octets are always enough.
@@ -266,24 +455,57 @@ dnsm_status dnsm_data_name(const uint8_t *message, size_t message_len, const dns
  * Errors: DNSM_NO_ROOM. */
 dnsm_status dnsm_type_text(uint16_t type, char *out, size_t out_len, size_t *len);
 
-/* Writes a class: the name that IANA has registered for it, which is IN, CH, HS, NONE (254) or ANY (255); or CLASS with its number
- * (RFC 3597 section 5). 16 octets are always enough.
+/* Writes a class: the name that IANA has registered for it, which is IN, CH, HS, NONE (254) or ANY (255); or CLASS with its
+ * number (RFC 3597 section 5). 16 octets are always enough.
  *
  * Errors: DNSM_NO_ROOM. */
 dnsm_status dnsm_class_text(uint16_t class_, char *out, size_t out_len, size_t *len);
 
+/* Writes an opcode: the name that IANA has registered for it, as Query, or OPCODE with its number. 16 octets are always enough.
+ *
+ * Errors: DNSM_NO_ROOM. */
+dnsm_status dnsm_opcode_text(uint8_t opcode, char *out, size_t out_len, size_t *len);
+
+/* Writes an rcode of up to twelve bits, as dnsm_find_opt sets it: the name that IANA has registered for it, as NXDomain, or RCODE
+ * with its number; 16 is BADVERS. 16 octets are always enough.
+ *
+ * Errors: DNSM_NO_ROOM. */
+dnsm_status dnsm_rcode_text(uint16_t rcode, char *out, size_t out_len, size_t *len);
+
+/* Writes the code of an option: the name that IANA has registered for it, as NSID, or OPTION with its number. 32 octets are
+ * always enough.
+ *
+ * Errors: DNSM_NO_ROOM. */
+dnsm_status dnsm_option_text(uint16_t code, char *out, size_t out_len, size_t *len);
+
+/* Writes the code of an extended error: the name that IANA has registered for it, as Stale Answer, or EDE with its number.
+ * 64 octets are always enough.
+ *
+ * Errors: DNSM_NO_ROOM. */
+dnsm_status dnsm_extended_error_text(uint16_t code, char *out, size_t out_len, size_t *len);
+
+/* Reads a record type, as HTTPS or TYPE65, a class, as IN or CLASS1, an opcode up to 255, an rcode up to 4,095, the code of an
+ * option, or that of an extended error.
+ *
+ * Errors: DNSM_BAD_TEXT. */
+dnsm_status dnsm_type_from_text(const char *text, size_t text_len, uint16_t *type);
+dnsm_status dnsm_class_from_text(const char *text, size_t text_len, uint16_t *class_);
+dnsm_status dnsm_opcode_from_text(const char *text, size_t text_len, uint8_t *opcode);
+dnsm_status dnsm_rcode_from_text(const char *text, size_t text_len, uint16_t *rcode);
+dnsm_status dnsm_option_from_text(const char *text, size_t text_len, uint16_t *code);
+dnsm_status dnsm_extended_error_from_text(const char *text, size_t text_len, uint16_t *code);
+
 /* 6. EDNS
  *
- *     dnsm_header header;
- *     dnsm_cursor cursor;
  *     dnsm_item item;
  *     dnsm_opt opt;
  *     dnsm_opt_option option;
- *     dnsm_open(message, message_len, &header, &cursor);
- *     while (dnsm_next(message, message_len, &cursor, &item) == DNSM_OK)
- *         if (dnsm_opt_fields(&item, &opt) == DNSM_OK)
- *             for (size_t place = item.data; dnsm_next_option(message, message_len, &item, &place, &option) == DNSM_OK;)
- *                 printf("up to %u octets; option %u of %u\n", opt.udp_size, option.code, option.data_len);
+ *     uint16_t rcode;
+ *     if (dnsm_find_opt(message, message_len, &opt, &item, &rcode) == DNSM_OK) {
+ *         printf("up to %u octets; rcode %u\n", opt.udp_size, rcode);
+ *         for (size_t place = item.data; dnsm_next_option(message, message_len, &item, &place, &option) == DNSM_OK;)
+ *             printf("option %u of %u octets\n", option.code, option.data_len);
+ *     }
  */
 
 /* The fields of an OPT record (RFC 6891 section 6.1.3). */
@@ -294,13 +516,20 @@ typedef struct dnsm_opt {
     uint8_t version;
 } dnsm_opt;
 
-/* The type of an OPT record, and the flag that asks for DNSSEC records. */
-enum { DNSM_TYPE_OPT = 41, DNSM_DO = 0x8000 };
+/* The flag that asks for DNSSEC records. */
+enum { DNSM_DO = 0x8000 };
 
 /* Reads the fields of an OPT record. That is an item of type 41 in the additional section; its name isn't looked at.
  *
  * Errors: DNSM_NOT_OPT. Then `*opt` isn't written. */
 dnsm_status dnsm_opt_fields(const dnsm_item *item, dnsm_opt *opt);
+
+/* Finds the OPT record of a message, and reads its fields. `*rcode` has twelve bits: the upper eight are in the record, the
+ * lower four in the header.
+ *
+ * Errors, the first that applies: DNSM_SHORT_INPUT if the message has fewer than 12 octets; DNSM_TWO_OPTS; the error of the
+ * first item that can't be read; DNSM_NO_OPT; DNSM_BAD_OWNER if the owner isn't the root. Then nothing is written. */
+dnsm_status dnsm_find_opt(const uint8_t *message, size_t message_len, dnsm_opt *opt, dnsm_item *item, uint16_t *rcode);
 
 /* The TTL of an OPT record with these fields. To write one with dnsm_build, pass an item with the name ".", this TTL, the class
  * `udp_size`, the type DNSM_TYPE_OPT, the section DNSM_ADDITIONAL, and as data what dnsm_option_octets wrote for each option, one
@@ -335,7 +564,8 @@ dnsm_status dnsm_option_octets(uint16_t code, const uint8_t *data, size_t data_l
  *     static const uint8_t address[4] = {192, 0, 2, 1};
  *     uint8_t query[DNSM_MADE], response[DNSM_MADE];
  *     size_t query_len, response_len = 0;
- *     dnsm_status status = dnsm_query(4660, true, "www.example.com", 15, 1, 1, query, sizeof query, &query_len);
+ *     dnsm_status status =
+ *         dnsm_query(4660, true, "www.example.com", 15, DNSM_TYPE_A, DNSM_CLASS_IN, query, sizeof query, &query_len);
  *     if (status == DNSM_OK)
  *         status = dnsm_respond_a(query, query_len, true, 3600, address, response, sizeof response, &response_len);
  *     printf("%zu octets, and %zu\n", query_len, response_len);
@@ -359,12 +589,18 @@ dnsm_status dnsm_query(uint16_t id, bool recursion, const char *name, size_t nam
 dnsm_status dnsm_respond_a(const uint8_t *query, size_t query_len, bool authoritative, uint32_t ttl, const uint8_t address[4],
                            uint8_t *out, size_t out_len, size_t *len);
 
+/* Checks that a response answers a query: QR is set, and ID, opcode and questions are those of the query, but for ASCII case.
+ *
+ * Errors, the first that applies: DNSM_SHORT_INPUT if one of them has fewer than 12 octets; DNSM_NO_RESPONSE;
+ * DNSM_OTHER_QUERY. */
+dnsm_status dnsm_answers(const uint8_t *query, size_t query_len, const uint8_t *response, size_t response_len);
+
 /* 8. Writing a message by one call
  *
  *     static const uint8_t address[] = {192, 0, 2, 1};
  *     const dnsm_new_item items[] = {
- *         {"example.com", 11, NULL, 0, 0, 1, 1, DNSM_QUESTION},
- *         {"example.com", 11, address, sizeof address, 3600, 1, 1, DNSM_ANSWER},
+ *         {"example.com", 11, NULL, 0, 0, DNSM_TYPE_A, DNSM_CLASS_IN, DNSM_QUESTION},
+ *         {"example.com", 11, address, sizeof address, 3600, DNSM_TYPE_A, DNSM_CLASS_IN, DNSM_ANSWER},
  *     };
  *     uint8_t out[512];
  *     size_t len;
@@ -393,16 +629,16 @@ typedef struct dnsm_new_item {
  * frees all that it allocated.
  *
  * Errors: DNSM_BAD_SECTION, DNSM_BAD_TEXT, DNSM_LONG_DATA or DNSM_BAD_DATA for an item that can't be written, the first one if
- * there are several; nothing is allocated before that. DNSM_TOO_MANY only if a section has more than 65,535 items,
- * DNSM_NO_MEMORY if an allocation failed, and DNSM_NO_ROOM. */
+ * there are several, also if memory is out. DNSM_TOO_MANY only if a section has more than 65,535 items, DNSM_NO_MEMORY if an
+ * allocation failed, and DNSM_NO_ROOM. */
 dnsm_status dnsm_build(uint16_t id, uint16_t flags, const dnsm_new_item *items, size_t items_len,
                        uint8_t *out, size_t out_len, size_t *len);
 
 /* 9. Writing a message item by item
  *
  *     static const uint8_t name[] = "\7example\3com", address[] = {192, 0, 2, 1};
- *     const dnsm_put_item question = {name, sizeof name, NULL, 0, 0, 1, 1, DNSM_QUESTION};
- *     const dnsm_put_item answer = {name, sizeof name, address, sizeof address, 3600, 1, 1, DNSM_ANSWER};
+ *     const dnsm_put_item question = {name, sizeof name, NULL, 0, 0, DNSM_TYPE_A, DNSM_CLASS_IN, DNSM_QUESTION};
+ *     const dnsm_put_item answer = {name, sizeof name, address, sizeof address, 3600, DNSM_TYPE_A, DNSM_CLASS_IN, DNSM_ANSWER};
  *     uint8_t out[512];
  *     size_t len;
  *     dnsm_draft draft;
@@ -413,15 +649,31 @@ dnsm_status dnsm_build(uint16_t id, uint16_t flags, const dnsm_new_item *items, 
  *         draft.flags |= DNSM_TC;
  *     if (status == DNSM_OK && dnsm_finish(&draft, out, sizeof out, &len) == DNSM_OK)
  *         printf("%zu octets\n", len);
+ *
+ * The response to a query, with the answers of another message:
+ *
+ *     uint8_t query[DNSM_MADE];
+ *     size_t query_len;
+ *     dnsm_header header;
+ *     dnsm_cursor cursor;
+ *     dnsm_item item;
+ *     dnsm_query(4660, true, "example.org", 11, DNSM_TYPE_MX, DNSM_CLASS_IN, query, sizeof query, &query_len);
+ *     status = dnsm_begin_response(&draft, out, sizeof out, query, query_len, DNSM_RCODE_NOERROR);
+ *     dnsm_open(message, message_len, &header, &cursor);
+ *     while (status == DNSM_OK && dnsm_next(message, message_len, &cursor, &item) == DNSM_OK)
+ *         if (item.section == DNSM_ANSWER)
+ *             status = dnsm_put_from(&draft, out, sizeof out, message, message_len, &item);
+ *     if (status == DNSM_OK && dnsm_finish(&draft, out, sizeof out, &len) == DNSM_OK)
+ *         printf("a response of %zu octets\n", len);
  */
 
-/* A message under construction in a buffer of the caller: an alternative to dnsm_build that allocates nothing. The caller owns the
- * draft and may copy it. A copy taken before an item was put is a mark, and copying it back removes the items put since; then
- * copies taken after those items mean nothing. The buffer belongs to all copies: each call needs the octets that the call before
- * left. They may move between calls.
+/* A message under construction in a buffer of the caller: an alternative to dnsm_build that allocates nothing. The caller owns
+ * the draft and may copy it. A copy taken before an item was put is a mark, and copying it back removes the items put since;
+ * then copies taken after those items mean nothing. The buffer belongs to all copies: each call needs the octets that the call
+ * before left. They may move between calls.
  *
- * Set `limit`, `reserved`, `id` and `flags` between calls as you like. The other fields belong to the calls. With other values
- * there, each call is safe, but its results mean nothing; `hints` may have any values. */
+ * Set `limit`, `reserved`, `id`, `flags` and `unchecked` between calls as you like. The other fields belong to the calls. With
+ * other values there, each call is safe, but its results mean nothing; `hints` may have any values. */
 typedef struct dnsm_draft {
     size_t len;         /* octets of the message so far, at least 12 */
     size_t limit;       /* the most octets of the message; dnsm_begin sets SIZE_MAX. Without it a message may exceed 65,535 octets,
@@ -432,6 +684,7 @@ typedef struct dnsm_draft {
     uint16_t flags;     /* as in dnsm_header */
     uint16_t counts[4]; /* the number of items in each section */
     uint8_t section;    /* that of the last item */
+    uint8_t unchecked;  /* 0 if all RDATA is checked; dnsm_begin sets 0. Set it to 1 for RDATA that is known to be well-formed */
     uint16_t hints[64]; /* offsets of earlier names, by which names are compressed */
 } dnsm_draft;
 
@@ -457,19 +710,39 @@ dnsm_status dnsm_begin(dnsm_draft *draft, uint8_t *out, size_t out_len, uint16_t
 /* Appends a question or a record. The draft is one that dnsm_begin has set, and the octets of the message so far are in `out`.
  * The items come in the order of the sections.
  *
- * Names of questions and owners are compressed where a hint leads to an equal name, and so are those in the RDATA of NS, MD, MF,
- * CNAME, SOA, MB, MG, MR, PTR, MINFO and MX. RDATA of these eleven types has to be exactly the fields of the type, without
- * compression pointers; but a record of class NONE (254) or ANY (255) may have none. All other RDATA is copied as it is, and isn't
- * checked: don't pass RDATA with pointers, as it may be within another message.
+ * Names of questions and owners are compressed where a hint leads to the same name, octet for octet, and so are those in the
+ * RDATA of NS, MD, MF, CNAME, SOA, MB, MG, MR, PTR, MINFO and MX. RDATA of these eleven types has to be exactly the fields of
+ * the type, without compression pointers; but a record of class NONE (254) or ANY (255) may have none. RDATA of all other types
+ * of dnsm_data_text has to be, too, unless `unchecked` is set. It is copied as it is.
  *
- * Errors, the first that applies: DNSM_BAD_SECTION if the section exceeds 3 or is before that of the last item; DNSM_BAD_TEXT if
- * the octets aren't exactly one uncompressed name; DNSM_LONG_DATA; DNSM_BAD_DATA; DNSM_TOO_MANY if the section has 65,535 items;
- * and DNSM_NO_ROOM, only if the item with its names uncompressed and the reserved octets would pass the end of the buffer or the
- * limit. On an error the message stays as it was, but octets of the buffer after it may have changed. */
+ * Errors, the first that applies: DNSM_BAD_SECTION if the section exceeds 3 or is before that of the last item; DNSM_BAD_TEXT
+ * if the octets aren't exactly one uncompressed name; DNSM_LONG_DATA; DNSM_BAD_DATA; DNSM_TOO_MANY if the section has 65,535
+ * items; and DNSM_NO_ROOM, only if the item with its names uncompressed and the reserved octets would pass the end of the
+ * buffer or the limit. On an error the message stays as it was, but octets of the buffer after it may have changed. */
 dnsm_status dnsm_put(dnsm_draft *draft, uint8_t *out, size_t out_len, const dnsm_put_item *item);
 
-/* Writes the header section of a draft, and sets `*len` to the length of the message, the draft's `len`. More items may be put
- * afterwards; then call it again.
+/* Begins the response to a query, with the query's question: its ID, opcode, RD and CD, QR, and the low four bits of `rcode`.
+ * A server that doesn't validate clears DNSM_CD afterwards (RFC 4035 section 3.1.6). As by dnsm_begin, there is no limit, no octet
+ * is reserved, and RDATA is checked.
+ *
+ * Errors, the first that applies: DNSM_SHORT_INPUT if the query has fewer than 12 octets; DNSM_IS_RESPONSE; DNSM_NO_QUESTION;
+ * the error of reading the question; DNSM_NO_ROOM if the buffer is shorter than a header and the question with its name
+ * uncompressed. Then nothing is written. To answer by FORMERR, use dnsm_begin. */
+dnsm_status dnsm_begin_response(dnsm_draft *draft, uint8_t *out, size_t out_len, const uint8_t *query, size_t query_len,
+                                uint16_t rcode);
+
+/* Appends an item of another message, as dnsm_next wrote it. Its `section` and `ttl` may have been changed: a cache lowers the
+ * TTL by its age. Names are read there, and compressed anew as dnsm_put compresses them. RDATA is checked, also if `unchecked`
+ * is set.
+ *
+ * Errors, the first that applies: DNSM_BAD_SECTION as of dnsm_put; DNSM_BAD_TEXT if no name can be read at the item's place;
+ * DNSM_BAD_DATA if the RDATA of a record isn't that of its type, or not within the message; DNSM_TOO_MANY and DNSM_NO_ROOM as of
+ * dnsm_put. On an error the message stays as it was, but octets of the buffer after it may have changed. */
+dnsm_status dnsm_put_from(dnsm_draft *draft, uint8_t *out, size_t out_len, const uint8_t *message, size_t message_len,
+                          const dnsm_item *item);
+
+/* Writes the header section of a draft, and sets `*len` to the length of the message, the draft's `len`, also on an error. More
+ * items may be put afterwards; then call it again.
  *
  * Errors: DNSM_NO_ROOM if the draft's `len` is less than 12 or exceeds `out_len`. */
 dnsm_status dnsm_finish(const dnsm_draft *draft, uint8_t *out, size_t out_len, size_t *len);

@@ -33,6 +33,19 @@ func NewBuilder(out []byte, id, flags uint16) (*Builder, error) {
 	return b, nil
 }
 
+// NewResponse begins the response to a query, with its question: with its ID, opcode, RD and CD, QR, and the low four bits of `rcode`.
+// The error is ShortInput, IsResponse or NoQuestion for octets that are no query with one question, that of reading the question, or
+// NoRoom.
+func NewResponse(out, query []byte, rcode uint16) (*Builder, error) {
+	b := &Builder{out: out}
+	status := C.dnsm_begin_response(&b.draft, pointer(out), C.size_t(len(out)), pointer(query), C.size_t(len(query)),
+		C.uint16_t(rcode))
+	if status != C.DNSM_OK {
+		return nil, Status(status)
+	}
+	return b, nil
+}
+
 // SetLimit sets the most octets that the message may have. Before, its buffer is the only limit.
 func (b *Builder) SetLimit(octets uint) { b.draft.limit = C.size_t(octets) }
 
@@ -59,6 +72,15 @@ func (b *Builder) Put(item NewItem) error {
 	status := C.put(&b.draft, pointer(b.out), C.size_t(len(b.out)), pointer(name), C.size_t(len(name)),
 		pointer(item.Data), C.size_t(len(item.Data)), C.uint32_t(item.TTL), C.uint16_t(item.Type), C.uint16_t(item.Class),
 		C.uint8_t(item.Section))
+	return failure(status)
+}
+
+// PutFrom appends an item of another message, in a section and with a TTL: a cache lowers it by the age of the message. Names are
+// compressed anew. The errors are those of Put.
+func (b *Builder) PutFrom(item Item, section Section, ttl uint32) error {
+	passed := item.item
+	passed.section, passed.ttl = C.uint8_t(section), C.uint32_t(ttl)
+	status := C.dnsm_put_from(&b.draft, pointer(b.out), C.size_t(len(b.out)), pointer(item.octets), C.size_t(len(item.octets)), &passed)
 	return failure(status)
 }
 

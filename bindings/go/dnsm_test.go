@@ -154,7 +154,7 @@ func TestWhatCannotBeWrittenIsAnError(t *testing.T) {
 	if octets, err := Build(1, 0, nil); err != nil || len(octets) != 12 {
 		t.Error(octets, err)
 	}
-	if _, err := NameFromText(""); err.Error() != "the text is no valid name" {
+	if _, err := NameFromText(""); err.Error() != "the text, or the name of an item, isn't valid" {
 		t.Error(err)
 	}
 }

@@ -56,7 +56,7 @@ func (i Item) DataText() string {
 	})
 }
 
-// DataName is a name in the RDATA of NS, CNAME, SOA, PTR, MX, SRV or DNAME; SOA has two. No octet after the RDATA belongs to it. The
+// DataName is a name in the RDATA, counted from 0 in the order of the fields; SOA has two. No octet after the RDATA belongs to it. The
 // error is BadSection for a question, NoName if there is none, and BadData if the RDATA isn't that of its type.
 func (i Item) DataName(index uint) (string, error) {
 	var offset C.size_t

@@ -65,6 +65,29 @@ func (m *Message) Section(section Section) ([]Item, error) {
 	return found, items.Err()
 }
 
+// Answers returns nil if this is the response to a query: QR is set, and ID, opcode and questions are those of the query. The error is
+// NoResponse, OtherQuery, or ShortInput if the query has fewer than 12 octets.
+func (m *Message) Answers(query []byte) error {
+	return failure(C.dnsm_answers(pointer(query), C.size_t(len(query)), pointer(m.octets), C.size_t(len(m.octets))))
+}
+
+// FindOPT is the only OPT record, anywhere in the additional section, and the rcode of twelve bits; without one, nil and the rcode of
+// the header. The error is TwoOPTs, that of the first item that can't be read, BadOwner if the owner isn't the root, or BadOption.
+func (m *Message) FindOPT() (*OPT, Rcode, error) {
+	var fields C.dnsm_opt
+	var item C.dnsm_item
+	var rcode C.uint16_t
+	switch status := C.dnsm_find_opt(pointer(m.octets), C.size_t(len(m.octets)), &fields, &item, &rcode); status {
+	case C.DNSM_OK:
+		opt, err := Item{m.octets, item}.OPT()
+		return opt, Rcode(rcode), err
+	case C.DNSM_NO_OPT:
+		return nil, Rcode(m.Rcode), nil
+	default:
+		return nil, Rcode(m.Rcode), Status(status)
+	}
+}
+
 // OPT is the first OPT record of the additional section, or nil.
 func (m *Message) OPT() (*OPT, error) {
 	items := m.Items()

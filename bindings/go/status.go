@@ -13,7 +13,7 @@ const (
 	BadPointer  Status = C.DNSM_BAD_POINTER  // a compression pointer doesn't lead to an offset before its own
 	LongName    Status = C.DNSM_LONG_NAME    // a name has more than 255 octets
 	NoRoom      Status = C.DNSM_NO_ROOM      // the buffer or the limit of a builder leaves too few octets
-	BadText     Status = C.DNSM_BAD_TEXT     // a text or octets are no valid name
+	BadText     Status = C.DNSM_BAD_TEXT     // a text represents nothing, or octets are no valid name
 	NoQuestion  Status = C.DNSM_NO_QUESTION  // the query doesn't have exactly one question
 	BadSection  Status = C.DNSM_BAD_SECTION  // a section number exceeds 3, or comes before that of the last item
 	NoMemory    Status = C.DNSM_NO_MEMORY    // an allocation failed
@@ -27,6 +27,11 @@ const (
 	BadOption   Status = C.DNSM_BAD_OPTION   // an option isn't whole within the RDATA
 	NoName      Status = C.DNSM_NO_NAME      // the RDATA has no such name
 	BadData     Status = C.DNSM_BAD_DATA     // the octets are no RDATA of the record type
+	NoOPT       Status = C.DNSM_NO_OPT       // the additional section has no OPT record
+	TwoOPTs     Status = C.DNSM_TWO_OPTS     // the additional section has two OPT records
+	BadOwner    Status = C.DNSM_BAD_OWNER    // the owner of the OPT record isn't the root
+	NoResponse  Status = C.DNSM_NO_RESPONSE  // QR isn't set, so this is no response
+	OtherQuery  Status = C.DNSM_OTHER_QUERY  // the ID, the opcode or the questions of a response aren't those of the query
 )
 
 func (s Status) Error() string {

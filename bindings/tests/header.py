@@ -1,10 +1,10 @@
 #!/usr/bin/env python3
 """Compares what the crate dnsm-sys and the package for Python say of dnsm.h with dnsm.h itself: numbers, structs and calls.
 
-    header.py DNSM_H LIB_RS NUMBER_RS NUMBERS_GO     with the package for Python installed
+    header.py DNSM_H LIB_RS     with the package for Python installed
 
-Prints the differences, and fails if there are any. The module for Go needs no such test: cgo reads the header. The numbers of types
-and classes aren't in dnsm.h: those of Rust and Go are compared with those of Python, whose own test is test_dnsm.py.
+Prints the differences, and fails if there are any. The module for Go needs no such test: cgo reads the header. Of the numbers that
+IANA registers Python has those that are met most.
 """
 
 import ctypes
@@ -14,11 +14,12 @@ import sys
 import dnsm
 from dnsm import _calls
 
-RUST = {"uint8_t": "u8", "uint16_t": "u16", "uint32_t": "u32", "size_t": "usize", "char": "c_char"}
+RUST = {"uint8_t": "u8", "uint16_t": "u16", "uint32_t": "u32", "uint64_t": "u64", "size_t": "usize", "char": "c_char"}
 PYTHON = {
     "u8": ctypes.c_uint8,
     "u16": ctypes.c_uint16,
     "u32": ctypes.c_uint32,
+    "u64": ctypes.c_uint64,
     "usize": ctypes.c_size_t,
     "bool": ctypes.c_bool,
     "dnsm_status": ctypes.c_uint32,
@@ -36,17 +37,22 @@ STRUCTS = {
     "dnsm_new_item": _calls.NewItem,
     "dnsm_draft": _calls.Draft,
     "dnsm_put_item": _calls.PutItem,
+    "dnsm_data_field": _calls.DataField,
 }
-# In Python a buffer for octets has the same type as one for text.
+# In Python a buffer for octets has the same type as one for text. The other pointers to an octet lead to a number.
 PYTHON_POINTERS = {
     "*mut c_char": ctypes.POINTER(ctypes.c_char),
     "*mut u8": ctypes.POINTER(ctypes.c_char),
     "*mut usize": ctypes.POINTER(ctypes.c_size_t),
+    "*mut u16": ctypes.POINTER(ctypes.c_uint16),
+    "*mut u32": ctypes.POINTER(ctypes.c_uint32),
 }
 
 
 # Numbers that are in no enum in Python.
-NO_ENUM = {"DNSM_NAME_TEXT", "DNSM_NAME_OCTETS", "DNSM_MADE", "DNSM_TYPE_OPT", "DNSM_DO"}
+NO_ENUM = {"DNSM_NAME_TEXT", "DNSM_NAME_OCTETS", "DNSM_NAME_KEY", "DNSM_MADE", "DNSM_DO"}
+# The numbers that IANA registers, by the beginning of their names.
+REGISTERED = {"TYPE": dnsm.Type, "CLASS": dnsm.Class, "OPCODE": dnsm.Opcode, "RCODE": dnsm.Rcode, "OPTION": (), "EDE": ()}
 
 
 def declaration(text):
@@ -68,7 +74,7 @@ def read_c(text):
         for name, body in re.findall(r"typedef struct (\w+) \{(.*?)\}", text)
     }
     calls = {
-        name: ([declaration(it) for it in words.split(",")], RUST.get(result, result))
+        name: ([declaration(it) for it in words.split(",") if it != "void"], RUST.get(result, result))
         for result, name, words in re.findall(r"\b(dnsm_status|uint32_t) (dnsm_\w+)\((.*?)\);", text)
     }
     return numbers, structs, calls
@@ -84,16 +90,9 @@ def read_rust(text):
     return numbers, structs, calls
 
 
-def read_types(rust, go):
-    """The types and the classes that Rust has, and those of Go, by name."""
-    blocks = re.findall(r"by dnsm_(?:type|class)_text:(.*?)\n}", rust, re.S)
-    assert len(blocks) == 2, "number.rs isn't read"
-    in_rust = [re.findall(r"(\w+) = (\d+)", block) for block in blocks]
-    in_go = [re.findall(rf"\b{kind}(\w+) +{kind} += (\w+(?:\.\w+)?)\n", go) for kind in ("Type", "Class")]
-    return [[{name: int(number.replace("C.DNSM_TYPE_OPT", "41")) for name, number in it} for it in each] for each in (in_rust, in_go)]
-
-
-def python_type(kind):
+def python_type(name, kind):
+    if kind == "*mut u8" and name != "out":
+        return ctypes.POINTER(ctypes.c_uint8)
     if kind in PYTHON or kind in PYTHON_POINTERS:
         return {**PYTHON, **PYTHON_POINTERS}[kind]
     return ctypes.POINTER(STRUCTS[kind.split()[-1]])
@@ -104,32 +103,32 @@ def read(path):
         return it.read()
 
 
-def main(header, crate, rust_types, go_types):
+def main(header, crate):
     numbers, structs, calls = read_c(read(header))
     rust = read_rust(read(crate))
     found = []
 
-    def compare(what, wanted, got, where="dnsm.h"):
+    def compare(what, wanted, got):
         if wanted != got:
-            found.append(f"{what}: {got}, and in {where} {wanted}")
+            found.append(f"{what}: {got}, and in dnsm.h {wanted}")
 
     assert len(calls) > 20 and len(structs) > 7 and len(numbers) > 30, "dnsm.h isn't read"
     for what, wanted, got in zip(("numbers", "structs", "calls"), (numbers, structs, calls), rust):
         for name in sorted({*wanted, *got}):
             compare(f"Rust: {name} of {what}", wanted.get(name), got.get(name))
     for name, fields in structs.items():
-        wanted = [(field.rstrip("_"), python_type(kind)) for field, kind in fields]
+        wanted = [(field.rstrip("_"), python_type(field, kind)) for field, kind in fields]
         compare(f"Python: {name}", wanted, [(field.rstrip("_"), kind) for field, kind in STRUCTS[name]._fields_])
     compare("Python: the calls", sorted(calls), sorted(_calls._CALLS))
     for name, (words, _) in calls.items():
-        compare(f"Python: {name}", [python_type(kind) for _, kind in words], _calls._CALLS.get(name))
+        compare(f"Python: {name}", [python_type(word, kind) for word, kind in words], _calls._CALLS.get(name))
     enums = {f"DNSM_{it.name}": it.value for enum in (dnsm.Status, dnsm.Section, dnsm.Flag) for it in enum}
-    compare("Python: the numbers", {name: it for name, it in numbers.items() if name not in NO_ENUM}, enums)
-    types = [{it.name: it.value for it in enum} for enum in (dnsm.Type, dnsm.Class)]
-    for language, got in zip(("Rust", "Go"), read_types(read(rust_types), read(go_types))):
-        for wanted, is_there in zip(types, got):
-            for name in sorted({*wanted, *is_there}):
-                compare(f"{language}: {name}", wanted.get(name), is_there.get(name), "Python")
+    enums.update({f"DNSM_FIELD_{it.name}": it.value for it in dnsm.FieldKind})
+    registered = {f"DNSM_{kind}_{it.name}": it.value for kind, enum in REGISTERED.items() for it in enum}
+    others = {name: it for name, it in numbers.items() if name not in NO_ENUM and name.split("_")[1] not in REGISTERED}
+    compare("Python: the numbers", others, enums)
+    for name, number in registered.items():
+        compare(f"Python: {name}", numbers.get(name), number)
     print("\n".join(found))
     return bool(found)
 

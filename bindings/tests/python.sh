@@ -5,7 +5,7 @@ installed() {
   rm -rf venv && "$python" -m venv venv && venv/bin/python -m pip install -q --no-index --find-links "$dist" dnsm &&
     shows venv/bin/python "$tests/examples/show.py" && writes venv/bin/python "$tests/examples/write.py" &&
     responds venv/bin/python "$tests/examples/respond.py" &&
-    (cd "$tests/tests" && "$room/python/venv/bin/python" -W error -m unittest -q test_dnsm test_whole)
+    (cd "$tests/tests" && "$room/python/venv/bin/python" -W error -m unittest -q test_dnsm test_whole test_servers)
 }
 
 # What pip says of the wheel: each file is in RECORD, and the version is that of dnsm.h.
@@ -29,8 +29,7 @@ typed() {
 # What the packages for Python and Rust say of the header.
 header() {
   python3 -m zipfile -e "$dist"/dnsm-*.whl wheel &&
-    PYTHONPATH=wheel python3 "$tests/header.py" "$dist"/rust/dnsm-sys/{include/dnsm.h,src/lib.rs} "$dist/rust/dnsm/src/number.rs" \
-      "$dist/go/dnsm/numbers.go"
+    PYTHONPATH=wheel python3 "$tests/header.py" "$dist"/rust/dnsm-sys/{include/dnsm.h,src/lib.rs}
 }
 
 recorded() {

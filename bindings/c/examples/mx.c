@@ -26,9 +26,9 @@ int main(void)
     size_t mx_len = numbers_and_name((const uint16_t[]){10}, 1, "mail.example.com", mx, sizeof mx);
     size_t srv_len = numbers_and_name((const uint16_t[]){0, 5, 5222}, 3, "chat.example.com", srv, sizeof srv);
     const dnsm_new_item items[] = {
-        {TEXT("example.com"), NULL, 0, 0, 15, 1, DNSM_QUESTION},
-        {TEXT("example.com"), mx, mx_len, 3600, 15, 1, DNSM_ANSWER},
-        {TEXT("_xmpp-client._tcp.example.com"), srv, srv_len, 3600, 33, 1, DNSM_ADDITIONAL},
+        {TEXT("example.com"), NULL, 0, 0, DNSM_TYPE_MX, DNSM_CLASS_IN, DNSM_QUESTION},
+        {TEXT("example.com"), mx, mx_len, 3600, DNSM_TYPE_MX, DNSM_CLASS_IN, DNSM_ANSWER},
+        {TEXT("_xmpp-client._tcp.example.com"), srv, srv_len, 3600, DNSM_TYPE_SRV, DNSM_CLASS_IN, DNSM_ADDITIONAL},
     };
     size_t message_len, len;
     dnsm_status status =

@@ -8,7 +8,7 @@
 #include <stdlib.h>
 #include <string.h>
 
-enum { AAAA = 28, IN = 1, ADDRESSES = 20, TTL = 300 };
+enum { ADDRESSES = 20, TTL = 300 };
 /* The octets of an OPT record without options, of a message for a client without EDNS, and of the longest message sent. */
 enum { OPT_OCTETS = 11, PLAIN_LIMIT = 512, MOST = 1232 };
 
@@ -49,7 +49,7 @@ static size_t limit_for(const query *to)
 static dnsm_status put_addresses(dnsm_draft *draft, uint8_t *out, const query *to)
 {
     uint8_t address[16] = {0x20, 1, 0xd, 0xb8};
-    const dnsm_put_item item = {to->name, to->name_len, address, sizeof address, TTL, AAAA, IN, DNSM_ANSWER};
+    const dnsm_put_item item = {to->name, to->name_len, address, sizeof address, TTL, DNSM_TYPE_AAAA, DNSM_CLASS_IN, DNSM_ANSWER};
     dnsm_status status = DNSM_OK;
     while (status == DNSM_OK && address[15] < ADDRESSES) {
         address[15]++;
@@ -62,7 +62,7 @@ static dnsm_status put_addresses(dnsm_draft *draft, uint8_t *out, const query *t
 static dnsm_status put_answers(dnsm_draft *draft, uint8_t *out, const query *to)
 {
     const dnsm_draft mark = *draft;
-    if (to->question.type != AAAA || to->question.class_ != IN)
+    if (to->question.type != DNSM_TYPE_AAAA || to->question.class_ != DNSM_CLASS_IN)
         return DNSM_OK;
     dnsm_status status = put_addresses(draft, out, to);
     if (status != DNSM_NO_ROOM)

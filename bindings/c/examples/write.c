@@ -10,10 +10,10 @@ int main(void)
     static const uint8_t address[] = {192, 0, 2, 7}, target[] = "\2ns\7example\3com";
     const dnsm_opt opt = {1232, 0, 0, 0};
     const dnsm_new_item items[] = {
-        {TEXT("www.example.com."), NULL, 0, 0, 1, 1, DNSM_QUESTION},
-        {TEXT("www.example.com."), address, sizeof address, 300, 1, 1, DNSM_ANSWER},
-        {TEXT("example.com."), target, sizeof target, 3600, 2, 1, DNSM_AUTHORITY},
-        {TEXT("ns.example.com."), address, sizeof address, 300, 1, 1, DNSM_ADDITIONAL},
+        {TEXT("www.example.com."), NULL, 0, 0, DNSM_TYPE_A, DNSM_CLASS_IN, DNSM_QUESTION},
+        {TEXT("www.example.com."), address, sizeof address, 300, DNSM_TYPE_A, DNSM_CLASS_IN, DNSM_ANSWER},
+        {TEXT("example.com."), target, sizeof target, 3600, DNSM_TYPE_NS, DNSM_CLASS_IN, DNSM_AUTHORITY},
+        {TEXT("ns.example.com."), address, sizeof address, 300, DNSM_TYPE_A, DNSM_CLASS_IN, DNSM_ADDITIONAL},
         {TEXT("."), NULL, 0, dnsm_opt_ttl(&opt), DNSM_TYPE_OPT, opt.udp_size, DNSM_ADDITIONAL},
     };
     uint8_t out[512];

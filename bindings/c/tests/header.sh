@@ -1,8 +1,9 @@
 #!/usr/bin/env bash
-# Compares dnsm.h with the crates: each call and each struct by its C types and the names of its parameters and fields, the numbers
-# of the errors, and the names of the calls in the archive that `library` has built. Looks whether edge.c and campaigns/hostile.c
-# make each call. Compiles the header alone. Prints the differences, and fails if there are any, or if there is no C compiler, no
-# `nm` or no archive.
+# Compares dnsm.h with the crates: each call and each struct by its C types and the names of its parameters and fields, the
+# numbers of the errors, of IANA's registry and of the kinds of fields, the lengths that are always enough, and the names of the
+# calls in the archive that `library` has built. Looks whether edge.c or servers.c, and also campaigns/hostile.c, make each
+# call. Compiles the header alone. Prints the differences, and fails if there are any, or if there is no C compiler, no `nm` or
+# no archive.
 set -eu
 here=$(cd "$(dirname "$0")" && pwd)
 header=$here/../dnsm.h
@@ -63,6 +64,49 @@ grep -qx 'code_of (Ok true) = 0' "$codes" && grep -qx 'code_of (Ok false) = 1' "
 sed -n '/^enum {$/,/^};$/p' "$header" | sed -n '/DNSM_OK/,/^};$/p' | sed -nE '/^};$/q; s/^ +([A-Z_]+) = ([0-9]+)\b.*/\1 \2/p' |
   diff "$folder/numbers" -
 
+# the registered numbers and names of a table of the registry, as an enum has them
+registered() {
+  sed -n "/^registered_$1 =\$/,/∷ \[\]/p" "$crates/dns_iana/specs/Registry.antt" | sed -nE 's/.*\(([0-9]+), codes "(.*)"\).*/\2 \1/p' |
+    sed -E ':again; s/[^A-Za-z0-9_](.* )/_\1/; t again; s/.*/'"DNSM_$2_"'\U&/'
+}
+
+# the numbers of such an enum
+enumerated() {
+  sed -n "/^enum {\$/,/^};\$/p" "$header" | grep -oE "\bDNSM_$1_[A-Z0-9_]+ = [0-9]+" | sed 's/ = / /'
+}
+
+while read -r table prefix; do
+  registered "$table" "$prefix" >"$folder/registered"
+  [ -s "$folder/registered" ] && diff "$folder/registered" <(enumerated "$prefix")
+done <<'TABLES'
+types TYPE
+classes CLASS
+opcodes OPCODE
+opt_rcodes RCODE
+options OPTION
+extended_errors EDE
+TABLES
+
+# the kinds of fields
+sed -nE 's/^Shows b field \(([A-Za-z0-9]+) .*field\.kind ≡ ([0-9]+).*/DNSM_FIELD_\U\1\E \2/p' "$crates/dnsm_read/specs/FieldValues.antt" |
+  sed 's/RECORDTYPE/TYPE/' >"$folder/kinds"
+[ -s "$folder/kinds" ] && diff "$folder/kinds" <(enumerated FIELD)
+
+# the lengths that are always enough, as the clauses `short` have them
+while read -r call constant; do
+  bound=$(cat "$crates"/dnsm/src/*.rt | sed -n "/fn dnsm_$call(/,/^{/p" | sed -nE 's/.*ensures short .*length out\.old < ([0-9]+) \}$/\1/p')
+  grep -qE "\bDNSM_$constant = $bound\b" "$header" || { echo "dnsm_$call: a clause says $bound"; exit 1; }
+done <<'BOUNDS'
+name_text NAME_TEXT
+data_name_text NAME_TEXT
+name_octets NAME_OCTETS
+name_from_text NAME_OCTETS
+data_name_octets NAME_OCTETS
+name_key NAME_KEY
+query MADE
+respond_a MADE
+BOUNDS
+
 # each status has a sentence
 awk '{ print $2 }' "$folder/numbers" >"$folder/statuses"
 cat "$crates"/dnsm_status/src/*.rt | sed -nE 's/^        ([0-9]+) => Some\(".*"\),$/\1/p' | diff "$folder/statuses" -
@@ -73,11 +117,10 @@ awk -F'[". ]' '/^#define DNSM_VERSION "/ { text = 10000 * $4 + 100 * $5 + $6 } /
 
 # what the archive defines, and what the tests call
 sed -E 's/^[a-z0-9_]+ ([a-z_]+)\(.*/\1/' "$folder/prototypes" | sort >"$folder/declared"
-for file in "$here/edge.c" "$top/campaigns/hostile.c"; do
-  while read -r name; do
-    grep -q "\b$name(" "$file" || { echo "$(basename "$file") calls no $name"; exit 1; }
-  done <"$folder/declared"
-done
+while read -r name; do
+  grep -q "\b$name[(,]" "$here/edge.c" "$here/servers.c" || { echo "the tests call no $name"; exit 1; }
+  grep -q "\b$name[(,]" "$top/campaigns/hostile.c" || { echo "hostile.c calls no $name"; exit 1; }
+done <"$folder/declared"
 for file in "$crates/dnsm/out/libdnsm.a" "$(command -v nm || echo nm)"; do
   [ -e "$file" ] || { echo "no $file: the names in the archive can't be compared"; exit 1; }
 done

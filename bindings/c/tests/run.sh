@@ -143,15 +143,29 @@ statuses() {
 examples() {
   local source
   has_sanitizers "$1" || echo "$1 has no sanitizers: the examples in C run without" >&3
-  for source in "$here"/{ask,build,edge,show}.c "$here"/../examples/{mx,respond,write}.c; do
+  for source in "$here"/{ask,build,edge,servers,show}.c "$here"/../examples/{forward,mx,respond,serve,write}.c; do
     compile "$1" c11 "$source" || return
   done
   compile "$1" c11 "$here/../examples/show.c" show_simply || return
-  "$build/edge" && quoted "$1" && "$build/mx" | diff "$build/expected_data" - && messages >"$build/messages" &&
+  "$build/edge" && "$build/servers" && quoted "$1" && "$build/mx" | diff "$build/expected_data" - && messages >"$build/messages" &&
     "$build/show" <"$build/messages" | diff "$build/expected" - &&
     "$build/write" | diff "$packages/written.txt" - && reads messages shown show_simply && reads queries responded respond &&
-    prints_long && reads_all && statuses &&
+    prints_long && reads_all && statuses && serves &&
     "$build/show" prefixes <"$build/messages" && "$build/show" changes <"$build/messages"
+}
+
+# serve and forward, asked over UDP and TCP of this machine. With --valgrind both run under it.
+serves() {
+  "$here/serving" "$@" "$build/serve" "$build/forward" "$build/show_simply" | diff "$here/serving.txt" -
+}
+
+# The same, compiled without the sanitizers, which valgrind doesn't go with.
+checked() {
+  local program
+  for program in serve forward; do
+    "$1" -std=c11 -O1 -g "-I$header" "$here/../examples/$program.c" "$archive" "$kit/c/liblibc_c.a" -o "$build/$program" || return
+  done
+  serves --valgrind
 }
 
 # The examples of dnsm.h.
@@ -178,4 +192,9 @@ outcome library "$here/../library"
 outcome header "$here/header.sh"
 each_compiler examples gcc clang
 each_compiler examples_of_cpp g++ clang++
+if command -v valgrind >/dev/null; then
+  outcome valgrind checked "$(command -v gcc clang | head -1)"
+else
+  echo 'valgrind is not installed: serve and forward run without'
+fi
 exit $failed

@@ -13,6 +13,7 @@ and an argument of another type a `TypeError`.
 """
 
 from ._builder import Builder, Mark
+from ._calls import library_version
 from ._edns import Edns, Option
 from ._errors import (
     DataError,
@@ -24,11 +25,31 @@ from ._errors import (
     Status,
     TooLong,
 )
-from ._items import Question, Record
-from ._message import Message
-from ._names import name_from_text, name_to_text
-from ._numbers import Class, Flag, Opcode, Rcode, Section, Type, class_text, type_text
-from ._write import NewRecord, build, query, respond_a
+from ._items import Field, Question, Record
+from ._message import FoundOpt, Message
+from ._names import name_from_text, name_is_below, name_key, name_to_text, names_are_equal
+from ._numbers import (
+    Class,
+    FieldKind,
+    Flag,
+    Opcode,
+    Rcode,
+    Section,
+    Type,
+    class_from_text,
+    class_text,
+    extended_error_from_text,
+    extended_error_text,
+    opcode_from_text,
+    opcode_text,
+    option_from_text,
+    option_text,
+    rcode_from_text,
+    rcode_text,
+    type_from_text,
+    type_text,
+)
+from ._write import NewRecord, build, data_from_text, query, record_from_text, respond_a
 
 # bindings/package writes the version of dnsm.h here.
 __version__ = "0.0.0"
@@ -39,7 +60,10 @@ __all__ = [
     "DataError",
     "Edns",
     "Error",
+    "Field",
+    "FieldKind",
     "Flag",
+    "FoundOpt",
     "MalformedMessage",
     "Mark",
     "Message",
@@ -57,10 +81,26 @@ __all__ = [
     "TooLong",
     "Type",
     "build",
+    "class_from_text",
     "class_text",
+    "data_from_text",
+    "extended_error_from_text",
+    "extended_error_text",
+    "library_version",
     "name_from_text",
+    "name_is_below",
+    "name_key",
     "name_to_text",
+    "names_are_equal",
+    "opcode_from_text",
+    "opcode_text",
+    "option_from_text",
+    "option_text",
     "query",
+    "rcode_from_text",
+    "rcode_text",
+    "record_from_text",
     "respond_a",
+    "type_from_text",
     "type_text",
 ]

@@ -1,10 +1,11 @@
 """Messages that are written item by item."""
 
 from ctypes import byref, c_char, c_size_t, string_at
-from typing import NamedTuple
+from typing import NamedTuple, Optional
 
 from . import _calls
 from ._edns import Edns
+from ._items import Record
 from ._names import Name, name_octets
 from ._numbers import Class, Section, Type
 
@@ -40,6 +41,18 @@ class Builder:
         self._out = (c_char * self._limit)()
         id, flags = _calls.number(id, 16, "id"), _calls.number(flags, 16, "flags")
         _calls.check(_calls.library.dnsm_begin(byref(self._draft), self._out, self._limit, id, flags))
+
+    @classmethod
+    def response(cls, query: _calls.Octets, rcode: int = 0, *, limit: int = 65535) -> "Builder":
+        """The response to a query, with its question: with its ID, opcode, RD and CD, QR, and the low four bits of `rcode`.
+
+        Raises `NotAnswerable` for a response, or if there isn't exactly one question, and `MalformedMessage` if that can't be read.
+        """
+        builder, query = cls(0, limit=limit), _calls.octets_of(query)
+        rcode = _calls.number(rcode, 16, "rcode")
+        begin = _calls.library.dnsm_begin_response
+        _calls.check(begin(byref(builder._draft), builder._out, builder._limit, query, len(query), rcode))
+        return builder
 
     @property
     def flags(self) -> int:
@@ -81,6 +94,17 @@ class Builder:
             _calls.number(section, 8, "a section"),
         )
         _calls.check(_calls.library.dnsm_put(byref(self._draft), self._out, self._limit, byref(item)))
+
+    def put_from(self, record: Record, section: Optional[int] = None, ttl: Optional[int] = None) -> None:
+        """Appends a record of another message, in its section and with its TTL unless others are given.
+
+        Names are compressed anew. Raises what `put` raises.
+        """
+        item, octets = _calls.Item.from_buffer_copy(record._item), record._octets
+        item.section = item.section if section is None else _calls.number(section, 8, "a section")
+        item.ttl = item.ttl if ttl is None else _calls.number(ttl, 32, "ttl")
+        put = _calls.library.dnsm_put_from
+        _calls.check(put(byref(self._draft), self._out, self._limit, octets, len(octets), byref(item)))
 
     def put_edns(self, edns: Edns) -> None:
         """Appends an OPT record. It takes `edns.length()` octets."""

@@ -3,8 +3,8 @@
 import ctypes
 import operator
 import os
-from ctypes import POINTER, byref, c_bool, c_char, c_char_p, c_size_t, c_uint8, c_uint16, c_uint32
-from typing import Any, Union
+from ctypes import POINTER, byref, c_bool, c_char, c_char_p, c_size_t, c_uint8, c_uint16, c_uint32, c_uint64
+from typing import Any, Tuple, Union
 
 from ._errors import Status, error_of
 
@@ -49,6 +49,10 @@ class OptOption(ctypes.Structure):
     _fields_ = [("data", c_size_t), ("code", c_uint16), ("data_len", c_uint16)]
 
 
+class DataField(ctypes.Structure):
+    _fields_ = [("place", c_size_t), ("len", c_size_t), ("number", c_uint64), ("kind", c_uint8)]
+
+
 class NewItem(ctypes.Structure):
     _fields_ = [
         ("name", c_char_p),
@@ -71,6 +75,7 @@ class Draft(ctypes.Structure):
         ("flags", c_uint16),
         ("counts", c_uint16 * 4),
         ("section", c_uint8),
+        ("unchecked", c_uint8),
         ("hints", c_uint16 * 64),
     ]
 
@@ -90,20 +95,47 @@ _CALLS = {
     "dnsm_name_end": [*_OCTETS, c_size_t, POINTER(c_size_t)],
     "dnsm_data_name": [*_OCTETS, POINTER(Item), c_size_t, POINTER(c_size_t)],
     "dnsm_name_from_text": [*_OCTETS, *_OUT],
+    "dnsm_name_equal": [*_OCTETS, c_size_t, *_OCTETS, c_size_t, POINTER(c_uint8)],
+    "dnsm_name_below": [*_OCTETS, c_size_t, *_OCTETS, c_size_t, POINTER(c_uint8)],
+    "dnsm_name_order": [*_OCTETS, c_size_t, *_OCTETS, c_size_t, POINTER(c_uint8)],
+    "dnsm_name_key": [*_OCTETS, c_size_t, *_OUT],
+    "dnsm_name_hash": [*_OCTETS, c_size_t, *_OCTETS, POINTER(c_uint32)],
+    "dnsm_data_octets": [*_OCTETS, POINTER(Item), *_OUT],
+    "dnsm_check_data": [*_OCTETS, POINTER(Item)],
+    "dnsm_data_name_text": [*_OCTETS, POINTER(Item), c_size_t, *_OUT],
+    "dnsm_data_name_octets": [*_OCTETS, POINTER(Item), c_size_t, *_OUT],
+    "dnsm_next_field": [*_OCTETS, POINTER(Item), POINTER(c_size_t), POINTER(DataField)],
+    "dnsm_data_from_text": [c_uint16, *_OCTETS, *_OUT],
+    "dnsm_record_from_text": [*_OCTETS, *_OUT, POINTER(Item)],
     "dnsm_data_text": [*_OCTETS, POINTER(Item), *_OUT],
     "dnsm_type_text": [c_uint16, *_OUT],
     "dnsm_class_text": [c_uint16, *_OUT],
+    "dnsm_opcode_text": [c_uint8, *_OUT],
+    "dnsm_rcode_text": [c_uint16, *_OUT],
+    "dnsm_option_text": [c_uint16, *_OUT],
+    "dnsm_extended_error_text": [c_uint16, *_OUT],
+    "dnsm_type_from_text": [*_OCTETS, POINTER(c_uint16)],
+    "dnsm_class_from_text": [*_OCTETS, POINTER(c_uint16)],
+    "dnsm_opcode_from_text": [*_OCTETS, POINTER(c_uint8)],
+    "dnsm_rcode_from_text": [*_OCTETS, POINTER(c_uint16)],
+    "dnsm_option_from_text": [*_OCTETS, POINTER(c_uint16)],
+    "dnsm_extended_error_from_text": [*_OCTETS, POINTER(c_uint16)],
     "dnsm_status_text": [c_uint32, *_OUT],
     "dnsm_opt_fields": [POINTER(Item), POINTER(OptFields)],
+    "dnsm_find_opt": [*_OCTETS, POINTER(OptFields), POINTER(Item), POINTER(c_uint16)],
     "dnsm_opt_ttl": [POINTER(OptFields)],
     "dnsm_next_option": [*_OCTETS, POINTER(Item), POINTER(c_size_t), POINTER(OptOption)],
     "dnsm_option_octets": [c_uint16, *_OCTETS, *_OUT],
     "dnsm_query": [c_uint16, c_bool, *_OCTETS, c_uint16, c_uint16, *_OUT],
     "dnsm_respond_a": [*_OCTETS, c_bool, c_uint32, c_char_p, *_OUT],
+    "dnsm_answers": [*_OCTETS, *_OCTETS],
     "dnsm_build": [c_uint16, c_uint16, POINTER(NewItem), c_size_t, *_OUT],
     "dnsm_begin": [POINTER(Draft), *_BUFFER, c_uint16, c_uint16],
     "dnsm_put": [POINTER(Draft), *_BUFFER, POINTER(PutItem)],
+    "dnsm_begin_response": [POINTER(Draft), *_BUFFER, *_OCTETS, c_uint16],
+    "dnsm_put_from": [POINTER(Draft), *_BUFFER, *_OCTETS, POINTER(Item)],
     "dnsm_finish": [POINTER(Draft), *_OUT],
+    "dnsm_version": [],
 }
 
 
@@ -118,6 +150,12 @@ def _load() -> ctypes.CDLL:
 
 
 library = _load()
+
+
+def library_version() -> Tuple[int, int, int]:
+    """The version of the library that is loaded: major, minor and patch."""
+    version = int(library.dnsm_version())
+    return version // 10000, version // 100 % 100, version % 100
 
 
 def status_text(status: int) -> str:

@@ -29,6 +29,11 @@ class Status(enum.IntEnum):
     BAD_OPTION = 19
     NO_NAME = 20
     BAD_DATA = 21
+    NO_OPT = 22
+    TWO_OPTS = 23
+    BAD_OWNER = 24
+    NO_RESPONSE = 25
+    OTHER_QUERY = 26
 
 
 class Error(ValueError):
@@ -52,7 +57,7 @@ class MalformedMessage(Error):
 
 
 class NameTextError(Error):
-    """A text, or octets, that are no valid name to write."""
+    """A text that represents nothing, or octets that are no valid name to write."""
 
 
 class DataError(Error):
@@ -77,6 +82,8 @@ _KINDS: Dict[int, Type[Error]] = {
     Status.BAD_POINTER: MalformedMessage,
     Status.LONG_NAME: MalformedMessage,
     Status.BAD_OPTION: MalformedMessage,
+    Status.TWO_OPTS: MalformedMessage,
+    Status.BAD_OWNER: MalformedMessage,
     Status.NO_ROOM: NoRoom,
     Status.BAD_TEXT: NameTextError,
     Status.BAD_DATA: DataError,

@@ -1,10 +1,19 @@
 """Questions and records of a message."""
 
 from ctypes import byref, c_size_t
+from typing import Iterator, NamedTuple, Union
 
 from . import _calls
 from ._edns import Edns, read_edns
-from ._numbers import Section, class_text, type_text
+from ._errors import Status
+from ._numbers import FieldKind, Section, class_text, type_text
+
+
+class Field(NamedTuple):
+    """A field of RDATA: an integer for a number or a record type, the text of a name, or octets."""
+
+    kind: FieldKind
+    value: Union[int, str, bytes]
 
 
 class Question:
@@ -77,14 +86,36 @@ class Record(Question):
         """The RDATA as in a zone file, or `\\#` and its octets if it isn't that of its type."""
         return _calls.text(_calls.library.dnsm_data_text, self._octets, len(self._octets), byref(self._item))
 
+    def data_octets(self) -> bytes:
+        """The RDATA with its names uncompressed, as `Builder.put` and `build` take it.
+
+        Raises `DataError` if it isn't that of its type. Octets after the RDATA aren't read."""
+        return _calls.written(_calls.library.dnsm_data_octets, self._octets, len(self._octets), byref(self._item))
+
+    def has_data(self) -> bool:
+        """Whether the RDATA is that of the record type."""
+        status = _calls.library.dnsm_check_data(self._octets, len(self._octets), byref(self._item))
+        return status != Status.BAD_DATA and _calls.check(status)
+
     def data_name(self, index: int = 0) -> str:
-        """A name in the RDATA of NS, CNAME, SOA, PTR, MX, SRV or DNAME; SOA has two.
+        """A name in the RDATA, counted from 0 in the order of the fields: SOA has two.
 
         Raises `DataError` if there is none, or if the RDATA isn't that of its type. Octets after the RDATA aren't read."""
-        offset, octets = c_size_t(), self._octets
         index = _calls.number(index, 64, "an index")
-        _calls.check(_calls.library.dnsm_data_name(octets, len(octets), byref(self._item), index, byref(offset)))
-        return _calls.text(_calls.library.dnsm_name_text, octets, len(octets), offset.value)
+        return _calls.text(_calls.library.dnsm_data_name_text, self._octets, len(self._octets), byref(self._item), index)
+
+    def fields(self) -> Iterator[Field]:
+        """The fields of the RDATA. Raises `DataError` if it isn't that of its type."""
+        octets, index, field = self._octets, c_size_t(), _calls.DataField()
+        end = self._item.data + self._item.data_len
+        while _calls.check(_calls.library.dnsm_next_field(octets, len(octets), byref(self._item), byref(index), byref(field))):
+            kind = FieldKind(field.kind)
+            if kind in (FieldKind.NUMBER, FieldKind.TYPE):
+                yield Field(kind, field.number)
+            elif kind == FieldKind.NAME:
+                yield Field(kind, _calls.text(_calls.library.dnsm_name_text, octets, end, field.place))
+            else:
+                yield Field(kind, octets[field.place : field.place + field.len])
 
     def edns(self) -> Edns:
         """The fields and options of an OPT record."""

@@ -1,15 +1,23 @@
 """Messages that are read."""
 
-from ctypes import byref
+from ctypes import byref, c_uint16
 from itertools import chain, islice
-from typing import Iterator, Optional, Tuple, Union
+from typing import Iterator, NamedTuple, Optional, Tuple, Union
 
 from . import _calls
 from ._calls import Octets
-from ._edns import Edns
-from ._errors import Error
+from ._edns import Edns, read_edns
+from ._errors import Error, Status
 from ._items import Question, Record
 from ._numbers import Flag, Section, Type
+
+
+class FoundOpt(NamedTuple):
+    """The only OPT record of a message. `rcode` has twelve bits."""
+
+    record: Record
+    edns: Edns
+    rcode: int
 
 
 class Message:
@@ -98,6 +106,24 @@ class Message:
         for item in islice(self, sum(self.counts[: section + 1])):
             if isinstance(item, Record) and item.section == section:
                 yield item
+
+    def answers(self, query: Octets) -> bool:
+        """Whether this is the response to a query, by QR, ID, opcode and questions."""
+        query = _calls.octets_of(query)
+        status = _calls.library.dnsm_answers(query, len(query), self._octets, len(self._octets))
+        return status not in (Status.NO_RESPONSE, Status.OTHER_QUERY) and _calls.check(status)
+
+    def find_opt(self) -> Optional[FoundOpt]:
+        """The only OPT record of the message, anywhere in the additional section, or None.
+
+        Raises `MalformedMessage` if there are two, if its owner isn't the root, or if an item or an option can't be read.
+        """
+        octets, item, fields, rcode = self._octets, _calls.Item(), _calls.OptFields(), c_uint16()
+        status = _calls.library.dnsm_find_opt(octets, len(octets), byref(fields), byref(item), byref(rcode))
+        if status == Status.NO_OPT:
+            return None
+        _calls.check(status)
+        return FoundOpt(Record(octets, item), read_edns(octets, item), rcode.value)
 
     def edns(self) -> Optional[Edns]:
         """The first OPT record of the additional section, or None."""

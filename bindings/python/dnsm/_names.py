@@ -1,6 +1,7 @@
 """Names as text and as octets."""
 
-from typing import Union
+from ctypes import byref, c_uint8
+from typing import Any, Union
 
 from . import _calls
 from ._calls import Octets
@@ -21,6 +22,28 @@ def name_to_text(octets: Octets, offset: int = 0) -> str:
     octets = _calls.octets_of(octets)
     offset = _calls.number(offset, 64, "an offset")
     return _calls.text(_calls.library.dnsm_name_text, octets, len(octets), offset)
+
+
+def names_are_equal(one: Name, other: Name) -> bool:
+    """Whether two names are equal, ignoring ASCII case."""
+    return _compared(_calls.library.dnsm_name_equal, one, other)
+
+
+def name_is_below(name: Name, above: Name) -> bool:
+    """Whether the first name is the second or a subdomain of it."""
+    return _compared(_calls.library.dnsm_name_below, name, above)
+
+
+def name_key(name: Name) -> bytes:
+    """Octets that compare as RFC 4034 section 6.1 orders names. The keys of subdomains begin with that of the name."""
+    octets = name_octets(name)
+    return _calls.written(_calls.library.dnsm_name_key, octets, len(octets), 0)
+
+
+def _compared(call: Any, one: Name, other: Name) -> bool:
+    first, second, found = name_octets(one), name_octets(other), c_uint8()
+    _calls.check(call(first, len(first), 0, second, len(second), 0, byref(found)))
+    return found.value != 0
 
 
 def name_octets(name: Name) -> bytes:

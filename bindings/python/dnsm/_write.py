@@ -1,11 +1,13 @@
 """Messages that are written by one call."""
 
+from ctypes import byref
 from dataclasses import dataclass
-from typing import Iterable, List, Optional, Tuple, Union
+from typing import Any, Iterable, List, Optional, Tuple, Union
 
 from . import _calls
 from ._calls import Octets
 from ._edns import Edns
+from ._items import Record
 from ._names import Name, name_text
 from ._numbers import Class, Flag, Section, Type
 
@@ -61,6 +63,25 @@ def build(
     # Enough for the message, or for what TCP carries. A longer message is written by a second call.
     capacity = min(sum((item.name_len + item.data_len + 12 for item in items), 12), 65535)
     return _calls.written(_calls.library.dnsm_build, _calls.number(id, 16, "id"), whole, array, len(items), capacity=capacity)
+
+
+def record_from_text(text: str) -> Record:
+    """The record that a text represents, as in a line of a zone file, over octets of its own, for `Builder.put_from`.
+
+    Raises `NameTextError` if it represents none.
+    """
+    octets, item = text.encode("utf-8", "surrogatepass"), _calls.Item()
+
+    def call(out: Any, capacity: int, length: Any) -> int:
+        return int(_calls.library.dnsm_record_from_text(octets, len(octets), out, capacity, length, byref(item)))
+
+    return Record(_calls.written(call), item)
+
+
+def data_from_text(type: int, text: str) -> bytes:
+    """The RDATA that a text represents, as in a zone file. Raises `NameTextError` if it represents none."""
+    octets = text.encode("utf-8", "surrogatepass")
+    return _calls.written(_calls.library.dnsm_data_from_text, _calls.number(type, 16, "a type"), octets, len(octets))
 
 
 def query(

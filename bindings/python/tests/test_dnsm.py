@@ -209,6 +209,23 @@ class Other(unittest.TestCase):
         self.assertEqual(dnsm.type_text(Type.MX) + dnsm.class_text(Class.IN), "MXIN")
         self.assertEqual(dnsm.type_text(65280) + dnsm.class_text(2), "TYPE65280CLASS2")
 
+    def test_numbers_from_text(self):
+        for read, text, number in (
+            (dnsm.type_from_text, "mx", 15),
+            (dnsm.type_from_text, "TYPE65280", 65280),
+            (dnsm.class_from_text, "class2", 2),
+            (dnsm.opcode_from_text, "update", 5),
+            (dnsm.rcode_from_text, "BadVers", 16),
+            (dnsm.option_from_text, "cookie", 10),
+            (dnsm.extended_error_from_text, "stale answer", 3),
+        ):
+            self.assertEqual(read(text), number)
+        self.assertEqual(dnsm.extended_error_text(3) + dnsm.extended_error_text(49152), "Stale AnswerEDE49152")
+        for text in ("", "15", "TYPE", "TYPE65536", "\xff", "\ud800"):
+            self.assertRaises(dnsm.Error, dnsm.type_from_text, text)
+        self.assertRaises(dnsm.Error, dnsm.opcode_from_text, "OPCODE256")
+        self.assertRaises(dnsm.Error, dnsm.rcode_from_text, "RCODE4096")
+
     def test_names_in_rdata_end_with_it(self):
         # An NS record of one octet, which would be a label with octets after the RDATA; and one of a pointer to such a label.
         for octets in ("0000800000000001000000000000020001000000000001016100", "0000800000000001000000000000020001000000060002c014616100"):
@@ -222,7 +239,7 @@ class Other(unittest.TestCase):
         with self.assertRaises(dnsm.Error) as raised:
             dnsm.name_from_text("")
         error = raised.exception
-        self.assertEqual(str(error), "the text is no valid name")
+        self.assertEqual(str(error), "the text, or the name of an item, isn't valid")
         for other in (copy.copy(error), pickle.loads(pickle.dumps(error))):
             self.assertEqual((type(other), other.status, str(other)), (type(error), error.status, str(error)))
 

@@ -1,5 +1,5 @@
 //! Messages that are written item by item.
-use crate::{Error, NewItem};
+use crate::{Error, Item, NewItem, Section};
 use dnsm_sys::*;
 
 /// A message that is written into a buffer of the caller, item by item, without an allocation. Names are compressed.
@@ -30,6 +30,10 @@ pub struct Builder<'a> {
     draft: dnsm_draft,
 }
 
+/// A draft before it is begun.
+const EMPTY: dnsm_draft =
+    dnsm_draft { len: 0, limit: 0, reserved: 0, id: 0, flags: 0, counts: [0; 4], section: 0, unchecked: 0, hints: [0; 64] };
+
 /// How much of a message was written, as [`Builder::mark`] returns it.
 #[derive(Debug, Clone, Copy)]
 pub struct Mark(dnsm_draft);
@@ -41,9 +45,24 @@ impl<'a> Builder<'a> {
     ///
     /// `NoRoom` if the buffer has fewer than 12 octets.
     pub fn new(out: &'a mut [u8], id: u16, flags: u16) -> Result<Self, Error> {
-        let mut draft = dnsm_draft { len: 0, limit: 0, reserved: 0, id, flags, counts: [0; 4], section: 0, hints: [0; 64] };
+        let mut draft = EMPTY;
         // SAFETY: the pointer and the length are those of the buffer, and the reference is to a live value.
         Error::check(unsafe { dnsm_begin(&mut draft, out.as_mut_ptr(), out.len(), id, flags) })?;
+        Ok(Self { out, draft })
+    }
+
+    /// Begins the response to a query, with its question: with its ID, opcode, RD and CD, QR, and the low four bits of `rcode`.
+    ///
+    /// # Errors
+    ///
+    /// `ShortInput`, `IsResponse` or `NoQuestion` for octets that are no query with one question, the error of reading the question,
+    /// and `NoRoom`.
+    pub fn response(out: &'a mut [u8], query: &[u8], rcode: u16) -> Result<Self, Error> {
+        let mut draft = EMPTY;
+        // SAFETY: the pointers and the lengths are those of the buffer and the query, and the reference is to a live value.
+        Error::check(unsafe {
+            dnsm_begin_response(&mut draft, out.as_mut_ptr(), out.len(), query.as_ptr(), query.len(), rcode)
+        })?;
         Ok(Self { out, draft })
     }
 
@@ -95,6 +114,21 @@ impl<'a> Builder<'a> {
         // SAFETY: the pointers and the lengths are those of the buffer, the name and the RDATA, and the references are to live
         // values.
         Error::check(unsafe { dnsm_put(&mut self.draft, self.out.as_mut_ptr(), self.out.len(), &passed) })
+    }
+
+    /// Appends an item of another message, in a section and with a TTL. A cache lowers the TTL by the age of the message. Names are
+    /// compressed anew.
+    ///
+    /// # Errors
+    ///
+    /// Those of [`put`](Self::put).
+    pub fn put_from(&mut self, item: &Item<'_>, section: Section, ttl: u32) -> Result<(), Error> {
+        let (octets, passed) = item.parts();
+        let passed = dnsm_item { section: section as u8, ttl, ..passed };
+        // SAFETY: the pointers and the lengths are those of the buffer and the other message, and the references are to live values.
+        Error::check(unsafe {
+            dnsm_put_from(&mut self.draft, self.out.as_mut_ptr(), self.out.len(), octets.as_ptr(), octets.len(), &passed)
+        })
     }
 
     /// What has been written so far, for [`rewind`](Self::rewind).

@@ -51,7 +51,7 @@ errors! {
     LongName = DNSM_LONG_NAME,
     /// The buffer or the limit of a builder leaves too few octets.
     NoRoom = DNSM_NO_ROOM,
-    /// A text or octets are no valid name.
+    /// A text represents nothing, or octets are no valid name.
     BadText = DNSM_BAD_TEXT,
     /// The query doesn't have exactly one question.
     NoQuestion = DNSM_NO_QUESTION,
@@ -79,6 +79,16 @@ errors! {
     NoName = DNSM_NO_NAME,
     /// The octets are no RDATA of the record type.
     BadData = DNSM_BAD_DATA,
+    /// The additional section has no OPT record.
+    NoOpt = DNSM_NO_OPT,
+    /// The additional section has two OPT records.
+    TwoOpts = DNSM_TWO_OPTS,
+    /// The owner of the OPT record isn't the root.
+    BadOwner = DNSM_BAD_OWNER,
+    /// QR isn't set, so this is no response.
+    NoResponse = DNSM_NO_RESPONSE,
+    /// The ID, the opcode or the questions of a response aren't those of the query.
+    OtherQuery = DNSM_OTHER_QUERY,
 }
 
 impl fmt::Display for Error {
@@ -97,12 +107,12 @@ mod tests {
     /// 0 is success, 1 the end and 6 a status that only a caller can make.
     #[test]
     fn each_status_has_its_error() {
-        for status in (2..=21).filter(|&status| status != 6) {
+        for status in (2..=26).filter(|&status| status != 6) {
             let error = Error::from_status(status);
             assert_eq!(error.status(), status);
             assert!(!matches!(error, Error::Other(_)), "{status}");
         }
-        for status in [6, 22, 99, u32::MAX] {
+        for status in [6, 27, 99, u32::MAX] {
             assert_eq!(Error::from_status(status), Error::Other(status));
         }
         assert_eq!((Error::check(0), Error::check(11)), (Ok(()), Err(Error::NoMemory)));

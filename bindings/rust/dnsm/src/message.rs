@@ -1,6 +1,7 @@
 //! Messages that are read.
 use crate::{out, Class, Error, Opt, Rtype, Section};
 use dnsm_sys::*;
+use std::cmp::Ordering;
 use std::fmt;
 use std::iter::FusedIterator;
 
@@ -51,6 +52,16 @@ impl<'a> Message<'a> {
         self.header
     }
 
+    /// Checks that this is the response to a query: QR is set, and ID, opcode and questions are those of the query.
+    ///
+    /// # Errors
+    ///
+    /// `NoResponse`, `OtherQuery`, and `ShortInput` if the query has fewer than 12 octets.
+    pub fn check_answers(&self, query: &[u8]) -> Result<(), Error> {
+        // SAFETY: the pointers and the lengths are those of both octets.
+        Error::check(unsafe { dnsm_answers(query.as_ptr(), query.len(), self.octets.as_ptr(), self.octets.len()) })
+    }
+
     /// All questions and records, in order, up to the first that can't be read, and then its error.
     pub fn items(&self) -> Items<'a> {
         Items { octets: self.octets, cursor: self.start, ended: false }
@@ -60,6 +71,21 @@ impl<'a> Message<'a> {
     pub fn section(&self, section: Section) -> impl Iterator<Item = Result<Item<'a>, Error>> {
         let before = self.header.counts[..=section as usize].iter().map(|&count| usize::from(count)).sum();
         self.items().take(before).filter(move |item| item.as_ref().map_or(true, |item| item.section() == section))
+    }
+
+    /// The only OPT record, anywhere in the additional section, and the rcode of twelve bits. None if there is none.
+    ///
+    /// # Errors
+    ///
+    /// `TwoOpts`, the error of the first item that can't be read, and `BadOwner` if the owner isn't the root.
+    pub fn find_opt(&self) -> Result<Option<(Opt<'a>, u16)>, Error> {
+        let (octets, mut fields, mut item, mut rcode) = (self.octets, dnsm_opt::default(), dnsm_item::default(), 0);
+        // SAFETY: the pointer and the length are those of the octets, and the references are to live values.
+        match unsafe { dnsm_find_opt(octets.as_ptr(), octets.len(), &mut fields, &mut item, &mut rcode) } {
+            DNSM_OK => Ok(Some((Opt::found(Item { octets, item }, fields), rcode))),
+            DNSM_NO_OPT => Ok(None),
+            status => Err(Error::from_status(status)),
+        }
     }
 
     /// The first OPT record of the additional section.
@@ -160,7 +186,39 @@ impl<'a> Item<'a> {
         (self.section() != Section::Question).then_some(DataText(*self))
     }
 
-    /// A name in the RDATA of NS, CNAME, SOA, PTR, MX, SRV or DNAME; SOA has two. No octet after the RDATA belongs to it.
+    /// Its RDATA with names uncompressed, as [`NewItem`](crate::NewItem) takes it.
+    ///
+    /// # Errors
+    ///
+    /// `BadSection` for a question, and `BadData` if the RDATA isn't that of its type.
+    pub fn data_octets(&self) -> Result<Vec<u8>, Error> {
+        // SAFETY: the pointers and the lengths are those of the octets and of a buffer, and the reference is to a live value.
+        out::octets(usize::from(self.item.data_len), |out, out_len, len| unsafe {
+            dnsm_data_octets(self.octets.as_ptr(), self.octets.len(), &self.item, out, out_len, len)
+        })
+    }
+
+    /// Checks that its RDATA is that of its type.
+    ///
+    /// # Errors
+    ///
+    /// Those of [`data_octets`](Self::data_octets).
+    pub fn check_data(&self) -> Result<(), Error> {
+        // SAFETY: the pointer and the length are those of the octets, and the reference is to a live value.
+        Error::check(unsafe { dnsm_check_data(self.octets.as_ptr(), self.octets.len(), &self.item) })
+    }
+
+    /// The fields of its RDATA, in order. The only error is that of [`check_data`](Self::check_data), in place of the first field.
+    pub fn fields(&self) -> Fields<'a> {
+        Fields { item: *self, index: 0, ended: false }
+    }
+
+    /// The octets and the item, for a call.
+    pub(crate) fn parts(&self) -> (&'a [u8], dnsm_item) {
+        (self.octets, self.item)
+    }
+
+    /// A name in its RDATA, counted from 0 in the order of the fields; SOA has two. No octet after the RDATA belongs to it.
     ///
     /// # Errors
     ///
@@ -179,6 +237,63 @@ impl<'a> Item<'a> {
     /// `NotOpt`.
     pub fn opt(&self) -> Result<Opt<'a>, Error> {
         Opt::of(*self)
+    }
+}
+
+/// A field of RDATA.
+#[derive(Debug, Clone, Copy)]
+pub enum Field<'a> {
+    /// A number.
+    Number(u64),
+    /// A record type.
+    Rtype(Rtype),
+    /// An IPv4 or IPv6 address.
+    Address(&'a [u8]),
+    /// A name.
+    Name(Name<'a>),
+    /// A string, or other octets.
+    Octets(&'a [u8]),
+}
+
+/// The fields of RDATA, as [`Item::fields`] returns them.
+#[derive(Debug, Clone)]
+pub struct Fields<'a> {
+    item: Item<'a>,
+    index: usize,
+    ended: bool,
+}
+
+impl<'a> Iterator for Fields<'a> {
+    type Item = Result<Field<'a>, Error>;
+
+    fn next(&mut self) -> Option<Self::Item> {
+        let (octets, item) = self.item.parts();
+        let mut field = dnsm_data_field::default();
+        if self.ended {
+            return None;
+        }
+        // SAFETY: the pointer and the length are those of the octets, and the references are to live values.
+        match unsafe { dnsm_next_field(octets.as_ptr(), octets.len(), &item, &mut self.index, &mut field) } {
+            DNSM_OK => Some(Ok(Field::of(octets, &field))),
+            status => {
+                self.ended = true;
+                (status != DNSM_END).then(|| Err(Error::from_status(status)))
+            }
+        }
+    }
+}
+
+impl FusedIterator for Fields<'_> {}
+
+impl<'a> Field<'a> {
+    fn of(octets: &'a [u8], field: &dnsm_data_field) -> Self {
+        match field.kind {
+            DNSM_FIELD_NUMBER => Self::Number(field.number),
+            DNSM_FIELD_TYPE => Self::Rtype(Rtype(field.number as u16)),
+            DNSM_FIELD_NAME => Self::Name(Name { octets, offset: field.place }),
+            DNSM_FIELD_IPV4 | DNSM_FIELD_IPV6 => Self::Address(&octets[field.place..][..field.len]),
+            _ => Self::Octets(&octets[field.place..][..field.len]),
+        }
     }
 }
 
@@ -209,9 +324,61 @@ impl Name<'_> {
         out::octets(DNSM_NAME_OCTETS, write).expect("the name was read before")
     }
 
+    /// Octets that compare as RFC 4034 section 6.1 orders names. The keys of subdomains begin with that of the name.
+    pub fn key(&self) -> Vec<u8> {
+        // SAFETY: the pointers and the lengths are those of the octets and of a buffer.
+        let write = |out, out_len, len: &mut usize| unsafe {
+            dnsm_name_key(self.octets.as_ptr(), self.octets.len(), self.offset, out, out_len, len)
+        };
+        out::octets(DNSM_NAME_OCTETS, write).expect("the name was read before")
+    }
+
+    /// Whether the name is the other or a subdomain of it, ignoring ASCII case.
+    pub fn is_below(&self, other: &Name<'_>) -> bool {
+        let (octets, others, mut below) = (self.octets, other.octets, 0);
+        // SAFETY: the pointers and the lengths are those of the octets, and the reference is to a live value.
+        let status = unsafe {
+            dnsm_name_below(octets.as_ptr(), octets.len(), self.offset, others.as_ptr(), others.len(), other.offset, &mut below)
+        };
+        status == DNSM_OK && below != 0
+    }
+
     /// The offset of the name in the message.
     pub fn offset(&self) -> usize {
         self.offset
+    }
+}
+
+/// Names are equal if they are but for ASCII case, also if they are of different messages.
+impl PartialEq for Name<'_> {
+    fn eq(&self, other: &Name<'_>) -> bool {
+        let (octets, others, mut equal) = (self.octets, other.octets, 0);
+        // SAFETY: the pointers and the lengths are those of the octets, and the reference is to a live value.
+        let status = unsafe {
+            dnsm_name_equal(octets.as_ptr(), octets.len(), self.offset, others.as_ptr(), others.len(), other.offset, &mut equal)
+        };
+        status == DNSM_OK && equal != 0
+    }
+}
+
+impl Eq for Name<'_> {}
+
+/// Names are ordered by RFC 4034 section 6.1.
+impl Ord for Name<'_> {
+    fn cmp(&self, other: &Name<'_>) -> Ordering {
+        let (octets, others, mut order) = (self.octets, other.octets, 0);
+        // SAFETY: the pointers and the lengths are those of the octets, and the reference is to a live value.
+        let status = unsafe {
+            dnsm_name_order(octets.as_ptr(), octets.len(), self.offset, others.as_ptr(), others.len(), other.offset, &mut order)
+        };
+        assert_eq!(status, DNSM_OK, "the names were read before");
+        order.cmp(&1)
+    }
+}
+
+impl PartialOrd for Name<'_> {
+    fn partial_cmp(&self, other: &Name<'_>) -> Option<Ordering> {
+        Some(self.cmp(other))
     }
 }
 

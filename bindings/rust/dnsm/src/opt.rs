@@ -17,6 +17,11 @@ impl<'a> Opt<'a> {
         Ok(Self { item, fields })
     }
 
+    /// The record with its fields, which were read already.
+    pub(crate) fn found(item: Item<'a>, fields: dnsm_opt) -> Self {
+        Self { item, fields }
+    }
+
     /// The most octets of a UDP payload that the sender can receive.
     pub fn udp_size(&self) -> u16 {
         self.fields.udp_size

@@ -1,6 +1,7 @@
 //! Messages that are written by one call.
-use crate::{out, Class, Error, NewItem, Rtype};
+use crate::{out, Class, Error, Item, NewItem, Rtype};
 use dnsm_sys::*;
+use std::cell::Cell;
 
 /// The octets of a message with these items, each in its section, in order. Names are compressed. `flags` are the third and fourth
 /// octets of the header, as `QR | AA`.
@@ -54,6 +55,46 @@ pub fn respond_a(query: &[u8], authoritative: bool, ttl: u32, address: [u8; 4]) 
     out::octets(DNSM_MADE, |out, out_len, len| unsafe {
         dnsm_respond_a(query.as_ptr(), query.len(), authoritative, ttl, address.as_ptr(), out, out_len, len)
     })
+}
+
+/// The RDATA that a text represents, as in a zone file.
+///
+/// # Errors
+///
+/// `BadText` if it represents none, and `NoMemory`.
+pub fn data_from_text(rtype: Rtype, text: &str) -> Result<Vec<u8>, Error> {
+    // SAFETY: the pointers and the lengths are those of the text and of a buffer.
+    out::octets(DNSM_NAME_OCTETS, |out, out_len, len| unsafe {
+        dnsm_data_from_text(rtype.0, text.as_ptr().cast(), text.len(), out, out_len, len)
+    })
+}
+
+/// A record that was read from text, with its octets.
+#[derive(Debug, Clone)]
+pub struct TextRecord {
+    octets: Vec<u8>,
+    item: dnsm_item,
+}
+
+impl TextRecord {
+    /// The record, as of the answer section, for [`Builder::put_from`](crate::Builder::put_from).
+    pub fn item(&self) -> Item<'_> {
+        Item { octets: &self.octets, item: self.item }
+    }
+}
+
+/// The record that a text represents, as in a line of a zone file.
+///
+/// # Errors
+///
+/// `BadText` if it represents none, and `NoMemory`.
+pub fn record_from_text(text: &str) -> Result<TextRecord, Error> {
+    let item = Cell::new(dnsm_item::default());
+    // SAFETY: the pointers and the lengths are those of the text and of a buffer, and `item` is a live value.
+    let octets = out::octets(DNSM_MADE, |out, out_len, len| unsafe {
+        dnsm_record_from_text(text.as_ptr().cast(), text.len(), out, out_len, len, item.as_ptr())
+    })?;
+    Ok(TextRecord { octets, item: item.get() })
 }
 
 /// The octets of the name that a text represents, as in RDATA.

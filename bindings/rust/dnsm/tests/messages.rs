@@ -1,7 +1,7 @@
 //! Reading, writing, and the errors of both.
 use dnsm::{
-    build, name_from_text, query, respond_a, Builder, Class, EdnsOption, Error, Item, Message, NewItem, NewName, NewOpt, Rtype,
-    Section, QR,
+    build, name_from_text, query, respond_a, Builder, Class, EdnsOption, Error, ExtendedErrorCode, Item, Message, NewItem,
+    NewName, NewOpt, Opcode, OptionCode, Rcode, Rtype, Section, QR,
 };
 
 /// A response with the question example.com. IN A, and its address by a pointer to that name.
@@ -47,6 +47,20 @@ fn names_in_rdata_end_with_it() {
 fn numbers_have_their_registered_names() {
     assert_eq!(Rtype::SRV.to_string() + &Class(254).to_string(), "SRVNONE");
     assert_eq!(Rtype(65280).to_string() + &Class(2).to_string(), "TYPE65280CLASS2");
+    assert_eq!(ExtendedErrorCode(3).to_string(), "Stale Answer");
+}
+
+#[test]
+fn numbers_are_read_from_text() {
+    assert_eq!(("mx".parse(), "TYPE65280".parse()), (Ok(Rtype::MX), Ok(Rtype(65280))));
+    assert_eq!(("IN".parse(), "class2".parse()), (Ok(Class::IN), Ok(Class(2))));
+    assert_eq!(("update".parse(), "OPCODE256".parse::<Opcode>()), (Ok(Opcode::UPDATE), Err(Error::BadText)));
+    assert_eq!(("BadVers".parse(), "RCODE4096".parse::<Rcode>()), (Ok(Rcode::BADVERS), Err(Error::BadText)));
+    assert_eq!(("cookie".parse(), "OPTION4".parse()), (Ok(OptionCode(10)), Ok(OptionCode(4))));
+    assert_eq!(("stale answer".parse(), "EDE49152".parse()), (Ok(ExtendedErrorCode(3)), Ok(ExtendedErrorCode(49152))));
+    for text in ["", "15", "TYPE", "TYPE65536", "\u{ff}"] {
+        assert_eq!(text.parse::<Rtype>(), Err(Error::BadText), "{text:?}");
+    }
 }
 
 #[test]
@@ -78,7 +92,7 @@ fn options_are_read_as_they_were_written() {
 #[test]
 fn names_are_read_from_texts() {
     assert_eq!(name_from_text("a\\.b.c").unwrap(), b"\x03a.b\x01c\0");
-    assert_eq!(name_from_text("").unwrap_err().to_string(), "the text is no valid name");
+    assert_eq!(name_from_text("").unwrap_err().to_string(), "the text, or the name of an item, isn't valid");
     assert_eq!(name_from_text("\u{e9}").unwrap_err(), Error::BadText);
 }
 

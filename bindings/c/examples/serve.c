@@ -1,0 +1,297 @@
+/* An authoritative name server over UDP and TCP.
+ *
+ *     serve FILE PORT [ADDRESS]        ADDRESS is 127.0.0.1 by default
+ *
+ * FILE has a zone, a record a line: owner, TTL in seconds, class IN, type and RDATA, with absolute names. Empty lines and those
+ * that begin with `;` are skipped. CNAME records are followed. There are no delegated zones, wildcards or DNSSEC. */
+#define _GNU_SOURCE
+#include <dnsm.h>
+
+#include <arpa/inet.h>
+#include <errno.h>
+#include <poll.h>
+#include <signal.h>
+#include <stdio.h>
+#include <stdlib.h>
+#include <string.h>
+#include <sys/socket.h>
+#include <unistd.h>
+
+/* The octets of an OPT record without options; of a UDP message for a client without EDNS, and at most; of a TCP message. */
+enum { OPT_OCTETS = 11, PLAIN = 512, UDP_MOST = 1232, TCP_MOST = 65535 };
+/* How many CNAME records are followed. How long a TCP connection may be idle, in seconds. */
+enum { CHAIN = 8, IDLE = 5 };
+
+/* The key of a name. Keys compare as RFC 4034 section 6.1 orders names, and begin with the keys of all names above. */
+typedef struct key {
+    size_t len;
+    uint8_t octets[DNSM_NAME_KEY];
+} key;
+
+/* A record of the zone, the key of its owner, and its octets. */
+typedef struct record {
+    key key;
+    uint8_t *octets;
+    size_t len;
+    dnsm_item item;
+} record;
+
+static record *zone, *soa;
+static size_t zone_len;
+
+/* A query and the response to it. Over TCP two octets with the length precede the response (RFC 1035 section 4.2.2). */
+static uint8_t query[TCP_MOST], framed[2 + TCP_MOST], *const out = framed + 2;
+
+/* Says why the server ends, and ends it. */
+static void stop(const char *what, const char *why)
+{
+    fprintf(stderr, "serve: %s: %s\n", what, why);
+    exit(1);
+}
+
+static dnsm_status make_key(key *to, const uint8_t *message, size_t len, size_t place)
+{
+    return dnsm_name_key(message, len, place, to->octets, sizeof to->octets, &to->len);
+}
+
+/* Compares keys, and records by their keys. */
+static int compare(const void *one, const void *other)
+{
+    const key *a = one, *b = other;
+    const int order = memcmp(a->octets, b->octets, a->len < b->len ? a->len : b->len);
+    return order ? order : (a->len > b->len) - (a->len < b->len);
+}
+
+static bool is_below(const key *name, const key *above)
+{
+    return name->len >= above->len && memcmp(name->octets, above->octets, above->len) == 0;
+}
+
+/* The number of the first record whose key isn't before this one. */
+static size_t find(const key *name)
+{
+    size_t from = 0, to = zone_len;
+    while (from < to) {
+        const size_t middle = from + (to - from) / 2;
+        if (compare(&zone[middle], name) < 0)
+            from = middle + 1;
+        else
+            to = middle;
+    }
+    return from;
+}
+
+/* Appends a record to the zone. */
+static dnsm_status add_record(const uint8_t *octets, size_t len, const dnsm_item *item)
+{
+    record it = {.octets = malloc(len), .len = len, .item = *item}, *more = realloc(zone, (zone_len + 1) * sizeof *zone);
+    if (!it.octets || !more)
+        return DNSM_NO_MEMORY;
+    zone = more;
+    memcpy(it.octets, octets, len);
+    zone[zone_len] = it;
+    return make_key(&zone[zone_len++].key, octets, len, item->place);
+}
+
+/* Reads a zone file. */
+static void read_zone(const char *path)
+{
+    static uint8_t octets[DNSM_NAME_OCTETS + 10 + 65535];
+    FILE *file = fopen(path, "r");
+    char *line = NULL, why[100];
+    size_t room = 0, len;
+    dnsm_item item;
+    if (!file)
+        stop(path, strerror(errno));
+    for (unsigned long number = 1; getline(&line, &room, file) >= 0; number++) {
+        const size_t blanks = strspn(line, " \t\r\n"), text_len = strcspn(line, "\r\n");
+        if (blanks >= text_len || line[0] == ';')
+            continue;
+        dnsm_status status = dnsm_record_from_text(line, text_len, octets, sizeof octets, &len, &item);
+        if (status == DNSM_OK)
+            status = add_record(octets, len, &item);
+        if (status != DNSM_OK) {
+            fprintf(stderr, "line %lu of ", number);
+            stop(path, dnsm_status_text(status, why, sizeof why, &len) == DNSM_OK ? why : "no record");
+        }
+    }
+    qsort(zone, zone_len, sizeof *zone, compare);
+    for (size_t i = 0; i < zone_len; i++)
+        if (zone[i].item.type == DNSM_TYPE_SOA)
+            soa = &zone[i];
+    if (ferror(file) || !soa)
+        stop(path, "no zone with an SOA record");
+    fclose(file);
+    free(line);
+}
+
+static dnsm_status put(dnsm_draft *draft, const record *from, uint8_t section)
+{
+    dnsm_item item = from->item;
+    item.section = section;
+    return dnsm_put_from(draft, out, TCP_MOST, from->octets, from->len, &item);
+}
+
+/* Puts the SOA record. Its TTL says how long a client may keep that there is no such record: RFC 2308 section 3. */
+static dnsm_status put_negative(dnsm_draft *draft, uint16_t rcode)
+{
+    record it = *soa;
+    const uint8_t *last = it.octets + it.item.data + it.item.data_len - 4;
+    const uint32_t minimum = (uint32_t)last[0] << 24 | (uint32_t)last[1] << 16 | (uint32_t)last[2] << 8 | last[3];
+    it.item.ttl = minimum < it.item.ttl ? minimum : it.item.ttl;
+    draft->flags |= rcode;
+    return put(draft, &it, DNSM_AUTHORITY);
+}
+
+/* Puts what the zone has of a name and type. If that is a CNAME record alone, sets `*alias` to it, else to NULL. */
+static dnsm_status put_records(dnsm_draft *draft, const key *name, uint16_t type, const record **alias)
+{
+    size_t at = find(name);
+    bool found = false;
+    *alias = NULL;
+    if (at == zone_len || !is_below(&zone[at].key, name))
+        return put_negative(draft, DNSM_RCODE_NXDOMAIN);
+    for (; at < zone_len && compare(&zone[at], name) == 0; at++) {
+        const bool is_asked = zone[at].item.type == type || type == DNSM_TYPE_ANY;
+        if (!is_asked && zone[at].item.type != DNSM_TYPE_CNAME)
+            continue;
+        *alias = is_asked ? NULL : &zone[at];
+        found = true;
+        const dnsm_status status = put(draft, &zone[at], DNSM_ANSWER);
+        if (status != DNSM_OK)
+            return status;
+    }
+    return found ? DNSM_OK : put_negative(draft, 0);
+}
+
+/* Puts the answer to a question. */
+static dnsm_status put_answer(dnsm_draft *draft, key *name, uint16_t type)
+{
+    const record *alias;
+    size_t place;
+    for (int step = 0; step < CHAIN && is_below(name, &soa->key); step++) {
+        const dnsm_status status = put_records(draft, name, type, &alias);
+        if (status != DNSM_OK || !alias)
+            return status;
+        if (dnsm_data_name(alias->octets, alias->len, &alias->item, 0, &place) != DNSM_OK ||
+            make_key(name, alias->octets, alias->len, place) != DNSM_OK)
+            break;
+    }
+    return DNSM_OK;
+}
+
+/* The rcode of a query without an answer. Otherwise 0; then the question and the key of its name are there. */
+static uint16_t refuse(size_t len, dnsm_status has_opt, const dnsm_opt *opt, dnsm_item *question, key *name)
+{
+    dnsm_header header;
+    dnsm_cursor cursor;
+    if ((has_opt != DNSM_OK && has_opt != DNSM_NO_OPT) || dnsm_open(query, len, &header, &cursor) != DNSM_OK ||
+        dnsm_next(query, len, &cursor, question) != DNSM_OK || question->section != DNSM_QUESTION || header.counts[0] != 1)
+        return DNSM_RCODE_FORMERR;
+    if (has_opt == DNSM_OK && opt->version != 0)
+        return DNSM_RCODE_BADVERS;
+    if (header.opcode != DNSM_OPCODE_QUERY)
+        return DNSM_RCODE_NOTIMP;
+    if (question->class_ != DNSM_CLASS_IN || question->type == DNSM_TYPE_AXFR || question->type == DNSM_TYPE_IXFR ||
+        make_key(name, query, len, question->place) != DNSM_OK || !is_below(name, &soa->key))
+        return DNSM_RCODE_REFUSED;
+    return 0;
+}
+
+/* Writes the response to a query of this length. Returns its length, or 0 if there is none. */
+static size_t respond(size_t len, bool is_udp)
+{
+    dnsm_draft draft;
+    key name;
+    size_t made;
+    dnsm_item item;
+    dnsm_opt opt = {.udp_size = PLAIN};
+    uint16_t rcode;
+    const dnsm_status has_opt = dnsm_find_opt(query, len, &opt, &item, &rcode);
+    dnsm_status status = dnsm_begin_response(&draft, out, TCP_MOST, query, len, 0);
+    if (status == DNSM_IS_RESPONSE || len < 12)
+        return 0;
+    if (status != DNSM_OK) /* there is no question: the response has ID, opcode and RD alone */
+        status = dnsm_begin(&draft, out, TCP_MOST, (uint16_t)(query[0] << 8 | query[1]),
+                            (uint16_t)(DNSM_QR | (query[2] << 8 & (0x7800 | DNSM_RD))));
+    rcode = refuse(len, has_opt, &opt, &item, &name);
+    draft.flags = (uint16_t)((draft.flags & ~DNSM_CD) | (rcode & 15));
+    draft.limit = !is_udp ? TCP_MOST : opt.udp_size < PLAIN ? PLAIN : opt.udp_size < UDP_MOST ? opt.udp_size : UDP_MOST;
+    draft.reserved = has_opt == DNSM_OK ? OPT_OCTETS : 0;
+    if (status == DNSM_OK && rcode == 0) {
+        draft.flags |= DNSM_AA;
+        const dnsm_draft mark = draft;
+        status = put_answer(&draft, &name, item.type);
+        if (status == DNSM_NO_ROOM) {
+            draft = mark;
+            draft.flags |= DNSM_TC;
+            status = DNSM_OK;
+        }
+    }
+    draft.reserved = 0;
+    if (status == DNSM_OK && has_opt == DNSM_OK) {
+        const dnsm_opt ours = {UDP_MOST, opt.flags & DNSM_DO, (uint8_t)(rcode >> 4), 0};
+        const dnsm_put_item last = {(const uint8_t *)"", 1, NULL, 0, dnsm_opt_ttl(&ours), DNSM_TYPE_OPT, UDP_MOST, DNSM_ADDITIONAL};
+        status = dnsm_put(&draft, out, TCP_MOST, &last);
+    }
+    return status == DNSM_OK && dnsm_finish(&draft, out, TCP_MOST, &made) == DNSM_OK ? made : 0;
+}
+
+static void serve_udp(int udp)
+{
+    struct sockaddr_in client;
+    socklen_t client_len = sizeof client;
+    const ssize_t got = recvfrom(udp, query, sizeof query, 0, (struct sockaddr *)&client, &client_len);
+    const size_t len = got < 0 ? 0 : respond((size_t)got, true);
+    if (len > 0)
+        sendto(udp, out, len, 0, (struct sockaddr *)&client, client_len);
+}
+
+/* Answers the queries of a TCP connection until it is idle. */
+static int serve_tcp(int client)
+{
+    const struct timeval idle = {IDLE, 0};
+    setsockopt(client, SOL_SOCKET, SO_RCVTIMEO, &idle, sizeof idle);
+    setsockopt(client, SOL_SOCKET, SO_SNDTIMEO, &idle, sizeof idle);
+    while (recv(client, framed, 2, MSG_WAITALL) == 2) {
+        const size_t asked = (size_t)framed[0] << 8 | framed[1];
+        const size_t len = recv(client, query, asked, MSG_WAITALL) == (ssize_t)asked ? respond(asked, false) : 0;
+        framed[0] = (uint8_t)(len >> 8);
+        framed[1] = (uint8_t)len;
+        if (len == 0 || send(client, framed, 2 + len, MSG_NOSIGNAL) != (ssize_t)(2 + len))
+            break;
+    }
+    return 0;
+}
+
+static int open_socket(int type, const char *address, const char *port)
+{
+    struct sockaddr_in at = {.sin_family = AF_INET, .sin_port = htons((uint16_t)strtoul(port, NULL, 10))};
+    const int on = 1, made = socket(AF_INET, type, 0);
+    errno = EINVAL;
+    if (inet_pton(AF_INET, address, &at.sin_addr) != 1 || setsockopt(made, SOL_SOCKET, SO_REUSEADDR, &on, sizeof on) != 0 ||
+        bind(made, (struct sockaddr *)&at, sizeof at) != 0 || (type == SOCK_STREAM && listen(made, 64) != 0))
+        stop(address, strerror(errno));
+    return made;
+}
+
+int main(int argc, char **argv)
+{
+    const char *address = argc > 3 ? argv[3] : "127.0.0.1";
+    if (argc < 3)
+        stop("usage", "serve FILE PORT [ADDRESS]");
+    read_zone(argv[1]);
+    const int udp = open_socket(SOCK_DGRAM, address, argv[2]), tcp = open_socket(SOCK_STREAM, address, argv[2]);
+    struct pollfd sockets[] = {{udp, POLLIN, 0}, {tcp, POLLIN, 0}};
+    signal(SIGCHLD, SIG_IGN);
+    while (poll(sockets, 2, -1) >= 0) {
+        if (sockets[0].revents)
+            serve_udp(udp);
+        const int client = sockets[1].revents ? accept(tcp, NULL, NULL) : -1;
+        if (client >= 0 && fork() == 0)
+            return serve_tcp(client);
+        if (client >= 0)
+            close(client);
+    }
+    stop("poll", strerror(errno));
+}

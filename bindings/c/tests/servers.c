@@ -1,0 +1,322 @@
+/* What servers and forwarders call beyond the calls of edge.c: each call with success, and for each error a call that returns it. */
+#include "dnsm.h"
+
+#undef NDEBUG
+#include <assert.h>
+#include <stdio.h>
+#include <string.h>
+
+#define TEXT(text) text, sizeof text - 1
+#define OCTETS(octets) (const uint8_t *)octets, sizeof octets - 1
+#define NAME(octets) (const uint8_t *)octets, sizeof octets, 0
+
+static uint8_t out[512];
+static size_t len;
+
+/* A response for example.org: a question, MX with a pointer in its RDATA (offset 41), SRV (62), MINFO with two pointers (83), and OPT
+ * (100) with a 1 as the upper bits of the rcode. */
+static const uint8_t response[] = "\x12\x34\x85\x80\0\1\0\3\0\0\0\1\7example\3org\0\0\xf\0\1"
+                                  "\xc0\xc\0\xf\0\1\0\0\xe\x10\0\x9\0\xa\4mail\xc0\xc"
+                                  "\xc0\xc\0\x21\0\1\0\0\0\7\0\x9\0\1\0\2\0\3\1x\0"
+                                  "\xc0\xc\0\xe\0\1\0\0\0\7\0\6\1a\xc0\xc\xc0\x2b"
+                                  "\0\0\x29\4\xd0\1\0\x80\0\0\0";
+/* A query that it answers: RD, and CD, which no response of ours has set. */
+static const uint8_t query[] = "\x12\x34\1\x10\0\1\0\0\0\0\0\0\7EXAMPLE\3org\0\0\xf\0\1";
+enum { RESPONSE = sizeof response - 1, QUERY = sizeof query - 1, MX = 1, SRV = 2, MINFO = 3 };
+
+/* The item with this number, from 0 on. */
+static dnsm_item item_of(const uint8_t *message, size_t message_len, unsigned number)
+{
+    dnsm_header header;
+    dnsm_cursor cursor;
+    dnsm_item item;
+    assert(dnsm_open(message, message_len, &header, &cursor) == DNSM_OK);
+    for (unsigned i = 0; i <= number; i++)
+        assert(dnsm_next(message, message_len, &cursor, &item) == DNSM_OK);
+    return item;
+}
+
+static void version(void)
+{
+    assert(dnsm_version() == DNSM_VERSION_NUMBER && dnsm_is_compatible());
+}
+
+/* The names that IANA has registered for opcodes, rcodes and options, and the numbers of others. */
+static void numbers(void)
+{
+    static const struct { dnsm_status (*call)(uint16_t, char *, size_t, size_t *); uint16_t number; const char *text; } each[] = {
+        {dnsm_rcode_text, 0, "NoError"}, {dnsm_rcode_text, 3, "NXDomain"}, {dnsm_rcode_text, 16, "BADVERS"},
+        {dnsm_rcode_text, 4095, "RCODE4095"}, {dnsm_rcode_text, 65535, "RCODE65535"},
+        {dnsm_option_text, 3, "NSID"}, {dnsm_option_text, 15, "Extended DNS Error"}, {dnsm_option_text, 4, "OPTION4"},
+        {dnsm_extended_error_text, 0, "Other Error"}, {dnsm_extended_error_text, 49152, "EDE49152"},
+        {dnsm_extended_error_text, 27, "Unsupported NSEC3 Iterations Value"}};
+    char text[64];
+    for (size_t i = 0; i < sizeof each / sizeof *each; i++) {
+        assert(each[i].call(each[i].number, text, sizeof text, &len) == DNSM_OK && strcmp(text, each[i].text) == 0);
+        assert(each[i].call(each[i].number, text, len, &len) == DNSM_NO_ROOM && len == strlen(each[i].text));
+    }
+    assert(dnsm_opcode_text(5, text, sizeof text, &len) == DNSM_OK && strcmp(text, "Update") == 0);
+    assert(dnsm_opcode_text(3, text, 8, &len) == DNSM_OK && strcmp(text, "OPCODE3") == 0);
+    assert(dnsm_opcode_text(3, text, 7, &len) == DNSM_NO_ROOM && len == 7);
+    /* 16 octets are always enough, 32 for an option, and 64 for an extended error. */
+    for (unsigned number = 0; number < 65536; number++) {
+        assert(dnsm_rcode_text((uint16_t)number, text, 16, &len) == DNSM_OK);
+        assert(dnsm_option_text((uint16_t)number, text, 32, &len) == DNSM_OK);
+        assert(dnsm_extended_error_text((uint16_t)number, text, 64, &len) == DNSM_OK);
+        assert(dnsm_opcode_text((uint8_t)number, text, 16, &len) == DNSM_OK);
+    }
+}
+
+/* Numbers from their texts (RFC 3597 section 5): in any case, with leading zeros, and none above the most. */
+static void numbers_from_text(void)
+{
+    uint16_t number = 7;
+    uint8_t opcode = 7;
+    assert(dnsm_type_from_text(TEXT("https"), &number) == DNSM_OK && number == DNSM_TYPE_HTTPS);
+    assert(dnsm_type_from_text(TEXT("TYPE065"), &number) == DNSM_OK && number == 65);
+    assert(dnsm_type_from_text(TEXT("ANY"), &number) == DNSM_OK && number == 255);
+    assert(dnsm_type_from_text(TEXT("TYPE65536"), &number) == DNSM_BAD_TEXT && number == 255);
+    assert(dnsm_type_from_text(TEXT("65"), &number) == DNSM_BAD_TEXT && number == 255);
+    assert(dnsm_type_from_text(TEXT("\xff"), &number) == DNSM_BAD_TEXT && number == 255);
+    assert(dnsm_type_from_text(NULL, 0, &number) == DNSM_BAD_TEXT && number == 255);
+    assert(dnsm_class_from_text(TEXT("in"), &number) == DNSM_OK && number == DNSM_CLASS_IN);
+    assert(dnsm_class_from_text(TEXT("Class32"), &number) == DNSM_OK && number == 32);
+    assert(dnsm_class_from_text(TEXT("A"), &number) == DNSM_BAD_TEXT && number == 32);
+    assert(dnsm_opcode_from_text(TEXT("UPDATE"), &opcode) == DNSM_OK && opcode == DNSM_OPCODE_UPDATE);
+    assert(dnsm_opcode_from_text(TEXT("opcode255"), &opcode) == DNSM_OK && opcode == 255);
+    assert(dnsm_opcode_from_text(TEXT("opcode256"), &opcode) == DNSM_BAD_TEXT && opcode == 255);
+    assert(dnsm_rcode_from_text(TEXT("badvers"), &number) == DNSM_OK && number == DNSM_RCODE_BADVERS);
+    assert(dnsm_rcode_from_text(TEXT("RCODE4095"), &number) == DNSM_OK && number == 4095);
+    assert(dnsm_rcode_from_text(TEXT("RCODE4096"), &number) == DNSM_BAD_TEXT && number == 4095);
+    assert(dnsm_option_from_text(TEXT("cookie"), &number) == DNSM_OK && number == DNSM_OPTION_COOKIE);
+    assert(dnsm_option_from_text(TEXT("OPTION4"), &number) == DNSM_OK && number == 4);
+    assert(dnsm_option_from_text(TEXT("OPTION"), &number) == DNSM_BAD_TEXT && number == 4);
+    assert(dnsm_extended_error_from_text(TEXT("stale answer"), &number) == DNSM_OK && number == DNSM_EDE_STALE_ANSWER);
+    assert(dnsm_extended_error_from_text(TEXT("EDE49152"), &number) == DNSM_OK && number == 49152);
+    assert(dnsm_extended_error_from_text(TEXT("Stale"), &number) == DNSM_BAD_TEXT && number == 49152);
+}
+
+/* RFC 1035 section 2.3.3, RFC 1034 section 3.1. */
+static void comparisons(void)
+{
+    uint8_t is = 7, order = 7;
+    assert(dnsm_name_equal(NAME("\3www\7example"), NAME("\3WWW\7Example"), &is) == DNSM_OK && is == 1);
+    assert(dnsm_name_equal(NAME("\3www\7example"), NAME("\3wwv\7example"), &is) == DNSM_OK && is == 0);
+    assert(dnsm_name_below(NAME("\3www\7example"), NAME("\7EXAMPLE"), &is) == DNSM_OK && is == 1);
+    assert(dnsm_name_below(NAME("\7example"), NAME("\3www\7example"), &is) == DNSM_OK && is == 0);
+    assert(dnsm_name_below(NAME("\7example"), NAME("\7example"), &is) == DNSM_OK && is == 1);
+    assert(dnsm_name_below(NAME("\12wwwexample"), NAME("\7example"), &is) == DNSM_OK && is == 0);
+    is = 7;
+    assert(dnsm_name_equal(NAME("\x40"), NAME("\xc0"), &is) == DNSM_BAD_LABEL && is == 7);
+    assert(dnsm_name_below(NAME(""), OCTETS("\1a"), 0, &is) == DNSM_SHORT_INPUT && is == 7);
+    /* RFC 4034 section 6.1: yljkjljk.a.example, Z.a.example, zABC.a.EXAMPLE, z.example. */
+    assert(dnsm_name_order(NAME("\1Z\1a\7example"), NAME("\4zABC\1a\7EXAMPLE"), &order) == DNSM_OK && order == 0);
+    assert(dnsm_name_order(NAME("\1z\1A\7example"), NAME("\1Z\1a\7example"), &order) == DNSM_OK && order == 1);
+    assert(dnsm_name_order(NAME("\1z\7example"), NAME("\1Z\1a\7example"), &order) == DNSM_OK && order == 2);
+    assert(dnsm_name_order(NAME("\x40"), NAME("\xc0"), &order) == DNSM_BAD_LABEL && order == 2);
+}
+
+/* The names of RFC 4034 section 6.1, in their order, and one with a zero octet, which is before them below the same name. */
+static void keys(void)
+{
+    static const char *const names[] = {"example", "a.example", "\\000.a.example", "yljkjljk.a.example", "Z.a.example",
+                                        "zABC.a.EXAMPLE", "z.example", "\\001.z.example", "*.z.example", "\\200.z.example"};
+    uint8_t name[DNSM_NAME_OCTETS], key[2][DNSM_NAME_KEY];
+    size_t key_len[2] = {0};
+    for (size_t i = 0; i < sizeof names / sizeof *names; i++) {
+        assert(dnsm_name_from_text(names[i], strlen(names[i]), name, sizeof name, &len) == DNSM_OK);
+        assert(dnsm_name_key(name, len, 0, key[i % 2], DNSM_NAME_KEY, &key_len[i % 2]) == DNSM_OK);
+        const size_t before = key_len[(i + 1) % 2], shorter = before < key_len[i % 2] ? before : key_len[i % 2];
+        const int order = memcmp(key[(i + 1) % 2], key[i % 2], shorter);
+        assert(i == 0 || order < 0 || (order == 0 && before < key_len[i % 2]));
+    }
+    assert(dnsm_name_key(OCTETS("\1\0\1\1\2aZ\0"), 0, out, 9, &len) == DNSM_OK && len == 9);
+    assert(memcmp(out, "az\0\1\2\0\1\1\0", 9) == 0);
+    assert(dnsm_name_key(OCTETS("\1\0\1\1\2aZ\0"), 0, out, 8, &len) == DNSM_NO_ROOM && len == 9);
+    assert(dnsm_name_key(OCTETS("\0"), 0, out, 0, &len) == DNSM_OK && len == 0);
+    assert(dnsm_name_key(OCTETS("\xc0\0"), 0, out, sizeof out, &len) == DNSM_BAD_POINTER && len == 0);
+}
+
+static void hashes(void)
+{
+    uint32_t one = 0, other = 1;
+    assert(dnsm_name_hash(NAME("\3www\7example"), OCTETS("a secret"), &one) == DNSM_OK);
+    assert(dnsm_name_hash(NAME("\3WWW\7Example"), OCTETS("a secret"), &other) == DNSM_OK && one == other);
+    assert(dnsm_name_hash(OCTETS(""), 0, NULL, 0, &other) == DNSM_SHORT_INPUT && one == other);
+}
+
+/* Names in RDATA, also those of types beyond NS, CNAME, SOA, PTR, MX, SRV and DNAME. */
+static void data_names(void)
+{
+    const dnsm_item mx = item_of(response, RESPONSE, MX), minfo = item_of(response, RESPONSE, MINFO);
+    size_t place = 7;
+    char text[DNSM_NAME_TEXT];
+    assert(dnsm_data_name(response, RESPONSE, &minfo, 0, &place) == DNSM_OK && place == 83);
+    assert(dnsm_data_name(response, RESPONSE, &minfo, 1, &place) == DNSM_OK && place == 87);
+    assert(dnsm_data_name(response, RESPONSE, &minfo, 2, &place) == DNSM_NO_NAME && place == 87);
+    assert(dnsm_data_name_text(response, RESPONSE, &minfo, 1, text, sizeof text, &len) == DNSM_OK);
+    assert(strcmp(text, "mail.example.org.") == 0 && len == 17);
+    assert(dnsm_data_name_octets(response, RESPONSE, &mx, 0, out, 18, &len) == DNSM_OK && len == 18);
+    assert(memcmp(out, "\4mail\7example\3org", 18) == 0);
+    assert(dnsm_data_name_octets(response, RESPONSE, &mx, 0, out, 17, &len) == DNSM_NO_ROOM && len == 18);
+    assert(dnsm_data_name_text(response, RESPONSE, &mx, 1, text, sizeof text, &len) == DNSM_NO_NAME && len == 0);
+}
+
+/* RDATA with its names uncompressed: RFC 1035 section 3.3. */
+static void data(void)
+{
+    const dnsm_item question = item_of(response, RESPONSE, 0), mx = item_of(response, RESPONSE, MX);
+    const dnsm_item minfo = item_of(response, RESPONSE, MINFO);
+    dnsm_item short_address = mx, outside = mx;
+    assert(dnsm_data_octets(response, RESPONSE, &mx, out, 20, &len) == DNSM_OK && len == 20);
+    assert(memcmp(out, "\0\xa\4mail\7example\3org", 20) == 0);
+    assert(dnsm_data_octets(response, RESPONSE, &mx, out, 19, &len) == DNSM_NO_ROOM && len == 20);
+    assert(dnsm_data_octets(response, RESPONSE, &minfo, out, sizeof out, &len) == DNSM_OK && len == 33);
+    assert(memcmp(out, "\1a\7example\3org\0\4mail\7example\3org", 33) == 0);
+    assert(dnsm_check_data(response, RESPONSE, &mx) == DNSM_OK && dnsm_check_data(response, RESPONSE, &minfo) == DNSM_OK);
+    assert(dnsm_check_data(response, RESPONSE, &question) == DNSM_BAD_SECTION);
+    assert(dnsm_data_octets(response, RESPONSE, &question, out, sizeof out, &len) == DNSM_BAD_SECTION && len == 0);
+    short_address.type = 1;
+    assert(dnsm_check_data(response, RESPONSE, &short_address) == DNSM_BAD_DATA);
+    assert(dnsm_data_octets(response, RESPONSE, &short_address, out, sizeof out, &len) == DNSM_BAD_DATA && len == 0);
+    outside.data = RESPONSE;
+    assert(dnsm_check_data(response, RESPONSE, &outside) == DNSM_SHORT_INPUT);
+}
+
+static void fields(void)
+{
+    const dnsm_item srv = item_of(response, RESPONSE, SRV), opt = item_of(response, RESPONSE, 4);
+    dnsm_item odd = srv;
+    dnsm_data_field field;
+    size_t index = 0;
+    for (unsigned number = 1; number <= 3; number++) {
+        assert(dnsm_next_field(response, RESPONSE, &srv, &index, &field) == DNSM_OK && index == number);
+        assert(field.kind == DNSM_FIELD_NUMBER && field.number == number);
+    }
+    assert(dnsm_next_field(response, RESPONSE, &srv, &index, &field) == DNSM_OK && index == 4);
+    assert(field.kind == DNSM_FIELD_NAME && field.place == 68);
+    assert(dnsm_next_field(response, RESPONSE, &srv, &index, &field) == DNSM_END && index == 4 && field.place == 68);
+    index = 0;
+    assert(dnsm_next_field(response, RESPONSE, &opt, &index, &field) == DNSM_END || field.len == 0);
+    odd.type = 1;
+    assert(dnsm_next_field(response, RESPONSE, &odd, &index, &field) == DNSM_BAD_DATA);
+    odd.section = DNSM_QUESTION;
+    assert(dnsm_next_field(response, RESPONSE, &odd, &index, &field) == DNSM_BAD_SECTION);
+}
+
+/* RDATA and records as in a zone file. */
+static void from_text(void)
+{
+    dnsm_item item;
+    assert(dnsm_data_from_text(15, TEXT("10 mail.example.org."), out, 20, &len) == DNSM_OK && len == 20);
+    assert(memcmp(out, "\0\xa\4mail\7example\3org", 20) == 0);
+    assert(dnsm_data_from_text(65280, TEXT("\\# 2 01ff"), out, sizeof out, &len) == DNSM_OK && len == 2 && out[1] == 0xff);
+    assert(dnsm_data_from_text(15, TEXT("10 mail.example.org."), out, 19, &len) == DNSM_NO_ROOM && len == 20);
+    assert(dnsm_data_from_text(15, TEXT("10"), out, sizeof out, &len) == DNSM_BAD_TEXT && len == 0);
+    assert(dnsm_record_from_text(TEXT("a.org. 7 IN MX 10 b.org."), out, sizeof out, &len, &item) == DNSM_OK && len == 26);
+    assert(memcmp(out, "\1a\3org\0\0\xf\0\1\0\0\0\7\0\x9\0\xa\1b\3org", 26) == 0);
+    assert(item.place == 0 && item.data == 17 && item.data_len == 9 && item.ttl == 7 && item.type == 15 && item.class_ == 1);
+    assert(item.section == DNSM_ANSWER);
+    assert(dnsm_record_from_text(TEXT("a.org. 7 IN MX 10"), out, sizeof out, &len, &item) == DNSM_BAD_TEXT && len == 0);
+    assert(dnsm_record_from_text(TEXT("a.org. 7 IN MX 10 b.org."), out, 25, &len, &item) == DNSM_NO_ROOM && len == 26);
+}
+
+/* RFC 6891 sections 6.1.1 to 6.1.3. */
+static void opts(void)
+{
+    static const uint8_t two[] = "\0\0\0\0\0\0\0\0\0\0\0\2\0\0\x29\4\xd0\0\0\0\0\0\0\0\0\x29\4\xd0\0\0\0\0\0\0";
+    static const uint8_t owned[] = "\0\0\0\0\0\0\0\0\0\0\0\1\1a\0\0\x29\4\xd0\0\0\0\0\0\0";
+    dnsm_opt opt;
+    dnsm_item item;
+    uint16_t rcode = 7;
+    assert(dnsm_find_opt(query, QUERY, &opt, &item, &rcode) == DNSM_NO_OPT && rcode == 7);
+    assert(dnsm_find_opt(two, sizeof two - 1, &opt, &item, &rcode) == DNSM_TWO_OPTS && rcode == 7);
+    assert(dnsm_find_opt(owned, sizeof owned - 1, &opt, &item, &rcode) == DNSM_BAD_OWNER && rcode == 7);
+    assert(dnsm_find_opt(response, RESPONSE - 1, &opt, &item, &rcode) == DNSM_SHORT_INPUT && rcode == 7);
+    assert(dnsm_find_opt(response, RESPONSE, &opt, &item, &rcode) == DNSM_OK && rcode == 16);
+    assert(opt.udp_size == 1232 && opt.flags == DNSM_DO && opt.rcode_high == 1 && item.place == 89);
+}
+
+static void answers(void)
+{
+    uint8_t other[QUERY];
+    assert(dnsm_answers(query, QUERY, response, RESPONSE) == DNSM_OK);
+    assert(dnsm_answers(query, QUERY, query, QUERY) == DNSM_NO_RESPONSE);
+    assert(dnsm_answers(query, 11, response, RESPONSE) == DNSM_SHORT_INPUT);
+    assert(dnsm_answers(query, QUERY, response, 11) == DNSM_SHORT_INPUT);
+    for (size_t at = 0; at < QUERY; at++) { /* the ID, the opcode, the number of questions, the question */
+        memcpy(other, query, QUERY);
+        other[at] ^= 8;
+        const bool is_read = at < 2 || at == 2 || at == 4 || at == 5 || at >= 12;
+        assert((dnsm_answers(other, QUERY, response, RESPONSE) == DNSM_OK) == !is_read);
+    }
+}
+
+/* The response to the query, with items of the other response. */
+static void responses(void)
+{
+    dnsm_draft draft = {.len = 7};
+    dnsm_item item;
+    assert(dnsm_begin_response(&draft, out, 28, query, QUERY, 3) == DNSM_NO_ROOM && draft.len == 7);
+    assert(dnsm_begin_response(&draft, out, sizeof out, query, 11, 3) == DNSM_SHORT_INPUT && draft.len == 7);
+    assert(dnsm_begin_response(&draft, out, sizeof out, response, RESPONSE, 3) == DNSM_IS_RESPONSE);
+    assert(dnsm_begin_response(&draft, out, sizeof out, OCTETS("\0\0\0\0\0\0\0\0\0\0\0\0"), 3) == DNSM_NO_QUESTION);
+    assert(dnsm_begin_response(&draft, out, sizeof out, query, QUERY - 1, 3) == DNSM_SHORT_INPUT);
+    assert(dnsm_begin_response(&draft, out, sizeof out, query, QUERY, 0x13) == DNSM_OK && draft.flags == 0x8113);
+    assert(draft.id == 0x1234 && draft.len == 29 && draft.counts[0] == 1 && draft.limit == SIZE_MAX && draft.reserved == 0);
+    assert(memcmp(out + 12, query + 12, 17) == 0);
+    draft.flags = 0x8580;
+    assert(dnsm_begin_response(&draft, out, sizeof out, response, RESPONSE, 0) == DNSM_IS_RESPONSE && draft.flags == 0x8580);
+    for (unsigned number = MX; number <= MINFO; number++) {
+        item = item_of(response, RESPONSE, number);
+        assert(dnsm_put_from(&draft, out, sizeof out, response, RESPONSE, &item) == DNSM_OK);
+    }
+    item = item_of(response, RESPONSE, 4);
+    item.ttl = 7;
+    assert(dnsm_put_from(&draft, out, sizeof out, response, RESPONSE, &item) == DNSM_OK && draft.len <= RESPONSE + 13);
+    assert(dnsm_finish(&draft, out, sizeof out, &len) == DNSM_OK && item_of(out, len, 4).ttl == 7);
+    item = item_of(out, len, MINFO);
+    assert(dnsm_data_octets(out, len, &item, out + len, sizeof out - len, &len) == DNSM_OK && len == 33);
+}
+
+/* Items that aren't put. */
+static void refused(void)
+{
+    dnsm_draft draft;
+    dnsm_item item = item_of(response, RESPONSE, MX), odd = item;
+    assert(dnsm_begin(&draft, out, 12, 1, 0) == DNSM_OK);
+    assert(dnsm_put_from(&draft, out, 12, response, RESPONSE, &item) == DNSM_NO_ROOM && draft.len == 12);
+    odd.section = DNSM_ADDITIONAL + 1;
+    assert(dnsm_put_from(&draft, out, sizeof out, response, RESPONSE, &odd) == DNSM_BAD_SECTION);
+    odd = item;
+    odd.type = 1;
+    assert(dnsm_put_from(&draft, out, sizeof out, response, RESPONSE, &odd) == DNSM_BAD_DATA);
+    odd = item;
+    odd.place = RESPONSE;
+    assert(dnsm_put_from(&draft, out, sizeof out, response, RESPONSE, &odd) == DNSM_BAD_TEXT && draft.len == 12);
+    /* RDATA of dnsm_put is checked unless the draft says otherwise: an address of five octets. */
+    const dnsm_put_item address = {OCTETS("\0"), (const uint8_t *)"\1\2\3\4\5", 5, 7, 1, 1, DNSM_ANSWER};
+    assert(dnsm_put(&draft, out, sizeof out, &address) == DNSM_BAD_DATA);
+    draft.unchecked = 1;
+    assert(dnsm_put(&draft, out, sizeof out, &address) == DNSM_OK && draft.len == 28);
+}
+
+int main(void)
+{
+    version();
+    numbers();
+    numbers_from_text();
+    comparisons();
+    keys();
+    hashes();
+    data_names();
+    data();
+    fields();
+    from_text();
+    opts();
+    answers();
+    responses();
+    refused();
+    puts("ok");
+    return 0;
+}

@@ -1,0 +1,33 @@
+package dnsm
+
+// #include <dnsm.h>
+import "C"
+
+// NamesEqual says whether two uncompressed names are equal, ignoring ASCII case. An error is that of reading one of them.
+func NamesEqual(one, other []byte) (bool, error) {
+	var equal C.uint8_t
+	status := C.dnsm_name_equal(pointer(one), C.size_t(len(one)), 0, pointer(other), C.size_t(len(other)), 0, &equal)
+	return equal != 0, failure(status)
+}
+
+// NameBelow says whether the first name is the second or a subdomain of it, ignoring ASCII case.
+func NameBelow(name, above []byte) (bool, error) {
+	var below C.uint8_t
+	status := C.dnsm_name_below(pointer(name), C.size_t(len(name)), 0, pointer(above), C.size_t(len(above)), 0, &below)
+	return below != 0, failure(status)
+}
+
+// CompareNames is -1, 0 or 1: the first name is before, equal to, or after the second as RFC 4034 section 6.1 orders names.
+func CompareNames(one, other []byte) (int, error) {
+	order := C.uint8_t(1)
+	status := C.dnsm_name_order(pointer(one), C.size_t(len(one)), 0, pointer(other), C.size_t(len(other)), 0, &order)
+	return int(order) - 1, failure(status)
+}
+
+// NameKey is octets that compare, by bytes.Compare, as RFC 4034 section 6.1 orders names. The keys of subdomains begin with that of the
+// name.
+func NameKey(name []byte) ([]byte, error) {
+	return written(func(out []byte, length *C.size_t) C.dnsm_status {
+		return C.dnsm_name_key(pointer(name), C.size_t(len(name)), 0, pointer(out), C.size_t(len(out)), length)
+	})
+}

@@ -1,0 +1,217 @@
+package dnsm
+
+import (
+	"bytes"
+	"errors"
+	"reflect"
+	"testing"
+)
+
+// A response for example.org: a question, MX with a pointer in its RDATA, SRV, and MINFO with two pointers.
+const mailResponse = "\x12\x34\x85\x80\x00\x01\x00\x03\x00\x00\x00\x00\x07example\x03org\x00\x00\x0f\x00\x01" +
+	"\xc0\x0c\x00\x0f\x00\x01\x00\x00\x0e\x10\x00\x09\x00\x0a\x04mail\xc0\x0c" +
+	"\xc0\x0c\x00\x21\x00\x01\x00\x00\x00\x07\x00\x09\x00\x01\x00\x02\x00\x03\x01x\x00" +
+	"\xc0\x0c\x00\x0e\x00\x01\x00\x00\x00\x07\x00\x06\x01a\xc0\x0c\xc0\x2b"
+
+func itemsOf(t *testing.T, octets []byte) (found []Item) {
+	message, err := Parse(octets)
+	if err != nil {
+		t.Fatal(err)
+	}
+	items := message.Items()
+	for items.Next() {
+		found = append(found, items.Item())
+	}
+	if items.Err() != nil {
+		t.Fatal(items.Err())
+	}
+	return found
+}
+
+func octetsOf(t *testing.T, text string) []byte {
+	octets, err := NameFromText(text)
+	if err != nil {
+		t.Fatal(err)
+	}
+	return octets
+}
+
+func TestDataIsUncompressed(t *testing.T) {
+	items := itemsOf(t, []byte(mailResponse))
+	mail := octetsOf(t, "mail.example.org")
+	if data, err := items[1].DataOctets(); err != nil || !bytes.Equal(data, append([]byte{0, 10}, mail...)) {
+		t.Error(data, err)
+	}
+	if data, err := items[3].DataOctets(); err != nil || !bytes.Equal(data, append(octetsOf(t, "a.example.org"), mail...)) {
+		t.Error(data, err)
+	}
+	if text, err := items[3].DataName(1); err != nil || text != "mail.example.org." {
+		t.Error(text, err)
+	}
+	if err := items[0].CheckData(); !errors.Is(err, BadSection) || items[1].CheckData() != nil {
+		t.Error(err)
+	}
+}
+
+func TestFields(t *testing.T) {
+	items := itemsOf(t, []byte(mailResponse))
+	fields, err := items[2].Fields()
+	wanted := []Field{{Kind: FieldNumber, Number: 1}, {Kind: FieldNumber, Number: 2}, {Kind: FieldNumber, Number: 3},
+		{Kind: FieldName, Name: "x."}}
+	if err != nil || !reflect.DeepEqual(fields, wanted) {
+		t.Error(fields, err)
+	}
+	octets := []byte("\x00\x00\x80\x00\x00\x00\x00\x01\x00\x00\x00\x00\x00\x00\x01\x00\x01\x00\x00\x00\x07\x00\x03\x01\x02\x03")
+	if fields, err := itemsOf(t, octets)[0].Fields(); !errors.Is(err, BadData) {
+		t.Error(fields, err)
+	}
+}
+
+func TestNamesAreCompared(t *testing.T) {
+	one, other := octetsOf(t, "www.Example"), octetsOf(t, "WWW.example")
+	if equal, err := NamesEqual(one, other); err != nil || !equal {
+		t.Error(equal, err)
+	}
+	if below, err := NameBelow(one, octetsOf(t, "EXAMPLE")); err != nil || !below {
+		t.Error(below, err)
+	}
+	if below, err := NameBelow(octetsOf(t, "example"), one); err != nil || below {
+		t.Error(below, err)
+	}
+	for _, pair := range [][2][]byte{{octetsOf(t, "example"), one}, {one, octetsOf(t, "z.example")}} {
+		if order, err := CompareNames(pair[0], pair[1]); err != nil || order != -1 {
+			t.Error(order, err)
+		}
+		if order, err := CompareNames(pair[1], pair[0]); err != nil || order != 1 {
+			t.Error(order, err)
+		}
+	}
+	if order, err := CompareNames(one, other); err != nil || order != 0 {
+		t.Error(order, err)
+	}
+	if key, err := NameKey(one); err != nil || string(key) != "example\x00www\x00" {
+		t.Error(key, err)
+	}
+	if _, err := NamesEqual([]byte{0x40}, one); !errors.Is(err, BadLabel) {
+		t.Error(err)
+	}
+}
+
+func TestResponses(t *testing.T) {
+	query, err := Query(0x1234, true, "EXAMPLE.org", TypeMX)
+	if err != nil {
+		t.Fatal(err)
+	}
+	message, err := Parse([]byte(mailResponse))
+	if err != nil || message.Answers(query) != nil || !errors.Is(message.Answers([]byte(mailResponse)[:12]), OtherQuery) {
+		t.Error(err, message.Answers(query))
+	}
+	builder, err := NewResponse(make([]byte, 512), query, 0)
+	if err != nil {
+		t.Fatal(err)
+	}
+	for _, item := range itemsOf(t, []byte(mailResponse))[1:] {
+		if err := builder.PutFrom(item, Additional, 5); err != nil {
+			t.Error(err)
+		}
+	}
+	made, err := builder.Finish()
+	if items := itemsOf(t, made); err != nil || len(items) != 4 || items[3].TTL() != 5 || items[3].Section() != Additional {
+		t.Error(items, err)
+	}
+	if _, err := NewResponse(made, []byte(mailResponse), 0); !errors.Is(err, IsResponse) {
+		t.Error(err)
+	}
+}
+
+func TestDataFromText(t *testing.T) {
+	data, err := DataFromText(TypeMX, "10 mail.example.org.")
+	if err != nil || !bytes.Equal(data, append([]byte{0, 10}, octetsOf(t, "mail.example.org")...)) {
+		t.Error(data, err)
+	}
+	if _, err := DataFromText(TypeMX, "10"); !errors.Is(err, BadText) {
+		t.Error(err)
+	}
+}
+
+func TestRecordFromText(t *testing.T) {
+	record, err := RecordFromText("a.org. 7 IN MX 10 b.org.")
+	if err != nil || record.Section() != Answer || record.String() != "a.org. 7 IN MX 10 b.org." {
+		t.Fatal(record, err)
+	}
+	builder, err := NewBuilder(make([]byte, 512), 1, QR)
+	if err != nil || builder.PutFrom(record, Answer, 7) != nil {
+		t.Fatal(err)
+	}
+	made, err := builder.Finish()
+	if items := itemsOf(t, made); err != nil || len(items) != 1 || items[0].String() != record.String() {
+		t.Error(items, err)
+	}
+	if _, err := RecordFromText("a.org. 7 IN MX 10"); !errors.Is(err, BadText) {
+		t.Error(err)
+	}
+}
+
+// RFC 6891 section 9: rcode 16 is BADVERS.
+func TestFindOPT(t *testing.T) {
+	const opt = "\x00\x00\x29\x04\xd0\x01\x00\x00\x00\x00\x00"
+	find := func(octets string) (*OPT, Rcode, error) {
+		message, err := Parse([]byte(octets))
+		if err != nil {
+			t.Fatal(err)
+		}
+		return message.FindOPT()
+	}
+	const before = "\x00\x07\x80\x00\x00\x00\x00\x00\x00\x00\x00"
+	if found, rcode, err := find(before + "\x01" + opt); err != nil || rcode != 16 || found.UDPSize != 1232 {
+		t.Error(found, rcode, err)
+	}
+	if found, rcode, err := find(mailResponse); err != nil || rcode != 0 || found != nil {
+		t.Error(found, rcode, err)
+	}
+	for octets, wanted := range map[string]error{
+		before + "\x02" + opt + opt:        TwoOPTs,
+		before + "\x01\x01a" + opt:         BadOwner,
+		before + "\x01" + opt[:len(opt)-1]: ShortInput,
+	} {
+		if _, _, err := find(octets); !errors.Is(err, wanted) {
+			t.Error(err, wanted)
+		}
+	}
+}
+
+func TestTextsOfNumbers(t *testing.T) {
+	texts := []string{Opcode(5).String(), Opcode(3).String(), Rcode(3).String(), Rcode(4095).String(), OptionCode(3).String()}
+	if wanted := []string{"Update", "OPCODE3", "NXDomain", "RCODE4095", "NSID"}; !reflect.DeepEqual(texts, wanted) {
+		t.Error(texts)
+	}
+	if major, _, _ := LibraryVersion(); major != 2 {
+		t.Error(major)
+	}
+}
+
+func TestNumbersFromTexts(t *testing.T) {
+	rtype, _ := TypeFromText("mx")
+	class, _ := ClassFromText("class2")
+	opcode, _ := OpcodeFromText("update")
+	rcode, _ := RcodeFromText("BadVers")
+	option, _ := OptionCodeFromText("cookie")
+	extended, _ := ExtendedErrorCodeFromText("stale answer")
+	if rtype != TypeMX || class != 2 || opcode != 5 || rcode != 16 || option != 10 || extended != 3 {
+		t.Error(rtype, class, opcode, rcode, option, extended)
+	}
+	if extended.String() != "Stale Answer" {
+		t.Error(extended)
+	}
+	for _, text := range []string{"", "15", "TYPE", "TYPE65536", "\xff"} {
+		if _, err := TypeFromText(text); !errors.Is(err, BadText) {
+			t.Error(text, err)
+		}
+	}
+	if _, err := OpcodeFromText("OPCODE256"); !errors.Is(err, BadText) {
+		t.Error(err)
+	}
+	if _, err := RcodeFromText("RCODE4096"); !errors.Is(err, BadText) {
+		t.Error(err)
+	}
+}

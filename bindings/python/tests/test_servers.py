@@ -1,0 +1,144 @@
+"""What servers and forwarders use of the package."""
+
+import unittest
+
+from dnsm import (
+    Builder,
+    DataError,
+    Field,
+    FieldKind,
+    Flag,
+    MalformedMessage,
+    Message,
+    NameTextError,
+    NotAnswerable,
+    Section,
+    Type,
+    build,
+    data_from_text,
+    library_version,
+    name_from_text,
+    name_is_below,
+    name_key,
+    names_are_equal,
+    opcode_text,
+    option_text,
+    query,
+    rcode_text,
+    record_from_text,
+)
+
+# A response with rcode 0, and an OPT record with the upper bits 1 of the rcode: 16 is BADVERS (RFC 6891 section 9).
+OPT = bytes.fromhex("000029 04d0 01000000 0000")
+BAD_VERSION = bytes.fromhex("000780000000000000000001") + OPT
+
+# A response for example.org: MX with a pointer in its RDATA, SRV, and MINFO with two pointers.
+RESPONSE = bytes.fromhex(
+    "123485800001000300000000 076578616d706c65036f726700 000f0001"
+    "c00c 000f0001 00000e10 0009 000a 046d61696c c00c"
+    "c00c 00210001 00000007 0009 000100020003 017800"
+    "c00c 000e0001 00000007 0006 0161c00c c02b"
+)
+
+
+class Records(unittest.TestCase):
+    def setUp(self) -> None:
+        self.mx, self.srv, self.minfo = Message(RESPONSE).records
+
+    def test_data(self) -> None:
+        self.assertEqual(self.mx.data_octets(), b"\0\x0a" + name_from_text("mail.example.org"))
+        self.assertEqual(self.minfo.data_octets(), name_from_text("a.example.org") + name_from_text("mail.example.org"))
+        self.assertTrue(self.mx.has_data())
+
+    def test_names(self) -> None:
+        self.assertEqual(self.mx.data_name(), "mail.example.org.")
+        self.assertEqual([self.minfo.data_name(index) for index in (0, 1)], ["a.example.org.", "mail.example.org."])
+        self.assertRaises(DataError, self.minfo.data_name, 2)
+
+    def test_fields(self) -> None:
+        numbers = [Field(FieldKind.NUMBER, number) for number in (1, 2, 3)]
+        self.assertEqual(list(self.srv.fields()), [*numbers, Field(FieldKind.NAME, "x.")])
+
+    def test_malformed(self) -> None:
+        octets = bytes.fromhex("000080000000000100000000" + "00" + "00010001" + "00000007" + "0003" + "010203")
+        (record,) = Message(octets).records
+        self.assertFalse(record.has_data())
+        self.assertRaises(DataError, record.data_octets)
+        self.assertRaises(DataError, next, record.fields())
+
+
+class Names(unittest.TestCase):
+    def test_comparisons(self) -> None:
+        self.assertTrue(names_are_equal("www.Example", b"\3WWW\7example\0"))
+        self.assertFalse(names_are_equal("www.example", "wwv.example"))
+        self.assertTrue(name_is_below("a.b.EXAMPLE", "b.example"))
+        self.assertFalse(name_is_below("b.example", "a.b.example"))
+        self.assertRaises(NameTextError, names_are_equal, "a..b", "a")
+
+    def test_keys(self) -> None:
+        """RFC 4034 section 6.1."""
+        names = ["example", "a.example", "yljkjljk.a.example", "Z.a.example", "zABC.a.EXAMPLE", "z.example", "\\001.z.example"]
+        self.assertEqual(sorted(names, key=name_key), names)
+
+
+class Responses(unittest.TestCase):
+    def test_answers(self) -> None:
+        asked = query("Example.org", Type.MX, id=0x1234)
+        self.assertTrue(Message(RESPONSE).answers(asked))
+        self.assertFalse(Message(RESPONSE).answers(query("example.org", Type.MX, id=1)))
+        self.assertFalse(Message(asked).answers(asked))
+
+    def test_copies(self) -> None:
+        builder = Builder.response(query("example.org", Type.MX, id=7))
+        for record in Message(RESPONSE).records:
+            builder.put_from(record, Section.ANSWER, 5)
+        made = Message(builder.finish())
+        self.assertEqual((made.id, made.header_flags, made.counts), (7, 0x8100, (1, 3, 0, 0)))
+        self.assertEqual([record.data_octets() for record in made.records], [it.data_octets() for it in Message(RESPONSE).records])
+        self.assertEqual({record.ttl for record in made.records}, {5})
+
+    def test_refused(self) -> None:
+        self.assertRaises(NotAnswerable, Builder.response, RESPONSE)
+        self.assertRaises(NotAnswerable, Builder.response, build(1))
+        self.assertEqual(Builder.response(query("a", id=1), 3).flags, Flag.QR | Flag.RD | 3)
+
+
+class Texts(unittest.TestCase):
+    def test_data(self) -> None:
+        self.assertEqual(data_from_text(Type.MX, "10 mail.example.org."), b"\0\x0a" + name_from_text("mail.example.org"))
+        self.assertRaises(NameTextError, data_from_text, Type.MX, "10")
+
+    def test_records(self) -> None:
+        record = record_from_text("a.org. 7 IN MX 10 b.org.")
+        self.assertEqual((record.section, record.ttl, record.to_text()), (Section.ANSWER, 7, "a.org. 7 IN MX 10 b.org."))
+        builder = Builder(1, Flag.QR)
+        builder.put_from(record)
+        self.assertEqual([str(it) for it in Message(builder.finish()).answer], [str(record)])
+        self.assertRaises(NameTextError, record_from_text, "a.org. 7 IN MX 10")
+
+    def test_numbers(self) -> None:
+        self.assertEqual((opcode_text(5), opcode_text(3)), ("Update", "OPCODE3"))
+        self.assertEqual((rcode_text(3), rcode_text(4095)), ("NXDomain", "RCODE4095"))
+        self.assertEqual((option_text(3), option_text(4)), ("NSID", "OPTION4"))
+
+
+class Opts(unittest.TestCase):
+    def test_found(self) -> None:
+        found = Message(BAD_VERSION).find_opt()
+        self.assertEqual((found.rcode, found.edns.udp_size, found.record.type), (16, 1232, Type.OPT))
+        self.assertIsNone(Message(RESPONSE).find_opt())
+
+    def test_refused(self) -> None:
+        two = BAD_VERSION[:11] + b"\2" + OPT + OPT
+        self.assertRaises(MalformedMessage, Message(two).find_opt)
+        self.assertRaises(MalformedMessage, Message(BAD_VERSION[:12] + b"\1a" + OPT).find_opt)
+        self.assertRaises(MalformedMessage, Message(BAD_VERSION[:-1]).find_opt)
+
+
+class Versions(unittest.TestCase):
+    def test_library(self) -> None:
+        self.assertEqual(library_version()[0], 2)
+
+
+if __name__ == "__main__":
+    unittest.main()

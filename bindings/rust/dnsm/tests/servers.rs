@@ -1,0 +1,124 @@
+//! What servers and forwarders use.
+use dnsm::{
+    build, data_from_text, library_version, name_from_text, query, record_from_text, Builder, Class, Error, Field, Item, Message,
+    NewItem, Opcode, OptionCode, Rcode, Rtype, Section,
+};
+use std::cmp::Ordering;
+
+/// A response for example.org: a question, MX with a pointer in its RDATA, SRV, and MINFO with two pointers.
+const RESPONSE: &[u8] = b"\x12\x34\x85\x80\0\x01\0\x03\0\0\0\0\x07example\x03org\0\0\x0f\0\x01\
+    \xc0\x0c\0\x0f\0\x01\0\0\x0e\x10\0\x09\0\x0a\x04mail\xc0\x0c\
+    \xc0\x0c\0\x21\0\x01\0\0\0\x07\0\x09\0\x01\0\x02\0\x03\x01x\0\
+    \xc0\x0c\0\x0e\0\x01\0\0\0\x07\0\x06\x01a\xc0\x0c\xc0\x2b";
+
+fn items(message: &[u8]) -> Vec<Item<'_>> {
+    Message::new(message).unwrap().items().collect::<Result<_, _>>().unwrap()
+}
+
+#[test]
+fn data_is_uncompressed() {
+    let read = items(RESPONSE);
+    let mail = name_from_text("mail.example.org").unwrap();
+    assert_eq!(read[1].data_octets().unwrap(), [&[0, 10][..], &mail].concat());
+    assert_eq!(read[3].data_octets().unwrap(), [&name_from_text("a.example.org").unwrap()[..], &mail].concat());
+    assert_eq!(read[3].data_name(1).unwrap().to_string(), "mail.example.org.");
+    assert_eq!(read[3].data_name(2).err(), Some(Error::NoName));
+    assert_eq!((read[1].check_data(), read[0].check_data()), (Ok(()), Err(Error::BadSection)));
+}
+
+#[test]
+fn fields_are_read() {
+    let read = items(RESPONSE);
+    let fields = read[2].fields().collect::<Result<Vec<_>, _>>().unwrap();
+    assert!(
+        matches!(fields[..], [Field::Number(1), Field::Number(2), Field::Number(3), Field::Name(name)] if name.to_string() == "x.")
+    );
+    assert_eq!(read[0].fields().next().unwrap().err(), Some(Error::BadSection));
+}
+
+#[test]
+fn malformed_data_has_no_fields() {
+    let octets = b"\0\0\x80\0\0\0\0\x01\0\0\0\0\0\0\x01\0\x01\0\0\0\x07\0\x03\x01\x02\x03";
+    let read = items(octets);
+    assert_eq!(read[0].check_data(), Err(Error::BadData));
+    assert_eq!(read[0].data_octets(), Err(Error::BadData));
+    assert_eq!(read[0].fields().map(|it| it.err()).collect::<Vec<_>>(), [Some(Error::BadData)]);
+}
+
+#[test]
+fn names_are_compared() {
+    let octets = query(1, true, "Mail.Example.ORG", Rtype::A, Class::IN).unwrap();
+    let (asked, read) = (items(&octets)[0].name(), items(RESPONSE));
+    assert!(asked == read[1].data_name(0).unwrap() && asked != read[0].name());
+    assert!(asked.is_below(&read[0].name()) && !read[0].name().is_below(&asked));
+    assert_eq!(asked.key(), b"org\0example\0mail\0");
+    assert_eq!((asked.cmp(&read[0].name()), read[0].name().cmp(&asked)), (Ordering::Greater, Ordering::Less));
+    assert_eq!(asked.cmp(&read[1].data_name(0).unwrap()), Ordering::Equal);
+}
+
+#[test]
+fn a_response_answers_its_query() {
+    let response = Message::new(RESPONSE).unwrap();
+    let asked = query(0x1234, true, "EXAMPLE.org", Rtype::MX, Class::IN).unwrap();
+    assert_eq!(response.check_answers(&asked), Ok(()));
+    assert_eq!(response.check_answers(&query(1, true, "example.org", Rtype::MX, Class::IN).unwrap()), Err(Error::OtherQuery));
+    assert_eq!(Message::new(&asked).unwrap().check_answers(&asked), Err(Error::NoResponse));
+}
+
+#[test]
+fn records_are_put_into_another_message() {
+    let (mut out, asked) = ([0; 512], query(7, true, "example.org", Rtype::MX, Class::IN).unwrap());
+    let mut builder = Builder::response(&mut out, &asked, 0).unwrap();
+    for item in &items(RESPONSE)[1..] {
+        builder.put_from(item, Section::Additional, 5).unwrap();
+    }
+    let made = builder.finish().unwrap();
+    let read = items(made);
+    assert_eq!(Message::new(made).unwrap().header().flags, 0x8100);
+    for (copy, item) in read[1..].iter().zip(&items(RESPONSE)[1..]) {
+        assert_eq!((copy.data_octets(), copy.ttl(), copy.section()), (item.data_octets(), 5, Section::Additional));
+    }
+    assert_eq!(Builder::response(&mut out, RESPONSE, 0).err(), Some(Error::IsResponse));
+    assert_eq!(Builder::response(&mut out, &build(1, 0, &[]).unwrap(), 0).err(), Some(Error::NoQuestion));
+}
+
+#[test]
+fn data_is_read_from_text() {
+    let data = data_from_text(Rtype::MX, "10 mail.example.org.").unwrap();
+    assert_eq!(data, items(RESPONSE)[1].data_octets().unwrap());
+    assert!(build(1, 0, &[NewItem::record(Section::Answer, "example.org", Rtype::MX, 300, &data)]).is_ok());
+    assert_eq!(data_from_text(Rtype::MX, "10"), Err(Error::BadText));
+}
+
+#[test]
+fn records_are_read_from_text() {
+    let record = record_from_text("a.org. 7 IN MX 10 b.org.").unwrap();
+    assert_eq!((record.item().section(), record.item().to_string()), (Section::Answer, "a.org. 7 IN MX 10 b.org.".to_string()));
+    let mut out = [0; 512];
+    let mut builder = Builder::new(&mut out, 1, 0x8000).unwrap();
+    builder.put_from(&record.item(), Section::Answer, 7).unwrap();
+    assert_eq!(items(builder.finish().unwrap())[0].to_string(), record.item().to_string());
+    assert_eq!(record_from_text("a.org. 7 IN MX 10").err(), Some(Error::BadText));
+}
+
+/// RFC 6891 section 9: rcode 16 is BADVERS.
+#[test]
+fn the_opt_record_is_found() {
+    let opt = b"\0\0\x29\x04\xd0\x01\0\0\0\0\0";
+    let message = |count: u8, records: &[&[u8]]| [&[0, 7, 0x80, 0, 0, 0, 0, 0, 0, 0, 0, count][..], &records.concat()].concat();
+    let one = message(1, &[opt]);
+    let (found, rcode) = Message::new(&one).unwrap().find_opt().unwrap().unwrap();
+    assert_eq!((rcode, found.udp_size(), found.options().count()), (16, 1232, 0));
+    assert!(Message::new(RESPONSE).unwrap().find_opt().unwrap().is_none());
+    let wrong = [message(2, &[opt, opt]), message(1, &[b"\x01a", opt]), one[..one.len() - 1].to_vec()];
+    let errors = wrong.map(|octets| Message::new(&octets).unwrap().find_opt().err());
+    assert_eq!(errors, [Some(Error::TwoOpts), Some(Error::BadOwner), Some(Error::ShortInput)]);
+}
+
+#[test]
+fn numbers_have_texts() {
+    assert_eq!((Opcode::UPDATE.to_string(), Opcode(3).to_string()), ("Update".to_string(), "OPCODE3".to_string()));
+    assert_eq!((Rcode::NXDOMAIN.to_string(), Rcode(4095).to_string()), ("NXDomain".to_string(), "RCODE4095".to_string()));
+    assert_eq!((OptionCode(3).to_string(), OptionCode(4).to_string()), ("NSID".to_string(), "OPTION4".to_string()));
+    assert_eq!(library_version().0, 2);
+}
