@@ -2,6 +2,8 @@
 ghost use Rattle.std.specs.Prelude.{◌≡◌, ◌≤◌, length, IfSome};
 ghost use Rattle.fields_octets.specs.PlainNames.{plain_name_size, are_plain_names};
 
+use dns_name::{Head, Label};
+
 /// The size of the uncompressed name at the start of the octets. `None` if no name is there.
 pub(crate) fn plain_name_size(octets: &[u8]) -> Option<usize>
     ensures size { result ≡ plain_name_size octets.now }
@@ -15,7 +17,7 @@ pub(crate) fn plain_name_size(octets: &[u8]) -> Option<usize>
         if length == 0 {
             return Some(size + 1);
         }
-        if length > 63 || size + 1 + length > 254 || length > rest.len() {
+        if length > Label::MAX_LEN || size + 1 + length > Head::MAX_SIZE || length > rest.len() {
             return None;
         }
         size += 1 + length;

@@ -4,6 +4,9 @@ ghost use Rattle.fields_read_parameters.specs.ParameterKeys.{IsKey, IsNamedKey, 
 
 use fields_text::read_number;
 
+/// The largest number of 16 bits: a key, or a port.
+pub(crate) const LARGEST_NUMBER: u64 = 65_535;
+
 /// The key of a name.
 pub(crate) fn named_key(name: &str) -> Option<u16>
     ensures { (key : ℕ) → IsNamedKey name.now key ↔ (result ≡ Some key) }
@@ -48,7 +51,7 @@ fn plain_number(digits: &str) -> Option<u16>
     if digits.starts_with('0') {
         return None;
     }
-    let Some(number) = read_number(digits, 65535) else {
+    let Some(number) = read_number(digits, LARGEST_NUMBER) else {
         return None;
     };
     Some(number as u16)

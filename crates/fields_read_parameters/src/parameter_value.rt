@@ -7,6 +7,7 @@ ghost use Rattle.fields_text.specs.Reading.{ReadsOctets};
 ghost use Rattle.fields_text.specs.Strings.{unquoted};
 
 use crate::mandatory::read_mandatory;
+use crate::parameter_key::LARGEST_NUMBER;
 use crate::protocols::read_alpn;
 use fields_read::{push_octets, read_ipv4, read_ipv6};
 use fields_text::{TextError, read_base64, read_number, read_string};
@@ -45,7 +46,7 @@ fn read_nothing(alloc: Global, text: &str) -> Result<Vec<u8>, TextError>
 fn read_port(alloc: Global, text: &str) -> Result<Vec<u8>, TextError>
     ensures { ReadsOctets (IsPort text.now) result }
 {
-    let Some(port) = read_number(text, 65535) else {
+    let Some(port) = read_number(text, LARGEST_NUMBER) else {
         return Err(TextError::BadWord);
     };
     match Vec::from_slice(alloc, &[(port / 256) as u8, (port % 256) as u8]) {

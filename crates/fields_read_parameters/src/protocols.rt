@@ -8,6 +8,9 @@ ghost use Rattle.fields_text.specs.Reading.{ReadsOctets};
 use fields_text::{TextError, read_string};
 use std::alloc::Global;
 
+/// The most octets of a name, whose length takes eight bits.
+const MOST_OCTETS: usize = 255;
+
 /// The octet that a name in a list begins with, and the text after it.
 fn split_octet(text: &[u8]) -> Option<(u8, &[u8])>
     ensures { MatchOption result (octet_at text.now ≡ None)
@@ -41,7 +44,7 @@ fn push_name(value: &mut Vec<u8>, name: &[u8]) -> Result<(), TextError>
     if name.is_empty() {
         return Err(TextError::BadWord);
     }
-    if name.len() > 255 {
+    if name.len() > MOST_OCTETS {
         return Err(TextError::BadWord);
     }
     if value.push(name.len() as u8).is_err() {

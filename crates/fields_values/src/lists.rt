@@ -14,14 +14,21 @@ use fields_print::AddressPrefix;
 use fields_read::{push_last, push_octets, push_type_map};
 use std::alloc::Global;
 
+/// The most octets that a length octet counts.
+const MOST_COUNTED: usize = 255;
+
+/// The most octets that a length of 16 bits counts.
+const MOST_SIZED: usize = 65_535;
+
 /// Appends octets after a length octet.
 pub(crate) fn push_counted(octets: &mut Vec<u8>, string: &[u8]) -> Result<(), Refusal>
     ensures { Appends (IsStringIn string.now) octets.old.items octets.new.items result }
 {
-    if string.len() > 255 {
+    let size = string.len();
+    if size > MOST_COUNTED {
         return Err(Refusal::OutOfRange);
     }
-    if octets.push(string.len() as u8).is_err() {
+    if octets.push(size as u8).is_err() {
         return Err(Refusal::OutOfMemory);
     }
     if let Err(refusal) = push(octets, string) {
@@ -65,7 +72,7 @@ fn strings_refusal(strings: &[&[u8]]) -> Refusal
     ensures { Refuses (AreStringsIn strings.now) result }
 {
     for string in strings {
-        if string.len() >= 256 {
+        if string.len() > MOST_COUNTED {
             return Refusal::OutOfRange;
         }
     }
@@ -89,7 +96,7 @@ pub(crate) fn push_sized(octets: &mut Vec<u8>, more: &[u8]) -> Result<(), Refusa
     ensures { Appends (λ all. (length more.now ≤ 65535) × (all ≡ sized more.now))
         octets.old.items octets.new.items result }
 {
-    if more.len() > 65535 {
+    if more.len() > MOST_SIZED {
         return Err(Refusal::OutOfRange);
     }
     if let Err(refusal) = push_two(octets, more.len() as u16) {
@@ -108,7 +115,7 @@ fn is_parameter(least: u32, parameter: &(u16, &[u8])) -> bool
     if u32::from(parameter.0) < least {
         return false;
     }
-    parameter.1.len() <= 65535
+    parameter.1.len() <= MOST_SIZED
 }
 
 /// Appends a service parameter whose key is at least `least`.

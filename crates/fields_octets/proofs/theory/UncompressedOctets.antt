@@ -44,7 +44,7 @@ parts_fill parts are =
     (parts_read_back Plain (with_empty_table []) parts are (nothing_is_target [])).0
 
 -- they are read by each layout that they have
-parts_read : (layout : Layout) (parts : List Part) → AreParts parts → IsLaidOut layout parts → DataAt (octets_of_parts parts) layout 0 (length (octets_of_parts parts)) parts
+pub parts_read : (layout : Layout) (parts : List Part) → AreParts parts → IsLaidOut layout parts → DataAt (octets_of_parts parts) layout 0 (length (octets_of_parts parts)) parts
 parts_read layout parts are laid =
     let octets = octets_of_parts parts in
     let read = encoded_parts_read octets (length octets) 0 layout parts (omega arith) (parts_fill parts are) laid in
