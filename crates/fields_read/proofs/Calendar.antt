@@ -1,15 +1,14 @@
 -- Days of years and of months.
-use Rattle.std.proofs.Common.{◌≡◌, ◌∙◌, ℕ, zero, suc, ◌+◌, ◌-◌, ◌*◌, ◌/◌, ◌%◌, ◌^◌, ◌<◌, ◌≤◌, ◌≢◌, true, false, List, [], ◌∷◌, ◌++◌, length, take, drop, get_or}
+use Rattle.std.proofs.Common.{◌≡◌, ◌∙◌, ℕ, zero, suc, ◌+◌, ◌-◌, ◌*◌, ◌/◌, ◌%◌, ◌^◌, ◌<◌, ◌≤◌, true, false, List, [], ◌∷◌, ◌++◌, length, take, drop, get_or}
 use Rattle.std.proofs.Common.{take-append-drop, length-drop, refl, sym, ap, subst, arith, inl, inr}
 use Rattle.std.specs.Prelude.{sum, if◌then◌else◌, Option, Some, None}
-use Rattle.std.specs.Str.Parse.{IsNumeral, digits_value}
 use Rattle.std.proofs.NetLemmas.Arrays.{eight_items}
 use Rattle.std.proofs.lemmas.List.{take_all}
-use Rattle.std.proofs.lemmas.List.Sums.{sum_by-cons, sum_by_more}
+use Rattle.std.proofs.lemmas.List.Sums.{sum_by-cons}
 use Rattle.std.proofs.lemmas.Bool.{cases_lt, cond-true, cond-false, lt-ltb, le-ltb}
 use Rattle.fields_text.specs.Time.{DayOf, clock_text, date_text, day_text, is_leap, month_of, month_sizes, two_digits, year_of, year_size}
 use Rattle.fields_read.specs.Reading.{Reads}
-use Rattle.fields_read.specs.TimeWords.{IsClockWord, IsDateWord, IsDay, IsDayWord, IsTimeWord, days_to, in_month, in_year}
+use Rattle.fields_read.specs.TimeWords.{IsClockWord, IsDateWord, IsDay, IsDayWord, days_to, in_month, in_year}
 
 -- a sum is the first number and the sum of the others
 total : (x : ℕ) (xs : List ℕ) → sum (x ∷ xs) ≡ x + sum xs

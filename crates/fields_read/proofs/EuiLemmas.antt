@@ -1,5 +1,5 @@
 -- Pairs of hexadecimal digits, separated by hyphens.
-use Rattle.std.proofs.Common.{◌≡◌, ◌∙◌, ℕ, zero, suc, ◌+◌, ◌*◌, ◌/◌, ◌%◌, ◌<◌, ◌≤◌, false, List, [], ◌∷◌, ◌++◌, length, refl, sym, ap, arith, get_or, append-nil, append_assoc, length-append, ◌≢◌}
+use Rattle.std.proofs.Common.{◌≡◌, ◌∙◌, ℕ, zero, suc, ◌/◌, ◌%◌, ◌<◌, ◌≤◌, false, List, [], ◌∷◌, ◌++◌, length, refl, sym, ap, arith, get_or, append-nil, append_assoc, length-append, ◌≢◌}
 use Rattle.std.specs.List.{flat_map}
 use Rattle.std.specs.Char.{to_ascii_lowercase}
 use Rattle.std.specs.Fmt.{digit_glyph}

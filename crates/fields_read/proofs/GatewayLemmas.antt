@@ -1,21 +1,20 @@
 -- Gateways and relays, and their words.
-use Rattle.std.proofs.Common.{◌≡◌, ◌≢◌, ◌∙◌, ◌↔◌, ◌+◌, ◌*◌, ◌≤◌, ◌<◌, length, get_or, ℕ, Bool, true, false, List, [], ◌∷◌, codes, refl, sym, subst, arith, inl, inr}
+use Rattle.std.proofs.Common.{◌≡◌, ◌≢◌, ◌∙◌, ◌↔◌, ◌+◌, ◌*◌, ◌≤◌, ◌<◌, ◌++◌, length, get_or, drop, ℕ, Bool, true, false, List, [], ◌∷◌, codes, refl, sym, subst, arith, inl, inr}
 use Rattle.std.specs.Prelude.{IsTrue, Option, Some, None, Result, bytes_eq, is_some}
 use Rattle.std.proofs.lemmas.Slice.Eq.{bytes_eq-Decides}
 use Rattle.std.specs.Borrow.{Bor}
 use Rattle.std.specs.Global.{Vec}
 use Rattle.std.specs.Net.Grammar.{IsDotted}
-use Rattle.fields_text.specs.Octets.{IsBase64}
 use Rattle.fields_text.specs.declared.text_error.TextError.{TextError}
 use Rattle.dns_octets.specs.declared.octets.Octets.{Ghosts}
 use Rattle.dns_name.specs.Names.{uncompressed}
 use Rattle.dns_name.specs.NameReading.{name_labels}
 use Rattle.dns_name.specs.declared.name.Name.{Name}
 use Rattle.fields_read.specs.Addresses.{IsIpv6Word}
-use Rattle.fields_read.specs.GatewayWords.{IsGatewayAndKey, IsGatewayOf, IsNumberTo, IsRelay, IsRelayOf, MayBeGatewayAndKey}
-use Rattle.fields_read.specs.JoinedWords.{AreBase64, MayBeJoined}
+use Rattle.fields_read.specs.GatewayWords.{IsGateway, IsGatewayAndKey, IsGatewayOf, IsNumberTo, IsRelay, IsRelayOf}
+use Rattle.fields_read.specs.JoinedWords.{AreBase64}
 use Rattle.fields_read.specs.NameWords.{IsNameText, IsNameWord, ReadsNameWord}
-use Rattle.fields_read.specs.Reading.{AppendsOctets, Fails, FailsIf, HasValue, ReadsWords}
+use Rattle.fields_read.specs.Reading.{AppendsOctets, Fails, HasValue, ReadsWords}
 use Rattle.fields_read.proofs.theory.AppendLemmas.{appends_as}
 
 -- a word is one number
@@ -113,22 +112,44 @@ module _ (type_word algorithm_word word : List ℕ) (key_words : List (Bor (List
   pub no_gateway : (b : Bool) → b ≡ false → IsTrue b ↔ HasValue (IsGatewayOf t word) → (octets : List ℕ) → ¬ (IsGatewayAndKey type_word algorithm_word word key_words octets)
   no_gateway b is_false tested octets is = let is_true = tested.1 (is.gateway, gateway_in octets is) in absurd (cc (is_false, is_true))
 
-  -- if type, algorithm and gateway are right and the key's words may be base64, the words may be a gateway with its key
-  pub may_be : (algorithm : ℕ) (b : Bool) → IsNumberTo 255 algorithm_word algorithm → b ≡ true → IsTrue b ↔ HasValue (IsGatewayOf t word)
-      → MayBeJoined IsBase64 key_words → MayBeGatewayAndKey type_word algorithm_word word key_words
-  may_be algorithm b is is_true tested key = record { gateway_type = t; is_type = is_t; is_algorithm = (algorithm, is); is_gateway = tested.0 is_true; is_key = key }
+  -- if type, algorithm, gateway and key are right, the words represent a gateway with its key
+  pub gateway_there : (algorithm : ℕ) (b : Bool) → IsNumberTo 255 algorithm_word algorithm → b ≡ true → IsTrue b ↔ HasValue (IsGatewayOf t word)
+      → HasValue (AreBase64 key_words) → HasValue (IsGatewayAndKey type_word algorithm_word word key_words)
+  gateway_there algorithm b is is_true tested key =
+      let gateway = tested.0 is_true in (
+        t ∷ algorithm ∷ (gateway.0 ++ key.0),
+        record {
+          gateway_type = t;
+          algorithm = algorithm;
+          gateway = gateway.0;
+          key = key.0;
+          is_type = is_t;
+          is_algorithm = is;
+          is_gateway = gateway.1;
+          is_key = key.1;
+          whole = refl;
+        },
+      )
 
   -- if reading the gateway fails, reading the gateway with its key fails for the same reason
-  pub gateway_fails : (e : TextError) → MayBeGatewayAndKey type_word algorithm_word word key_words → Fails (IsGatewayOf t word) e
-      → FailsIf (MayBeGatewayAndKey type_word algorithm_word word key_words) (IsGatewayAndKey type_word algorithm_word word key_words) e
-  gateway_fails e may (inl memory) = inl (memory.0, may)
-  gateway_fails e may (inr bad) = inr (bad.0, λ octets is. bad.1 is.gateway (gateway_in octets is))
+  pub gateway_fails : (e : TextError) → HasValue (IsGatewayAndKey type_word algorithm_word word key_words) → Fails (IsGatewayOf t word) e
+      → Fails (IsGatewayAndKey type_word algorithm_word word key_words) e
+  gateway_fails e there (inl memory) = inl (memory.0, there)
+  gateway_fails e there (inr bad) = inr (bad.0, λ octets is. bad.1 is.gateway (gateway_in octets is))
 
   -- if reading the key fails, reading the gateway with its key fails for the same reason
-  pub key_fails : (e : TextError) → (MayBeJoined IsBase64 key_words → MayBeGatewayAndKey type_word algorithm_word word key_words) → FailsIf (MayBeJoined IsBase64 key_words) (AreBase64 key_words) e
-      → FailsIf (MayBeGatewayAndKey type_word algorithm_word word key_words) (IsGatewayAndKey type_word algorithm_word word key_words) e
-  key_fails e may (inl memory) = inl (memory.0, may memory.1)
-  key_fails e may (inr bad) = inr (bad.0, λ octets is. bad.1 is.key is.is_key)
+  pub key_fails : (e : TextError) → (HasValue (AreBase64 key_words) → HasValue (IsGatewayAndKey type_word algorithm_word word key_words)) → Fails (AreBase64 key_words) e
+      → Fails (IsGatewayAndKey type_word algorithm_word word key_words) e
+  key_fails e there (inl memory) = inl (memory.0, there memory.1)
+  key_fails e there (inr bad) = inr (bad.0, λ octets is. bad.1 is.key is.is_key)
+
+-- Three words and those of the key.
+pub gateway_words : (words key : List (Bor (List ℕ))) (a b c : Bor (List ℕ)) (result : Result (Vec ℕ) TextError) → 3 ≤ length words → key ≡ drop 3 words
+    → ReadsWords (IsGatewayAndKey (get_or words 0 a).now (get_or words 1 b).now (get_or words 2 c).now key) result → ReadsWords (IsGateway words) result
+gateway_words [] key a b c result least same reads = absurd (omega arith)
+gateway_words (w ∷ []) key a b c result least same reads = absurd (omega arith)
+gateway_words (w ∷ x ∷ []) key a b c result least same reads = absurd (omega arith)
+gateway_words (w ∷ x ∷ y ∷ words) key a b c result least same reads = subst (λ (ws : List (Bor (List ℕ))). ReadsWords (IsGatewayAndKey w.now x.now y.now ws) result) same reads
 
 -- a relay
 module _ (bit_word type_word word : List ℕ) (t : ℕ) (is_t : IsNumberTo 3 type_word t) where

@@ -1,11 +1,15 @@
 pub mod theory
 mod Base32Lemmas
+mod Base64Groups
+mod Base64Sizes
+mod Base64Taken
 mod BlockLemmas
 mod Calendar
 mod EuiLemmas
 mod FoundNames
 mod GatewayLaws
 mod GatewayLemmas
+mod HexDigits
 mod IdentityLaws
 mod IdentityLemmas
 mod LocationLaws
@@ -19,6 +23,7 @@ mod RowLemmas
 mod SaltLaws
 mod SaltLemmas
 mod SizedLaws
+mod SizedLemmas
 mod SmallMapLemmas
 mod SpacedWords
 mod TypeLaws

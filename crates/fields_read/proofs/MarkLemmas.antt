@@ -1,11 +1,11 @@
 -- Marks of the types from a number on.
-use Rattle.std.proofs.Common.{◌≡◌, ◌∙◌, ℕ, zero, suc, ◌+◌, ◌-◌, ◌*◌, ◌/◌, ◌<◌, ◌≤◌, ◌==◌, Bool, true, List, ◌∷◌, length, get_or, take, refl, sym, ap, arith}
+use Rattle.std.proofs.Common.{◌≡◌, ◌∙◌, ℕ, zero, suc, ◌+◌, ◌*◌, ◌/◌, ◌<◌, ◌≤◌, ◌==◌, Bool, true, List, ◌∷◌, length, get_or, take, refl, sym, ap, arith}
 use Rattle.std.specs.Prelude.{if◌then◌else◌, ◌||◌, slice_set}
 use Rattle.std.proofs.lemmas.Bool.Decides.{nat_tests}
 use Rattle.std.proofs.lemmas.Grind.{common_steps}
 use Rattle.std.proofs.lemmas.List.{length-set}
 use Rattle.std.proofs.lemmas.List.Folds.{list_any_more}
-use Rattle.fields_read.specs.TypeBits.{is_marked, octet_bits, octets_bits}
+use Rattle.fields_read.specs.TypeBits.{has_window, is_marked, octet_bits, octets_bits}
 use Rattle.fields_read.specs.TypeMapWords.{has}
 
 -- the 256 marks are those of the types up to index i
@@ -38,6 +38,24 @@ module _ (types : List ℕ) (i first : ℕ) (old : List Bool) (in_range : i < le
       let whole = before.whole in
       more new (ap (λ (marks : List Bool). length marks) e ∙ length-set old at true ∙ whole)
       (λ index small. ap (λ (marks : List Bool). is_marked marks index) e ∙ grind (arith, nat_tests, common_steps))
+
+-- the marks are those of the windows of the types up to index i
+pub record AreWindows (types : List ℕ) (i : ℕ) (marks : List Bool) : Type 0 where
+  pub whole : length marks ≡ 256
+  pub each : (window : ℕ) → window < 256 → is_marked marks window ≡ has_window (take i types) window
+
+-- The window of one type more is marked.
+pub window_marked : (types : List ℕ) (i : ℕ) (old new : List Bool) (at : ℕ) → i < length types → AreWindows types i old → at ≡ get_or types i 0 / 256 → at < 256 → new ≡ slice_set old at true
+    → AreWindows types (i + 1) new
+window_marked types i old new at lt before is small e =
+    let whole = before.whole in
+    record {
+      whole = ap (λ (marks : List Bool). length marks) e ∙ length-set old at true ∙ whole;
+      each = λ window within.
+          let step : is_marked new window ≡ (is_marked old window || (get_or types i 0 / 256 == window)) =
+          ap (λ (marks : List Bool). is_marked marks window) e ∙ grind (arith, nat_tests, common_steps) in
+          step ∙ ap (λ (b : Bool). b || (get_or types i 0 / 256 == window)) (before.each window within) ∙ sym (list_any_more (λ rtype. rtype / 256 == window) types i 0 lt);
+    }
 
 -- The bits by marks are those by types.
 

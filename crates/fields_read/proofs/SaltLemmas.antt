@@ -3,15 +3,14 @@ use Rattle.std.proofs.Common.{◌≡◌, ◌≢◌, ap, ℕ, ◌<◌, ◌≤◌,
 use Rattle.std.specs.Prelude.{Result, Ok, Err}
 use Rattle.std.specs.Global.{Vec}
 use Rattle.hex.proofs.HexLemmas.{decode_of-ok}
-use Rattle.fields_text.specs.Octets.{IsBase64, IsHex}
+use Rattle.fields_text.specs.Octets.{IsHex}
 use Rattle.fields_text.specs.Reading.{ReadsOctets, TakesMemory}
 use Rattle.fields_text.specs.declared.text_error.TextError.{TextError}
 use Rattle.fields_text.specs.declared.text_error.TextError.TheVariants.{OutOfMemory}
 use Rattle.fields_read.specs.Base32Words.{IsBase32}
 use Rattle.fields_read.specs.IdentityWords.{IsCountedHex}
-use Rattle.fields_read.specs.Reading.{FailsIf, HasValue, ReadsWords}
+use Rattle.fields_read.specs.Reading.{ReadsWords}
 use Rattle.fields_read.specs.Salts.{IsCounted, IsHashWord, IsSaltWord}
-use Rattle.fields_read.specs.SizedWords.{IsCountedBase64}
 use Rattle.fields_read.proofs.Base32Lemmas.{text_size, word_length}
 
 -- base32
@@ -52,12 +51,6 @@ pub hex_read : (word : List ℕ) (result : Result (Vec ℕ) TextError) → 0 < l
 hex_read word (Ok octets) some few is full = hex_octets word octets.items is some few
 hex_read word (Err e) some few (inl memory) full = let is = full (ap Err memory) in inl (memory, (is.0, hex_octets word is.0 is.1 some few))
 hex_read word (Err e) some few (inr bad) full = inr (bad.0, λ octets is. bad.1 octets is.0)
-
--- base64
-pub base64_fails : (word : List ℕ) (e : TextError) → ReadsOctets (IsBase64 word) (Err e) → (◌≡◌ {A = Result (Vec ℕ) TextError} (Err e) (Err OutOfMemory) → TakesMemory (IsBase64 word))
-    → FailsIf (HasValue (IsBase64 word)) (IsCountedBase64 word) e
-base64_fails word e (inl memory) full = let is = full (ap Err memory) in inl (memory, (is.0, is.1))
-base64_fails word e (inr bad) full = inr (bad.0, λ octets is. bad.1 octets is.0)
 
 -- a salt
 pub salt_read : (word : List ℕ) (result : Result (Vec ℕ) TextError) → word ≢ codes "-" → ReadsWords (IsCountedHex word) result → ReadsWords (IsSaltWord word) result

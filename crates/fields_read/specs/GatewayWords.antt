@@ -3,10 +3,8 @@ use Rattle.std.specs.Prelude.{◌≡◌, ◌⊎◌, ℕ, ◌+◌, ◌*◌, ◌�
 use Rattle.std.specs.Borrow.{Bor}
 use Rattle.std.specs.Net.Grammar.{IsDotted, IsNumber}
 use Rattle.fields_read.specs.Addresses.{IsIpv6Word}
-use Rattle.fields_text.specs.Octets.{IsBase64}
-use Rattle.fields_read.specs.JoinedWords.{AreBase64, MayBeJoined}
+use Rattle.fields_read.specs.JoinedWords.{AreBase64}
 use Rattle.fields_read.specs.NameWords.{IsNameWord}
-use Rattle.fields_read.specs.Reading.{HasValue}
 
 -- the word is a decimal number of at most `most`
 abbrev pub IsNumberTo : ℕ → List ℕ → ℕ → Type 0
@@ -30,18 +28,6 @@ pub record IsGatewayAndKey (type_word algorithm_word word : List ℕ) (key_words
   pub is_gateway : IsGatewayOf gateway_type word gateway
   pub is_key : AreBase64 key_words key
   pub whole : octets ≡ gateway_type ∷ algorithm ∷ (gateway ++ key)
-
--- what is known of the words if an allocation fails: they are a gateway type, an algorithm and a gateway; a key of one word is base64
-pub record MayBeGatewayAndKey (type_word algorithm_word word : List ℕ) (key_words : List (Bor (List ℕ))) : Type 0 where
-  pub gateway_type : ℕ
-  pub is_type : IsNumberTo 3 type_word gateway_type
-  pub is_algorithm : HasValue (IsNumberTo 255 algorithm_word)
-  pub is_gateway : HasValue (IsGatewayOf gateway_type word)
-  pub is_key : MayBeJoined IsBase64 key_words
-
-abbrev pub MayBeGateway : List (Bor (List ℕ)) → Type 0
-MayBeGateway (gateway_type ∷ algorithm ∷ gateway ∷ key) = MayBeGatewayAndKey gateway_type.now algorithm.now gateway.now key
-MayBeGateway _ = ⊥
 
 -- three words and those of the key
 abbrev pub IsGateway : List (Bor (List ℕ)) → List ℕ → Type 0

@@ -1,10 +1,9 @@
 -- Words that represent host identities. RFC 8005 section 6.
 use Rattle.std.specs.Prelude.{◌≡◌, ℕ, ◌/◌, ◌%◌, List, [], ◌∷◌, ◌++◌, length}
 use Rattle.std.specs.Borrow.{Bor}
-use Rattle.fields_text.specs.Octets.{IsBase64, IsHex}
+use Rattle.fields_text.specs.Octets.{IsHex}
 use Rattle.fields_read.specs.GatewayWords.{IsNumberTo}
 use Rattle.fields_read.specs.NameWords.{IsNameWord}
-use Rattle.fields_read.specs.Reading.{HasValue}
 use Rattle.fields_read.specs.Salts.{IsCounted}
 use Rattle.fields_read.specs.SizedWords.{IsCountedBase64}
 
@@ -33,15 +32,6 @@ pub record IsIdentity (algorithm_word tag_word key_word : List ℕ) (server_word
   pub is_key : IsCountedBase64 key_word key
   pub are_servers : AreNames server_words servers
   pub whole : octets ≡ identity_octets algorithm tag key ++ servers
-
--- what is known of the words if an allocation fails: they are an algorithm, a tag, octets in base64, however many, and names
-abbrev pub MayBeIdentity : List ℕ → List ℕ → List ℕ → List (Bor (List ℕ)) → Type 0
-MayBeIdentity algorithm tag key servers =
-    HasValue (IsNumberTo 255 algorithm) × HasValue (IsCountedHex tag) × HasValue (IsBase64 key) × HasValue (AreNames servers)
-
-abbrev pub MayBeHostIdentity : List (Bor (List ℕ)) → Type 0
-MayBeHostIdentity (algorithm ∷ tag ∷ key ∷ servers) = MayBeIdentity algorithm.now tag.now key.now servers
-MayBeHostIdentity _ = ⊥
 
 -- three words and those of the servers
 abbrev pub IsHostIdentity : List (Bor (List ℕ)) → List ℕ → Type 0

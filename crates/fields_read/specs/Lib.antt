@@ -1,5 +1,6 @@
 pub mod Addresses
 pub mod Base32Words
+pub mod Base64Characters
 pub mod EuiWords
 pub mod GatewayWords
 pub mod IdentityWords

@@ -1,8 +1,8 @@
 -- What the private functions of type bit maps return. No public contract cites it.
-use Rattle.std.specs.Prelude.{◌≡◌, ◌⊎◌, ◌↔◌, ℕ, zero, suc, ◌+◌, ◌*◌, ◌/◌, ◌≤◌, ◌==◌, ◌&&◌, not, nat_le, nat_lt, Bool, true, false, if◌then◌else◌, List, [], ◌∷◌}
+use Rattle.std.specs.Prelude.{◌≡◌, ◌⊎◌, ◌↔◌, ℕ, zero, suc, ◌+◌, ◌*◌, ◌/◌, ◌<◌, ◌≤◌, ◌==◌, ◌&&◌, not, nat_le, nat_lt, Bool, true, false, if◌then◌else◌, List, [], ◌∷◌}
 use Rattle.std.specs.Prelude.{◌++◌, length, get_or, Result, MatchResult}
 use Rattle.std.specs.Borrow.{Bor}
-use Rattle.std.specs.List.{list_all}
+use Rattle.std.specs.List.{list_all, list_any}
 use Rattle.hex.specs.Hex.{IsBytes}
 use Rattle.fields_octets.specs.TypeMaps.{blocks_after}
 use Rattle.fields_print.specs.Prefixes.{is_trimmed}
@@ -15,6 +15,14 @@ use Rattle.fields_read.specs.TypeMapWords.{AreTypes, HasType, has}
 -- whether the mark at an index is set
 abbrev pub is_marked : List Bool → ℕ → Bool
 is_marked marks index = get_or marks index false
+
+-- whether one of the types is in the window
+abbrev pub has_window : List ℕ → ℕ → Bool
+has_window types window = list_any (λ rtype. rtype / 256 == window) types
+
+-- the marks say which windows have one of these types
+abbrev pub HaveWindows : List ℕ → List Bool → Type 0
+HaveWindows types marks = (window : ℕ) → window < 256 → is_marked marks window ≡ has_window types window
 
 -- the octet of `count` types from `first` on, the first of which has the highest bit
 abbrev pub octet_bits : (ℕ → Bool) → ℕ → ℕ → ℕ

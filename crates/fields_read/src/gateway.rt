@@ -2,8 +2,8 @@
 ghost use Rattle.std.specs.Prelude.{◌↔◌, IsTrue};
 ghost use Rattle.std.specs.Net.Grammar.{IsDotted};
 ghost use Rattle.fields_read.specs.Addresses.{IsIpv6Word};
-ghost use Rattle.fields_read.specs.GatewayWords.{IsGateway, IsGatewayAndKey, IsGatewayOf, IsNumberTo, IsRelay, IsRelayOf, MayBeGateway, MayBeGatewayAndKey};
-ghost use Rattle.fields_read.specs.Reading.{AppendsOctets, HasValue, Reads, ReadsWords, ReadsWordsIf};
+ghost use Rattle.fields_read.specs.GatewayWords.{IsGateway, IsGatewayAndKey, IsGatewayOf, IsNumberTo, IsRelay, IsRelayOf};
+ghost use Rattle.fields_read.specs.Reading.{AppendsOctets, HasValue, Reads, ReadsWords};
 
 use crate::address::{read_ipv4, read_ipv6};
 use crate::append::{push_name, push_octets};
@@ -83,13 +83,13 @@ fn read_gateway_and_key(
     gateway: &str,
     key: &[&str],
 ) -> Result<Vec<u8>, TextError>
-    ensures { ReadsWordsIf (MayBeGatewayAndKey gateway_type.now algorithm.now gateway.now key.now)
+    ensures { ReadsWords
         (IsGatewayAndKey gateway_type.now algorithm.now gateway.now key.now) result }
 {
     let Some(gateway_type) = read_octet(gateway_type, 3) else {
         return Err(TextError::BadWord);
     };
-    let Some(algorithm) = read_octet(algorithm, 255) else {
+    let Some(algorithm) = read_octet(algorithm, u8::MAX) else {
         return Err(TextError::BadWord);
     };
     if !is_gateway(gateway_type, gateway) {
@@ -115,7 +115,7 @@ fn read_gateway_and_key(
 /// A gateway and its public key. The words are the gateway type, the algorithm, the gateway and the
 /// key in base64. No gateway is a dot, and a key of no octets has no word.
 pub fn read_gateway(alloc: Global, words: &[&str]) -> Result<Vec<u8>, TextError>
-    ensures { ReadsWordsIf (MayBeGateway words.now) (IsGateway words.now) result }
+    ensures { ReadsWords (IsGateway words.now) result }
 {
     let [gateway_type, algorithm, gateway, key @ ..] = words else {
         return Err(TextError::BadWord);

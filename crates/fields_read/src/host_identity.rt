@@ -1,7 +1,7 @@
 //! Host identities (RFC 8005 section 6).
 ghost use Rattle.std.specs.Prelude.{◌≡◌, ◌↔◌, ◌++◌, ◌<◌, IsTrue, length, IfErr, OnOk};
-ghost use Rattle.fields_read.specs.IdentityWords.{AreNames, IsHostIdentity, IsIdentity, MayBeHostIdentity, MayBeIdentity, identity_octets};
-ghost use Rattle.fields_read.specs.Reading.{AppendsOctets, FailsFirst, HasValue, ReadsWordsIf};
+ghost use Rattle.fields_read.specs.IdentityWords.{AreNames, IsHostIdentity, IsIdentity, identity_octets};
+ghost use Rattle.fields_read.specs.Reading.{AppendsOctets, FailsFirst, HasValue, ReadsWords};
 ghost use Rattle.fields_text.specs.declared.text_error.TextError.TheVariants.{OutOfMemory};
 
 use crate::append::{failure, push_name, push_octets};
@@ -79,10 +79,9 @@ fn read_identity(
     key: &str,
     servers: &[&str],
 ) -> Result<Vec<u8>, TextError>
-    ensures { ReadsWordsIf (MayBeIdentity algorithm.now tag.now key.now servers.now)
-        (IsIdentity algorithm.now tag.now key.now servers.now) result }
+    ensures { ReadsWords (IsIdentity algorithm.now tag.now key.now servers.now) result }
 {
-    let Some(algorithm) = read_octet(algorithm, 255) else {
+    let Some(algorithm) = read_octet(algorithm, u8::MAX) else {
         return Err(TextError::BadWord);
     };
     if !are_names(servers) {
@@ -109,7 +108,7 @@ fn read_identity(
 /// A host identity. The words are the algorithm, the tag in hexadecimal, the key in base64 and the
 /// names of rendezvous servers.
 pub fn read_host_identity(alloc: Global, words: &[&str]) -> Result<Vec<u8>, TextError>
-    ensures { ReadsWordsIf (MayBeHostIdentity words.now) (IsHostIdentity words.now) result }
+    ensures { ReadsWords (IsHostIdentity words.now) result }
 {
     let [algorithm, tag, key, servers @ ..] = words else {
         return Err(TextError::BadWord);

@@ -1,8 +1,10 @@
 //! Octets in several words (RFC 4034 sections 2.2 and 5.3).
-ghost use Rattle.fields_read.specs.JoinedWords.{AreBase64, AreHex, MayBeJoined};
-ghost use Rattle.fields_read.specs.Reading.{ReadsWordsIf};
-ghost use Rattle.fields_text.specs.Octets.{IsBase64, IsHex};
+ghost use Rattle.fields_read.specs.JoinedWords.{AreBase64, AreHex};
+ghost use Rattle.fields_read.specs.Reading.{ReadsWords};
 
+use crate::append::failure;
+use crate::base64_words::are_base64;
+use crate::hex_words::are_hex;
 use fields_text::{TextError, read_base64, read_hex};
 use std::alloc::Global;
 
@@ -10,14 +12,14 @@ use std::alloc::Global;
 ///
 /// No words at all are no octets.
 pub fn read_base64_words(alloc: Global, words: &[&str]) -> Result<Vec<u8>, TextError>
-    ensures { ReadsWordsIf (MayBeJoined IsBase64 words.now) (AreBase64 words.now) result }
+    ensures { ReadsWords (AreBase64 words.now) result }
 {
     if let [word] = words {
         return read_base64(alloc, word);
     }
     match words.concat(alloc) {
         Ok(text) => read_base64(alloc, text.as_str()),
-        Err(_) => Err(TextError::OutOfMemory),
+        Err(_) => Err(failure(are_base64(words))),
     }
 }
 
@@ -25,13 +27,13 @@ pub fn read_base64_words(alloc: Global, words: &[&str]) -> Result<Vec<u8>, TextE
 ///
 /// No words at all are no octets.
 pub fn read_hex_words(alloc: Global, words: &[&str]) -> Result<Vec<u8>, TextError>
-    ensures { ReadsWordsIf (MayBeJoined IsHex words.now) (AreHex words.now) result }
+    ensures { ReadsWords (AreHex words.now) result }
 {
     if let [word] = words {
         return read_hex(alloc, word);
     }
     match words.concat(alloc) {
         Ok(text) => read_hex(alloc, text.as_str()),
-        Err(_) => Err(TextError::OutOfMemory),
+        Err(_) => Err(failure(are_hex(words))),
     }
 }

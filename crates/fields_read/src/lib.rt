@@ -5,8 +5,10 @@
 mod address;
 mod append;
 mod base32;
+mod base64_words;
 mod eui;
 mod gateway;
+mod hex_words;
 mod host_identity;
 mod joined;
 pub mod laws;

@@ -1,39 +1,45 @@
 //! Octets after their length (RFC 8945 section 4.2).
-ghost use Rattle.std.specs.Prelude.{◌≡◌, ◌<◌, length, IfErr, IfOk, []};
+ghost use Rattle.std.specs.Prelude.{◌≡◌, ◌<◌, ℕ, List, length, count_by, IfErr, IfOk, []};
 ghost use Rattle.std.specs.Net.Grammar.{IsNumber};
 ghost use Rattle.fields_read.specs.LengthOctets.{sized};
-ghost use Rattle.fields_read.specs.GatewayWords.{IsNumberTo};
-ghost use Rattle.fields_read.specs.Reading.{HasValue, ReadsWordsIf};
+ghost use Rattle.fields_read.specs.Reading.{ReadsWords};
 ghost use Rattle.fields_text.specs.Octets.{IsBase64};
-ghost use Rattle.fields_read.specs.SizedWords.{AreSized, IsCountedBase64, IsSizedWords, MayBeSized};
+ghost use Rattle.fields_read.specs.SizedWords.{AreSized, IsCountedBase64, IsSizedWords, is_padding};
 ghost use Rattle.fields_text.specs.declared.text_error.TextError.TheVariants.{OutOfMemory};
 
 use crate::append::push_octets;
 use fields_text::{TextError, read_base64, read_number};
 use std::alloc::Global;
 
-/// The greatest number of 16 bits.
-const MOST_OCTETS: usize = 65535;
+/// How many characters of a word are padding.
+fn padding_count(word: &[u8]) -> usize
+    ensures { result ≡ count_by is_padding word.now }
+{
+    word.iter().filter(|character| **character == b'=').count()
+}
+
+/// How many octets a word of base64 with padding represents: three for four characters, less one
+/// for each character of padding.
+fn octet_count(word: &str) -> usize
+    ensures { (octets : List ℕ) → IsBase64 word.now octets → result ≡ length octets }
+{
+    (word.len() / 4 * 3).saturating_sub(padding_count(word.as_bytes()))
+}
 
 /// From 1 to 65,535 octets of base64 with padding.
 pub(crate) fn read_counted_base64(alloc: Global, word: &str) -> Result<Vec<u8>, TextError>
-    ensures { ReadsWordsIf (HasValue (IsBase64 word.now)) (IsCountedBase64 word.now) result }
+    ensures { ReadsWords (IsCountedBase64 word.now) result }
 {
-    match read_base64(alloc, word) {
-        Ok(octets) => {
-            if octets.is_empty() || octets.len() > MOST_OCTETS {
-                return Err(TextError::BadWord);
-            }
-            Ok(octets)
-        }
-        Err(error) => Err(error),
+    let size = octet_count(word);
+    if size == 0 || size > usize::from(u16::MAX) {
+        return Err(TextError::BadWord);
     }
+    read_base64(alloc, word)
 }
 
 /// No octets, if the word is the number zero.
 fn read_none(alloc: Global, number: &str) -> Result<Vec<u8>, TextError>
-    ensures { ReadsWordsIf (IsNumber 10 number.now 0)
-        (λ octets. IsNumber 10 number.now 0 × (octets ≡ [])) result }
+    ensures { ReadsWords (λ octets. IsNumber 10 number.now 0 × (octets ≡ [])) result }
 {
     match read_number(number, 0) {
         Some(_) => Ok(Vec::new(alloc)),
@@ -43,28 +49,22 @@ fn read_none(alloc: Global, number: &str) -> Result<Vec<u8>, TextError>
 
 /// The octets of base64, if the other word is their number.
 fn read_some(alloc: Global, number: &str, word: &str) -> Result<Vec<u8>, TextError>
-    ensures { ReadsWordsIf (HasValue (IsNumberTo 65535 number.now) × HasValue (IsBase64 word.now))
+    ensures { ReadsWords
         (λ octets. IsNumber 10 number.now (length octets) × IsCountedBase64 word.now octets)
         result }
 {
-    let Some(size) = read_number(number, MOST_OCTETS as u64) else {
+    let Some(size) = read_number(number, u64::from(u16::MAX)) else {
         return Err(TextError::BadWord);
     };
-    match read_counted_base64(alloc, word) {
-        Ok(octets) => {
-            if octets.len() as u64 == size {
-                Ok(octets)
-            } else {
-                Err(TextError::BadWord)
-            }
-        }
-        Err(error) => Err(error),
+    if octet_count(word) as u64 != size {
+        return Err(TextError::BadWord);
     }
+    read_counted_base64(alloc, word)
 }
 
 /// The octets that the words represent, without their number.
 fn read_octets(alloc: Global, words: &[&str]) -> Result<Vec<u8>, TextError>
-    ensures { ReadsWordsIf (MayBeSized words.now) (AreSized words.now) result }
+    ensures { ReadsWords (AreSized words.now) result }
 {
     match words {
         [number] => read_none(alloc, number),
@@ -89,7 +89,7 @@ fn after_length(alloc: Global, octets: &[u8]) -> Result<Vec<u8>, TextError>
 /// Octets after their length of 16 bits. The words are their number and, if it isn't zero, the
 /// octets in base64.
 pub fn read_sized(alloc: Global, words: &[&str]) -> Result<Vec<u8>, TextError>
-    ensures { ReadsWordsIf (MayBeSized words.now) (IsSizedWords words.now) result }
+    ensures { ReadsWords (IsSizedWords words.now) result }
 {
     match read_octets(alloc, words) {
         Ok(octets) => after_length(alloc, octets.as_slice()),

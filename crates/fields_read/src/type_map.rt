@@ -1,7 +1,6 @@
 //! Type bit maps (RFC 4034 section 4.2).
-ghost use Rattle.std.specs.Prelude.{◌≡◌, ◌↔◌, ◌==◌, ◌≤◌, ◌<◌, ◌+◌, ◌*◌, ◌/◌, ◌++◌, ℕ, IsTrue, length};
-ghost use Rattle.std.specs.List.{list_any};
-ghost use Rattle.fields_read.specs.TypeBits.{AppendsBlock, AppendsBlocks, AppendsTypes, is_marked, octet_bits, octets_bits};
+ghost use Rattle.std.specs.Prelude.{◌≡◌, ◌↔◌, ◌≤◌, ◌<◌, ◌+◌, ◌*◌, ◌++◌, ℕ, IsTrue, length};
+ghost use Rattle.fields_read.specs.TypeBits.{AppendsBlock, AppendsBlocks, AppendsTypes, HaveWindows, is_marked, octet_bits, octets_bits};
 ghost use Rattle.fields_read.specs.Reading.{ReadsWordsIf};
 ghost use Rattle.fields_read.specs.TypeMapWords.{AppendsTypeMap, AreTypes, IsTypeMap, has};
 
@@ -64,18 +63,29 @@ pub(crate) fn push_octets(octets: &mut ArrayVec<u8, 32>, types: &[u16], first: u
     push_marked(octets, &marks, 0, count);
 }
 
-/// Whether one of the types is in the window.
-fn has_window(types: &[u16], window: u32) -> bool
-    ensures { result ≡ list_any (λ rtype. rtype / 256 == window) types.now }
+/// Which of the 256 windows have one of these types.
+fn windows_of(types: &[u16]) -> [bool; 256]
+    ensures { HaveWindows types.now result }
 {
-    types.iter().any(|rtype| u32::from(*rtype) / 256 == window)
+    let mut windows = [false; 256];
+    for rtype in types {
+        windows[usize::from(*rtype / 256)] = true;
+    }
+    windows
 }
 
 /// Appends the block of a window, if one of the types is in it.
-fn push_block(map: &mut Vec<u8>, types: &[u16], window: u8) -> Result<(), TextError>
+fn push_block(
+    map: &mut Vec<u8>,
+    types: &[u16],
+    windows: &[bool; 256],
+    window: u8,
+) -> Result<(), TextError>
+    requires { HaveWindows types.now windows.now }
     ensures { AppendsBlock (has types.now) window map.old.items map.new.items result }
 {
-    if !has_window(types, u32::from(window)) {
+    let occurs = windows[usize::from(window)];
+    if !occurs {
         return Ok(());
     }
     let mut octets = ArrayVec::new();
@@ -94,15 +104,21 @@ fn push_block(map: &mut Vec<u8>, types: &[u16], window: u8) -> Result<(), TextEr
 }
 
 /// Appends the blocks of the windows from this one on.
-fn push_blocks(map: &mut Vec<u8>, types: &[u16], window: u16) -> Result<(), TextError>
-    requires { window ≤ 256 }
+fn push_blocks(
+    map: &mut Vec<u8>,
+    types: &[u16],
+    windows: &[bool; 256],
+    window: u16,
+) -> Result<(), TextError>
+    requires windows { HaveWindows types.now windows.now }
+    requires within { window ≤ 256 }
     ensures { AppendsBlocks (has types.now) window map.old.items map.new.items result }
 {
     if window == 256 {
         return Ok(());
     }
-    match push_block(map, types, window as u8) {
-        Ok(()) => push_blocks(map, types, window + 1),
+    match push_block(map, types, windows, window as u8) {
+        Ok(()) => push_blocks(map, types, windows, window + 1),
         Err(error) => Err(error),
     }
 }
@@ -140,7 +156,7 @@ pub fn push_type_map(map: &mut Vec<u8>, types: &[u16]) -> Result<(), TextError>
     ensures { AppendsTypeMap types.now map.old.items map.new.items result }
 {
     let length = map.len();
-    if let Err(error) = push_blocks(map, types, 0) {
+    if let Err(error) = push_blocks(map, types, &windows_of(types), 0) {
         map.truncate(length);
         return Err(error);
     }
@@ -156,7 +172,7 @@ pub fn read_type_map(alloc: Global, words: &[&str]) -> Result<Vec<u8>, TextError
         return Err(error);
     }
     let mut map = Vec::new(alloc);
-    match push_blocks(&mut map, &types, 0) {
+    match push_blocks(&mut map, &types, &windows_of(&types), 0) {
         Ok(()) => Ok(map),
         Err(error) => Err(error),
     }

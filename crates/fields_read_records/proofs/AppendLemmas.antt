@@ -8,9 +8,8 @@ use Rattle.fields_text.specs.declared.text_error.TextError.TheVariants.{OutOfMem
 use Rattle.fields_octets.specs.declared.kind.Kind.{Kind}
 use Rattle.fields_read.specs.TypeWords.{IsTypeWord}
 use Rattle.fields_read.specs.Base32Words.{last_octets}
-use Rattle.fields_read.specs.JoinedWords.{MayBeJoined, joined}
+use Rattle.fields_read.specs.JoinedWords.{joined}
 use Rattle.fields_read.specs.Reading.{AppendsOctets, AppendsOctetsIf, FailsIf, HasValue, ReadsWords, ReadsWordsIf}
-use Rattle.fields_read.proofs.theory.JoinedLemmas.{joined_there}
 use Rattle.fields_read_records.specs.Appended.{AppendsRead}
 use Rattle.fields_read_records.specs.FieldWords.{AreFieldWords, IsType, IsFieldWord, Words}
 use Rattle.fields_read_records.specs.MayBe.{MayBeWord, MayBeWords}
@@ -34,9 +33,9 @@ read_appended May Represents (Err f) old new (Err e) may (inr bad) appends = let
 pub some_appended : (Represents : List ℕ → List ℕ → Type 0) (words : Words) (more slice old new : List ℕ) (result : Result Unit TextError)
     → ((x y : List ℕ) → Represents (joined words) x → Represents (joined words) y → x ≡ y) → slice ≡ more → Represents (joined words) more
     → AppendsOctets (λ all. (all ≡ slice) × (all ≢ [])) old new result
-    → AppendsOctetsIf (MayBeJoined Represents words) (λ all. Represents (joined words) all × (all ≢ [])) old new result
+    → AppendsOctetsIf (HasValue (Represents (joined words))) (λ all. Represents (joined words) all × (all ≢ [])) old new result
 some_appended Represents words more slice old new (Ok u) one same is a = (a.0, (subst (λ (octets : List ℕ). Represents (joined words) octets) (sym (a.1.0 ∙ same)) is, a.1.1), a.2)
-some_appended Represents words more slice old new (Err e) one same is (inl memory) = inl (memory.0, joined_there Represents words more is)
+some_appended Represents words more slice old new (Err e) one same is (inl memory) = inl (memory.0, (more, is))
 some_appended Represents words more slice old new (Err e) one same is (inr bad) = inr (bad.0, λ octets h. bad.1 octets (one octets more h.0 is ∙ sym same, h.1))
 
 -- why there are none

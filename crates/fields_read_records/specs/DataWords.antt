@@ -7,6 +7,7 @@ use Rattle.fields_octets.specs.UncompressedData.{IsUncompressedData}
 use Rattle.fields_octets.specs.declared.kind.Kind.{Kind}
 use Rattle.fields_octets.specs.declared.owned.OwnedFieldData.{OwnedFieldData}
 use Rattle.fields_read.specs.JoinedWords.{AreHex}
+use Rattle.fields_read.specs.Reading.{HasValue}
 use Rattle.fields_text.specs.declared.text_error.TextError.{TextError}
 use Rattle.fields_text.specs.declared.text_error.TextError.TheVariants.{BadWord, OutOfMemory}
 use Rattle.dns_wire.specs.Parts.{Part}
@@ -47,9 +48,14 @@ abbrev pub AreDataWords : ℕ → Words → List ℕ → Type 0
 AreDataWords rtype words octets =
     (IsMarked words × AreCountedDigits (drop 1 words) octets) ⊎ (¬ (IsMarked words) × AreFields (kinds_of rtype) words octets)
 
--- what is known of the words if an allocation fails: the first one is `\#`, or they begin with the first field of the type
+-- what is known of the words if an allocation fails: after the first, they are hexadecimal digits of octets, however many
+abbrev pub MayBeCounted : Words → Type 0
+MayBeCounted [] = ⊥
+MayBeCounted (size ∷ digits) = HasValue (AreHex digits)
+
+-- what is known of the words if an allocation fails: they may be `\#`, a number and hexadecimal digits, or the fields of the type
 abbrev pub MayBeData : ℕ → Words → Type 0
-MayBeData rtype words = IsMarked words ⊎ (¬ (IsMarked words) × MayBeFields (kinds_of rtype) words)
+MayBeData rtype words = (IsMarked words × MayBeCounted (drop 1 words)) ⊎ (¬ (IsMarked words) × MayBeFields (kinds_of rtype) words)
 
 -- the words represent RDATA of this type, and these are its parts
 pub record IsDataText (rtype : ℕ) (words : Words) (parts : List Part) : Type 0 where

@@ -2,13 +2,10 @@
 use Rattle.std.specs.Prelude.{List, [], ◌∷◌, ◌++◌, ◌≡◌, ℕ, ⊤}
 use Rattle.fields_octets.specs.declared.kind.Kind.{Kind}
 use Rattle.fields_octets.specs.declared.kind.Kind.TheVariants as kinds
-use Rattle.fields_text.specs.Octets.{IsBase64, IsHex}
 use Rattle.fields_text.specs.Strings.{SpellsString}
-use Rattle.fields_read.specs.GatewayWords.{MayBeGateway}
-use Rattle.fields_read.specs.IdentityWords.{MayBeHostIdentity}
-use Rattle.fields_read.specs.JoinedWords.{MayBeJoined}
+use Rattle.fields_read.specs.JoinedWords.{AreBase64, AreHex}
 use Rattle.fields_read.specs.Reading.{HasValue}
-use Rattle.fields_read.specs.SizedWords.{MayBeSized}
+use Rattle.fields_read.specs.SizedWords.{IsSizedWords}
 use Rattle.fields_read.specs.TypeMapWords.{AreTypes}
 use Rattle.fields_read_records.specs.Extents.{extent_of}
 use Rattle.fields_read_records.specs.FieldWords.{AreFieldWords, IsFieldWord, Words}
@@ -25,16 +22,14 @@ abbrev pub RepresentStrings : Words → Type 0
 RepresentStrings [] = Unit {0}
 RepresentStrings (word ∷ words) = HasValue (SpellsString word.now) × RepresentStrings words
 
--- the words are a field of this kind, as far as they are read before an allocation fails
+-- the words are a field of this kind, as far as they are looked at if an allocation fails: digits may represent no octets, types may be above 127, and nothing is known of service parameters
 abbrev pub MayBeWords : Kind → Words → Type 0
 MayBeWords kinds.Strings words = RepresentStrings words
-MayBeWords kinds.Hexadecimal words = MayBeJoined IsHex words
-MayBeWords kinds.Base64 words = MayBeJoined IsBase64 words
+MayBeWords kinds.Hexadecimal words = HasValue (AreHex words)
+MayBeWords kinds.Base64 words = HasValue (AreBase64 words)
 MayBeWords kinds.TypeBitMap words = AreTypes words
 MayBeWords kinds.SmallTypeBitMap words = AreTypes words
 MayBeWords kinds.ServiceParameters words = ⊤
-MayBeWords kinds.GatewayAndKey words = MayBeGateway words
-MayBeWords kinds.HostIdentity words = MayBeHostIdentity words
 MayBeWords kind words = HasValue (AreFieldWords kind words)
 
 -- exactly one word
@@ -46,13 +41,13 @@ MayBeOne May (word ∷ next ∷ words) = ⊥
 -- the words of this extent are a field of this kind
 abbrev pub MayBeOf : Extent → Kind → Words → Type 0
 MayBeOf One kind words = MayBeOne (MayBeWord kind) words
-MayBeOf OneOrTwo kind words = MayBeSized words
+MayBeOf OneOrTwo kind words = HasValue (IsSizedWords words)
 MayBeOf All kind words = MayBeWords kind words
 
 abbrev pub MayBeField : Kind → Words → Type 0
 MayBeField kind words = MayBeOf (extent_of kind) kind words
 
--- the words begin with the first of these fields; no field has no words
+-- the words may be these fields in order; no field has no words
 abbrev pub MayBeFields : List Kind → Words → Type 0
 MayBeFields [] words = words ≡ []
-MayBeFields (kind ∷ kinds) words = (own : Words) × (after : Words) × (words ≡ own ++ after) × MayBeField kind own
+MayBeFields (kind ∷ kinds) words = (own : Words) × (after : Words) × (words ≡ own ++ after) × MayBeField kind own × MayBeFields kinds after

@@ -1,8 +1,7 @@
 //! Record data from words (RFC 1035 section 5.1, RFC 3597 section 5).
 ghost use Rattle.std.specs.Prelude.{◌↔◌, IsTrue};
-ghost use Rattle.fields_read_records.specs.DataWords.{AreCountedDigits, AreDataWords, IsMarked, MayBeData, ReadsData};
+ghost use Rattle.fields_read_records.specs.DataWords.{AreCountedDigits, AreDataWords, IsMarked, MayBeCounted, MayBeData, ReadsData};
 ghost use Rattle.fields_read.specs.Reading.{ReadsWordsIf};
-ghost use Rattle.fields_text.specs.Reading.{ReadsOctets};
 
 use crate::fields::read_fields;
 use crate::rdata::read_rdata;
@@ -24,12 +23,15 @@ fn is_marked(words: &[&str]) -> bool
 
 /// The octets of hexadecimal digits, after a word for their number.
 fn read_counted_digits(alloc: Global, words: &[&str]) -> Result<Vec<u8>, TextError>
-    ensures { ReadsOctets (AreCountedDigits words.now) result }
+    ensures { ReadsWordsIf (MayBeCounted words.now) (AreCountedDigits words.now) result }
 {
     let [size, digits @ ..] = words else {
         return Err(TextError::BadWord);
     };
-    let octets = read_hex_words(alloc, digits)?;
+    let octets = match read_hex_words(alloc, digits) {
+        Ok(octets) => octets,
+        Err(error) => return Err(error),
+    };
     match read_number(size, octets.len() as u64) {
         Some(number) if number == octets.len() as u64 => Ok(octets),
         _ => Err(TextError::BadWord),

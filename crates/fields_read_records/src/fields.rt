@@ -10,7 +10,8 @@ use fields_octets::{Kind, fields_of};
 use fields_text::TextError;
 use std::alloc::Global;
 
-/// Appends the fields that the words represent.
+/// Appends the fields that the words represent. After an allocation fails, the other fields are
+/// still read, since a bad word among theirs is the error.
 fn push_fields(
     alloc: Global,
     octets: &mut Vec<u8>,
@@ -30,7 +31,11 @@ fn push_fields(
     let (own, after) = words.split_at(word_count(field.1, words));
     match push_field(alloc, octets, field.1, own) {
         Ok(()) => push_fields(alloc, octets, others, after),
-        Err(error) => Err(error),
+        Err(TextError::BadWord) => Err(TextError::BadWord),
+        Err(TextError::OutOfMemory) => match push_fields(alloc, octets, others, after) {
+            Ok(()) => Err(TextError::OutOfMemory),
+            Err(error) => Err(error),
+        },
     }
 }
 

@@ -1,11 +1,10 @@
 //! Fields that are all words that are left (RFC 1035 section 5.1).
 ghost use Rattle.std.specs.Prelude.{◌≡◌, ◌≢◌, []};
 ghost use Rattle.fields_read_records.specs.FieldWords.{AreStrings, AreFieldWords};
-ghost use Rattle.fields_read.specs.JoinedWords.{AreBase64, AreHex, MayBeJoined};
+ghost use Rattle.fields_read.specs.JoinedWords.{AreBase64, AreHex};
 ghost use Rattle.fields_read.specs.LocationWords.{IsLocation};
 ghost use Rattle.fields_read_records.specs.MayBe.{MayBeWords, RepresentStrings};
-ghost use Rattle.fields_read.specs.Reading.{AppendsOctets, AppendsOctetsIf};
-ghost use Rattle.fields_text.specs.Octets.{IsBase64, IsHex};
+ghost use Rattle.fields_read.specs.Reading.{AppendsOctets, AppendsOctetsIf, HasValue};
 
 use crate::append::push_read;
 use crate::word::push_string;
@@ -18,8 +17,8 @@ use fields_read_parameters::read_parameters;
 use fields_text::TextError;
 use std::alloc::Global;
 
-/// Appends character strings. After an allocation fails, the other words are still read, since a bad
-/// one of them is the error.
+/// Appends character strings. After an allocation fails, the other words are still read, since a
+/// bad one of them is the error.
 fn push_strings(alloc: Global, octets: &mut Vec<u8>, words: &[&str]) -> Result<(), TextError>
     ensures { AppendsOctetsIf (RepresentStrings words.now) (AreStrings words.now)
         octets.old.items octets.new.items result }
@@ -64,7 +63,7 @@ fn push_some(octets: &mut Vec<u8>, more: &[u8]) -> Result<(), TextError>
 
 /// Appends the octets of hexadecimal digits, one octet at least.
 fn push_hex(alloc: Global, octets: &mut Vec<u8>, words: &[&str]) -> Result<(), TextError>
-    ensures { AppendsOctetsIf (MayBeJoined IsHex words.now)
+    ensures { AppendsOctetsIf (HasValue (AreHex words.now))
         (λ all. AreHex words.now all × (all ≢ [])) octets.old.items octets.new.items result }
 {
     match read_hex_words(alloc, words) {
@@ -75,7 +74,7 @@ fn push_hex(alloc: Global, octets: &mut Vec<u8>, words: &[&str]) -> Result<(), T
 
 /// Appends the octets of base64, one octet at least.
 fn push_base64(alloc: Global, octets: &mut Vec<u8>, words: &[&str]) -> Result<(), TextError>
-    ensures { AppendsOctetsIf (MayBeJoined IsBase64 words.now)
+    ensures { AppendsOctetsIf (HasValue (AreBase64 words.now))
         (λ all. AreBase64 words.now all × (all ≢ [])) octets.old.items octets.new.items result }
 {
     match read_base64_words(alloc, words) {

@@ -6,21 +6,25 @@ use Rattle.std.specs.Global.{Vec}
 use Rattle.fields_text.specs.Reading.{ReadsOctets, TakesMemory}
 use Rattle.fields_text.specs.declared.text_error.TextError.{TextError}
 use Rattle.fields_text.specs.declared.text_error.TextError.TheVariants.{OutOfMemory}
-use Rattle.fields_read.specs.JoinedWords.{MayBeJoined, joined}
-use Rattle.fields_read.specs.Reading.{ReadsWordsIf}
+use Rattle.fields_read.specs.JoinedWords.{joined}
+use Rattle.fields_read.specs.Reading.{ReadsWords}
+
+-- If an allocation fails, the words represent octets, one at least.
+abbrev pub IsFull : (List ℕ → Type 0) → Result (Vec ℕ) TextError → Type 0
+IsFull Represents result = result ≡ Err OutOfMemory → TakesMemory Represents
+
+-- One word is the words joined.
+pub word_is : (words : List (Bor (List ℕ))) (d : Bor (List ℕ)) → 1 ≤ length words → length words < 2 → (get_or words 0 d).now ≡ joined words
+word_is [] d some one = absurd (omega arith)
+word_is (word ∷ []) d some one = sym (append-nil word.now)
+word_is (word ∷ next ∷ words) d some one = absurd (omega arith)
 
 module _ (Represents : List ℕ → List ℕ → Type 0) where
-  -- what reading one word returns
-  pub one_joined : (words : List (Bor (List ℕ))) (d : Bor (List ℕ)) (result : Result (Vec ℕ) TextError) → 1 ≤ length words → length words < 2 → ReadsOctets (Represents (get_or words 0 d).now) result
-      → (result ≡ Err OutOfMemory → TakesMemory (Represents (get_or words 0 d).now)) → ReadsWordsIf (MayBeJoined Represents words) (λ octets. Represents (joined words) octets) result
-  one_joined [] d result some one reads full = absurd (omega arith)
-  one_joined (word ∷ []) d (Ok octets) some one is full = subst (λ (text : List ℕ). Represents text octets.items) (sym (append-nil word.now)) is
-  one_joined (word ∷ []) d (Err e) some one (inl memory) full = let is = full (ap Err memory) in inl (memory, (is.0, is.1))
-  one_joined (word ∷ []) d (Err e) some one (inr bad) full = inr (bad.0, λ octets is. bad.1 octets (subst (λ (text : List ℕ). Represents text octets) (append-nil word.now) is))
-  one_joined (word ∷ next ∷ words) d result some one reads full = absurd (omega arith)
-
-  -- words that represent octets, if they are one
-  pub joined_there : (words : List (Bor (List ℕ))) (octets : List ℕ) → Represents (joined words) octets → MayBeJoined Represents words
-  joined_there [] octets is = tt
-  joined_there (word ∷ []) octets is = (octets, subst (λ (text : List ℕ). Represents text octets) (append-nil word.now) is)
-  joined_there (word ∷ next ∷ words) octets is = tt
+  -- If a text is the words joined, reading the text reads the words.
+  pub text_read : (text : List ℕ) (words : List (Bor (List ℕ))) (result : Result (Vec ℕ) TextError) → text ≡ joined words → ReadsOctets (Represents text) result → IsFull (Represents text) result
+      → ReadsWords (Represents (joined words)) result
+  text_read text words (Ok octets) same is full = subst (λ (s : List ℕ). Represents s octets.items) same is
+  text_read text words (Err e) same (inl memory) full =
+      let is = full (ap Err memory) in
+      inl (memory, (is.0, subst (λ (s : List ℕ). Represents s is.0) same is.1))
+  text_read text words (Err e) same (inr bad) full = inr (bad.0, λ octets is. bad.1 octets (subst (λ (s : List ℕ). Represents s octets) (sym same) is))

@@ -9,7 +9,7 @@ use Rattle.std.specs.Str.Parse.{AllDigits}
 use Rattle.std.proofs.Math.Seq.{get_or-append_seam}
 use Rattle.std.proofs.lemmas.Bool.{and_from, and_parts, cond-false, cond-true, eqb-true, leb-true}
 use Rattle.std.proofs.lemmas.Fmt.{decimal_digit}
-use Rattle.std.proofs.lemmas.List.{drop_more, take_all, take-replicate}
+use Rattle.std.proofs.lemmas.List.{take_all, take-replicate}
 use Rattle.fields_print.specs.PrefixItems.{PrefixItem}
 use Rattle.fields_print.specs.Prefixes.{fits, has_word, is_trimmed, padded, sign}
 use Rattle.fields_text.specs.declared.text_error.TextError.{TextError}
@@ -18,7 +18,7 @@ use Rattle.fields_read.specs.Addresses.{IsIpv6Word}
 use Rattle.fields_read.specs.PrefixWords.{AppendsPrefix, ArePrefixWords, IsAddressWord, IsPrefixOf, IsPrefixWord, SplitsSign, prefix_octets}
 use Rattle.fields_read.proofs.theory.ByteLemmas.{nonzero}
 use Rattle.fields_read.proofs.theory.LastSplits.{Lacks}
-use Rattle.fields_read.specs.Reading.{AppendsOctets, Fails, HasValue}
+use Rattle.fields_read.specs.Reading.{AppendsOctets, HasValue}
 use Rattle.fields_read.proofs.theory.OneWords.{one_ipv4, one_ipv6}
 use Rattle.fields_read.proofs.theory.WordLists.{AreInOrder, SameValue, appends_at, left_at, none_at}
 use Rattle.fields_read.proofs.LocatorLemmas.{NoColon, same_parts}

@@ -1,4 +1,4 @@
-use Rattle.std.proofs.Common.{false, arith}
+use Rattle.std.proofs.Common.{arith}
 use Rattle.fields_read.specs.Base32Words.{last_octets}
 use Rattle.fields_read.proofs.Base32Lemmas.{both_tested, empty_tested, group_tested, none_tested}
 use Rattle.fields_read.proofs.base32.+is_base32.Goals as goal

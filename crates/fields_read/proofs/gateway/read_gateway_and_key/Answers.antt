@@ -1,7 +1,5 @@
 use Rattle.std.proofs.Common.{refl, inl, inr}
-use Rattle.fields_text.specs.Octets.{IsBase64}
-use Rattle.fields_read.proofs.GatewayLemmas.{gateway_fails, key_fails, may_be, no_gateway}
-use Rattle.fields_read.proofs.theory.JoinedLemmas.{joined_there}
+use Rattle.fields_read.proofs.GatewayLemmas.{gateway_fails, gateway_there, key_fails, no_gateway}
 use Rattle.fields_read.proofs.gateway.read_gateway_and_key.Goals as goal
 
 pub returns-then-not-is_gateway : goal.returns-then-not-is_gateway
@@ -13,30 +11,29 @@ returns-then-not-is_gateway c =
     )
 
 pub returns-in-Err : goal.returns-in-Err
-returns-in-Err c = key_fails c.args.gateway_type.now c.args.algorithm.now c.args.gateway.now c.args.key.now c.in-Some.gateway_type c.in-Some.ensures
-    c.in-Err.error (λ key. may_be c.args.gateway_type.now c.args.algorithm.now c.args.gateway.now c.args.key.now c.in-Some.gateway_type c.in-Some.ensures
+returns-in-Err c =
+    key_fails c.args.gateway_type.now c.args.algorithm.now c.args.gateway.now c.args.key.now c.in-Some.gateway_type c.in-Some.ensures c.in-Err.error
+    (λ key. gateway_there c.args.gateway_type.now c.args.algorithm.now c.args.gateway.now c.args.key.now c.in-Some.gateway_type c.in-Some.ensures
     c.in-Some-read_octet.algorithm c.is_gateway.result c.in-Some-read_octet.ensures c.if-not-is_gateway.false c.is_gateway.ensures key) c.in-Err.ensures
 
 pub returns-in-Err-push_octets : goal.returns-in-Err-push_octets
 returns-in-Err-push_octets c =
     inl (
       c.in-Err-push_octets.ensures.err,
-      (may_be c.args.gateway_type.now c.args.algorithm.now c.args.gateway.now c.args.key.now c.in-Some.gateway_type c.in-Some.ensures
-          c.in-Some-read_octet.algorithm c.is_gateway.result c.in-Some-read_octet.ensures c.if-not-is_gateway.false c.is_gateway.ensures
-          (joined_there IsBase64 c.args.key.now c.in-Ok.key.items c.in-Ok.ensures)),
+      gateway_there c.args.gateway_type.now c.args.algorithm.now c.args.gateway.now c.args.key.now c.in-Some.gateway_type c.in-Some.ensures
+          c.in-Some-read_octet.algorithm c.is_gateway.result c.in-Some-read_octet.ensures c.if-not-is_gateway.false c.is_gateway.ensures (c.in-Ok.key.items, c.in-Ok.ensures),
     )
 
 pub returns-in-Err-push_gateway : goal.returns-in-Err-push_gateway
-returns-in-Err-push_gateway c = gateway_fails c.args.gateway_type.now c.args.algorithm.now c.args.gateway.now c.args.key.now c.in-Some.gateway_type
-    c.in-Some.ensures c.in-Err-push_gateway.error
-    (may_be c.args.gateway_type.now c.args.algorithm.now c.args.gateway.now c.args.key.now c.in-Some.gateway_type c.in-Some.ensures
-    c.in-Some-read_octet.algorithm c.is_gateway.result c.in-Some-read_octet.ensures c.if-not-is_gateway.false c.is_gateway.ensures
-    (joined_there IsBase64 c.args.key.now c.in-Ok.key.items c.in-Ok.ensures)) c.in-Err-push_gateway.ensures
+returns-in-Err-push_gateway c =
+    gateway_fails c.args.gateway_type.now c.args.algorithm.now c.args.gateway.now c.args.key.now c.in-Some.gateway_type c.in-Some.ensures c.in-Err-push_gateway.error
+    (gateway_there c.args.gateway_type.now c.args.algorithm.now c.args.gateway.now c.args.key.now c.in-Some.gateway_type c.in-Some.ensures
+    c.in-Some-read_octet.algorithm c.is_gateway.result c.in-Some-read_octet.ensures c.if-not-is_gateway.false c.is_gateway.ensures (c.in-Ok.key.items, c.in-Ok.ensures))
+    c.in-Err-push_gateway.ensures
 
 pub returns : goal.returns
 returns c = inl (
   c.in-Err-push_octets-2.ensures.err,
-  (may_be c.args.gateway_type.now c.args.algorithm.now c.args.gateway.now c.args.key.now c.in-Some.gateway_type c.in-Some.ensures
-      c.in-Some-read_octet.algorithm c.is_gateway.result c.in-Some-read_octet.ensures c.if-not-is_gateway.false c.is_gateway.ensures
-      (joined_there IsBase64 c.args.key.now c.in-Ok.key.items c.in-Ok.ensures)),
+  gateway_there c.args.gateway_type.now c.args.algorithm.now c.args.gateway.now c.args.key.now c.in-Some.gateway_type c.in-Some.ensures
+      c.in-Some-read_octet.algorithm c.is_gateway.result c.in-Some-read_octet.ensures c.if-not-is_gateway.false c.is_gateway.ensures (c.in-Ok.key.items, c.in-Ok.ensures),
 )

@@ -1,5 +1,5 @@
 use Rattle.std.proofs.Common.{refl, inl, inr}
-use Rattle.fields_read.proofs.IdentityLemmas.{key_fails, no_servers, servers_fail, tag_fails}
+use Rattle.fields_read.proofs.IdentityLemmas.{identity_there, key_fails, no_servers, servers_fail, tag_fails}
 use Rattle.fields_read.proofs.host_identity.read_identity.Goals as goal
 
 pub returns-then-not-are_names : goal.returns-then-not-are_names
@@ -17,18 +17,11 @@ pub returns-in-Err-push_identity : goal.returns-in-Err-push_identity
 returns-in-Err-push_identity c =
     inl (
       c.in-Err-push_identity.ensures.err,
-      (
-        (c.in-Some.algorithm, c.in-Some.ensures),
-        (c.in-Ok.tag.items, c.in-Ok.ensures),
-        (c.in-Ok-read_counted_base64.key.items, c.in-Ok-read_counted_base64.ensures.0),
-        c.are_names.ensures.0 c.if-not-are_names.false,
-      ),
+      identity_there c.args.algorithm.now c.args.tag.now c.args.key.now c.args.servers.now (c.in-Some.algorithm, c.in-Some.ensures) (c.in-Ok.tag.items, c.in-Ok.ensures)
+          (c.in-Ok-read_counted_base64.key.items, c.in-Ok-read_counted_base64.ensures) (c.are_names.ensures.0 c.if-not-are_names.false),
     )
 
 pub returns : goal.returns
-returns c = servers_fail c.args.algorithm.now c.args.tag.now c.args.key.now c.args.servers.now c.in-Err-push_names.error (
-  (c.in-Some.algorithm, c.in-Some.ensures),
-  (c.in-Ok.tag.items, c.in-Ok.ensures),
-  (c.in-Ok-read_counted_base64.key.items, c.in-Ok-read_counted_base64.ensures.0),
-  c.are_names.ensures.0 c.if-not-are_names.false,
-) c.in-Err-push_names.ensures
+returns c = servers_fail c.args.algorithm.now c.args.tag.now c.args.key.now c.args.servers.now c.in-Err-push_names.error
+    (identity_there c.args.algorithm.now c.args.tag.now c.args.key.now c.args.servers.now (c.in-Some.algorithm, c.in-Some.ensures) (c.in-Ok.tag.items, c.in-Ok.ensures)
+    (c.in-Ok-read_counted_base64.key.items, c.in-Ok-read_counted_base64.ensures) (c.are_names.ensures.0 c.if-not-are_names.false)) c.in-Err-push_names.ensures

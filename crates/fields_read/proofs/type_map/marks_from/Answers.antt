@@ -1,4 +1,4 @@
-use Rattle.std.proofs.Common.{◌+◌, ◌-◌, false, subst, sym, arith}
+use Rattle.std.proofs.Common.{◌+◌, false, subst, sym, arith}
 use Rattle.std.proofs.lemmas.List.{get_or-replicate, length-replicate}
 use Rattle.fields_read.proofs.MarkLemmas.{AreMarks, above, below, marked}
 use Rattle.fields_read.proofs.type_map.marks_from.Goals.{in-Some+then-index-lt256, in-Some+else-index-lt256, in_default}

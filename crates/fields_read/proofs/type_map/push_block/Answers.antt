@@ -1,17 +1,17 @@
-use Rattle.std.proofs.Common.{◌≡◌, ◌≢◌, ◌∙◌, ◌*◌, ◌/◌, ◌==◌, ◌++◌, ◌∷◌, [], List, ℕ, false, length, sym, ap, subst, arith, append-nil, append_assoc, eq-eqb}
-use Rattle.std.specs.List.{list_any}
+use Rattle.std.proofs.Common.{◌≡◌, ◌≢◌, ◌∙◌, ◌*◌, ◌++◌, ◌∷◌, [], List, ℕ, false, length, sym, ap, subst, arith, append-nil, append_assoc, eq-eqb}
 use Rattle.std.proofs.lemmas.Bool.{eqb-true, false≢true}
 use Rattle.std.proofs.lemmas.Grind.{common_steps}
-use Rattle.fields_read.specs.TypeBits.{IsBits, octets_bits}
+use Rattle.fields_read.specs.TypeBits.{IsBits, is_marked, octets_bits}
 use Rattle.fields_read.specs.TypeMapWords.{has}
 use Rattle.fields_read.proofs.TypeMapLemmas.{block_some, empty_is, trimmed_is, window_none}
 use Rattle.fields_read.proofs.type_map.push_block.Goals as goal
 
-pub returns-then-not-has_window : goal.returns-then-not-has_window
-returns-then-not-has_window c =
-    let no : c.has_window.result ≡ false = c.if-not-has_window.true in
-    let none = ap (λ (w : ℕ). list_any (λ rtype. rtype / 256 == w) c.args.types.now) (sym c.from.ensures) ∙ sym c.has_window.ensures ∙ no in
-    ([], window_none c.args.types.now c.args.window none, sym (append-nil c.args.map.now.items))
+pub returns-then-not-occurs : goal.returns-then-not-occurs
+returns-then-not-occurs c =
+    let window = c.args.window in
+    let marked : is_marked c.args.windows.now window ≡ false = ap (is_marked c.args.windows.now) (sym c.from.ensures) ∙ c.if-not-occurs.true in
+    let none = sym (c.requires window (omega arith)) ∙ marked in
+    ([], window_none c.args.types.now window none, sym (append-nil c.args.map.now.items))
 
 pub returns-then-is_empty : goal.returns-then-is_empty
 returns-then-is_empty c =

@@ -1,6 +1,7 @@
 use Rattle.std.proofs.Common.{◌≡◌}
 use Rattle.fields_text.specs.Octets.{IsBase64}
-use Rattle.fields_read.specs.JoinedWords.{AreBase64, MayBeJoined}
+use Rattle.fields_read.specs.JoinedWords.{AreBase64}
+use Rattle.fields_read.specs.Reading.{HasValue}
 use Rattle.fields_read_records.proofs.AppendLemmas.{some_appended, some_fails}
 use Rattle.fields_read_records.proofs.words.push_base64.Goals as goal
 
@@ -11,4 +12,4 @@ returns-in-Ok c =
     c.as_slice.ensures.value c.in-Ok.ensures c.push_some.ensures
 
 pub returns-in-Err : goal.returns-in-Err
-returns-in-Err c = some_fails (MayBeJoined IsBase64 c.args.words.now) (AreBase64 c.args.words.now) c.in-Err.error c.in-Err.ensures
+returns-in-Err c = some_fails (HasValue (AreBase64 c.args.words.now)) (AreBase64 c.args.words.now) c.in-Err.error c.in-Err.ensures

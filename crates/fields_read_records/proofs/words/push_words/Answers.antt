@@ -1,7 +1,6 @@
 use Rattle.fields_octets.specs.declared.kind.Kind.TheVariants as kinds
 use Rattle.fields_read_parameters.specs.ParameterWords.{AreParameterWords}
 use Rattle.fields_read_records.proofs.AppendLemmas.{as_kinds, read_as_kind, reads_if}
-use Rattle.fields_read_records.proofs.MayBeLemmas.{gateway_may, identity_may}
 use Rattle.fields_read_records.proofs.words.push_words.Goals as goal
 
 pub returns-in-Strings : goal.returns-in-Strings
@@ -42,7 +41,7 @@ returns-in-AddressPrefixes c =
 pub returns-in-GatewayAndKey : goal.returns-in-GatewayAndKey
 returns-in-GatewayAndKey c =
     read_as_kind c.args.kind kinds.GatewayAndKey c.args.words.now c.read_gateway.result c.args.octets.now.items c.push_read-in-GatewayAndKey.new.octets.items
-    c.push_read-in-GatewayAndKey.result c.in-GatewayAndKey.is (λ has. gateway_may c.args.words.now has.0 has.1) c.read_gateway.ensures c.push_read-in-GatewayAndKey.ensures
+    c.push_read-in-GatewayAndKey.result c.in-GatewayAndKey.is (λ has. has) c.read_gateway.ensures c.push_read-in-GatewayAndKey.ensures
 
 pub returns-in-Relay : goal.returns-in-Relay
 returns-in-Relay c =
@@ -52,5 +51,5 @@ returns-in-Relay c =
 pub returns-in-HostIdentity : goal.returns-in-HostIdentity
 returns-in-HostIdentity c =
     read_as_kind c.args.kind kinds.HostIdentity c.args.words.now c.read_host_identity.result c.args.octets.now.items
-    c.push_read-in-HostIdentity.new.octets.items c.push_read-in-HostIdentity.result c.in-HostIdentity.is (λ has. identity_may c.args.words.now has.0 has.1)
+    c.push_read-in-HostIdentity.new.octets.items c.push_read-in-HostIdentity.result c.in-HostIdentity.is (λ has. has)
     c.read_host_identity.ensures c.push_read-in-HostIdentity.ensures
