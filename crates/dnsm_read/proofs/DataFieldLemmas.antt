@@ -46,9 +46,11 @@ module _ (b seen : List ℕ) (item : Item) (end rtype : ℕ) (is : seen ≡ take
   seen_is : seen ≡ up_to_data_end b item
   seen_is = is ∙ ap (λ (n : ℕ). take n b) own
 
+  -- Their length is the offset at which the RDATA ends.
   pub seen_length : length seen ≡ data_end item
   seen_length = ap length is ∙ length-take-le end b within ∙ own
 
+  -- RDATA that takes all octets from its offset on is the item's.
   pub data_there : (parts : List Part) → DataAt seen (type_layout rtype) item.«data» (length seen) parts → IsDataIn b item parts
   data_there parts at = record {
     within = omega arith;
@@ -58,6 +60,7 @@ module _ (b seen : List ℕ) (item : Item) (end rtype : ℕ) (is : seen ≡ take
         (subst (λ (c : List ℕ). DataAt c (type_layout rtype) item.«data» (length seen) parts) seen_is at));
   }
 
+  -- If the octets from its offset on aren't RDATA, the item has none.
   pub no_data : IsNoRdata seen rtype item.«data» → LacksData b item 21
   no_data none = inr (
     omega arith,
@@ -75,6 +78,7 @@ data_encoded b item parts last there =
 -- The fields of a view are those of the item.
 module _ (b seen : List ℕ) (item : Item) (d : FieldData) (fields : Fields) (same : seen ≡ up_to_data_end b item) (own : rtype_of d ≡ data_type item)
     (is : fields_left fields ≡ named_parts (definitions_of (rtype_of d)) (parts_of d)) where
+  -- They are all fields of its RDATA.
   pub left_are : fields_left fields ≡ data_fields item (parts_of d)
   left_are = is ∙ ap (λ n. named_parts (definitions_of n) (parts_of d)) own
 

@@ -59,7 +59,8 @@ module _ (b : List ℕ) where
       let one : Encoded (named_parts (d ∷ ds) (OctetsPart (drop p b) ∷ [])) p q (0 + n) =
       record {
         at = (q, (own, omega (arith, h.0), whole), subst (λ (fields : List NamedPart). FieldsAt b fields q q) (sym (none_named ds)) refl);
-        names = names_first (record { name = d.0; kind = d.1; part = OctetsPart (drop p b) }) (named_parts ds []) ∙ ap (λ (fields : List NamedPart). 0 + names_among fields) (none_named ds) ∙ ap (λ (k : ℕ). 0 + k) (sym (last refl));
+        names = names_first (record { name = d.0; kind = d.1; part = OctetsPart (drop p b) }) (named_parts ds [])
+            ∙ ap (λ (fields : List NamedPart). 0 + names_among fields) (none_named ds) ∙ ap (λ (k : ℕ). 0 + k) (sym (last refl));
       } in
       subst (λ (ps : List Part). Encoded (named_parts (d ∷ ds) ps) p q (0 + n)) (sym h.1) one
   first_at (Octets m) test others d ds n last go p q [] before h = absurd h
@@ -126,6 +127,7 @@ fields_encoded b (d ∷ ds) last p q parts before h =
 
 -- Each record type is so.
 
+-- whether only the last field of each type takes all remaining octets
 abbrev pub are_last : List TypeDefinition → Bool
 are_last types = list_all (λ type. rest_is_last (kinds_in type.fields)) types
 
@@ -143,6 +145,7 @@ found_last (type ∷ types) rtype all =
     either_last (type.number == rtype) type.fields (fields_in types rtype) (and_first (rest_is_last (kinds_in type.fields)) (are_last types) all)
     (found_last types rtype (and_second (rest_is_last (kinds_in type.fields)) (are_last types) all))
 
+-- Only the last field of a type takes all remaining octets.
 pub type_last : (rtype : ℕ) → are_last record_types ≡ true → rest_is_last (kinds_in (definitions_of rtype)) ≡ true
 unfolding definitions_of
 type_last rtype all = found_last record_types rtype all

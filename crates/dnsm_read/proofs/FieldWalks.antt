@@ -21,6 +21,7 @@ named_part_at b (Octets octets) name p q is at = absurd is
 named_part_at b (CompressibleName own) name p q is at = subst (λ (n : Labels). NameAt b p n) is at.0
 named_part_at b (UncompressedName lowercased own) name p q is at = subst (λ (n : Labels). NameAt b p n) is at.0
 
+-- Such a part is a name.
 pub names_a_name : (part : Part) (name : Labels) → IsNameOf part name → is_name part ≡ true
 names_a_name (Octets octets) name is = absurd is
 names_a_name (CompressibleName own) name is = refl
@@ -60,6 +61,7 @@ walk_begins b all left start end count index same none at = record {
 
 module _ (b : List ℕ) (all left rest : List NamedPart) (field : NamedPart) (start place : ℕ) (count : List NamedPart → ℕ) (more index : ℕ)
     (is : left ≡ field ∷ rest) (walked : Walked b all left start place count more index) where
+  -- The fields that are left begin with it.
   pub next_at : FieldsAt b (field ∷ rest) place walked.end
   next_at = subst (λ (fields : List NamedPart). FieldsAt b fields place walked.end) is walked.later
 
@@ -101,9 +103,11 @@ walk_ends b all left start place count more index none walked =
 
 -- How many fields there are, and how many names among them.
 
+-- A field more before the walk is one less to count.
 pub one_more : (fields : List NamedPart) (field : NamedPart) (more fewer : ℕ) → more ≡ fewer + 1 → length (fields ++ field ∷ []) + fewer ≡ length fields + more
 one_more fields field more fewer less = let size = length-append fields (field ∷ []) in omega (arith, size, less)
 
+-- If it is a name, it is a name less.
 pub one_name_more : (fields : List NamedPart) (field : NamedPart) (more fewer : ℕ) → is_name field.part ≡ true → more ≡ fewer + 1
     → names_among (fields ++ field ∷ []) + fewer ≡ names_among fields + more
 one_name_more fields field more fewer is less =
@@ -111,6 +115,7 @@ one_name_more fields field more fewer is less =
     let both = names_more fields field in
     omega (arith, one, both, less)
 
+-- If it isn't, the names that are counted stay the same.
 pub no_name_more : (fields : List NamedPart) (field : NamedPart) (more same : ℕ) → is_name field.part ≡ false → same ≡ more → names_among (fields ++ field ∷ []) + same ≡ names_among fields + more
 no_name_more fields field more same is kept =
     let none = ap one_if is in

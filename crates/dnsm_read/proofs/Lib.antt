@@ -1,4 +1,5 @@
 pub mod theory
+mod CachedOwnerLemmas
 mod DataFieldLemmas
 mod DataTextLemmas
 mod FieldOffsetLemmas

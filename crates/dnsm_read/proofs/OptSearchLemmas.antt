@@ -42,7 +42,7 @@ no_opt b item (Stated Additional x) h other =
     let not : (x.rtype == 41) ≡ false = test_false x.rtype 41 (λ is. other (record { rtype = h.0.rtype ∙ is; section = at })) in
     ap (λ (test : Bool). if test then Some x else None) not
 
--- An item that is an OPT record describes one.
+-- The entry is an OPT record, which the item describes.
 pub record IsOptEntry (b : List ℕ) (item : Item) (x : Entry) : Type 0 where
   pub entry : RecordEntry
   pub same : x ≡ Stated Additional entry
@@ -52,6 +52,7 @@ pub record IsOptEntry (b : List ℕ) (item : Item) (x : Entry) : Type 0 where
 additional_is : (n : ℕ) (which : Section) → n ≡ 3 → section_at n ≡ which → which ≡ Additional
 additional_is n which three is = sym is ∙ ap section_at three
 
+-- An item that is an OPT record describes an entry that is one.
 pub an_opt : (b : List ℕ) (item : Item) (x : Entry) → Reports b item x → IsOpt item → IsOptEntry b item x
 an_opt b item (Asked x) h is = absurd (let question = h.section in let additional = is.section in omega arith)
 an_opt b item (Stated which x) h is = record {
@@ -75,6 +76,7 @@ pub record Passed (b : List ℕ) (old now : Cursor) : Type 0 where
   pub split : left_from b old ≡ others ++ left_from b now
   pub is_open : IsOpen b now
 
+-- At first none is passed over.
 pub none_passed : (b : List ℕ) (old : Cursor) → IsOpen b old → Passed b old old
 none_passed b old is_open = record { others = []; passes = tt; split = refl; is_open = is_open }
 
@@ -182,7 +184,7 @@ module _ (b : List ℕ) (start : Cursor) (all : left_from b start ≡ walk_of b)
 
     -- The owner can be read.
     pub owner_there : (owner : Labels) × NameAt b item.place owner
-    owner_there = (entry.owner, found.2.3.name)
+    owner_there = (entry.owner, found.2.3.read.owner)
 
     -- There are two.
     pub lacks_only : (new : Cursor) (other : Item) → FindsOpt b mid new other (Ok true) → LacksOpt b 23
@@ -210,7 +212,7 @@ module _ (b : List ℕ) (start : Cursor) (all : left_from b start ≡ walk_of b)
 
       -- Its owner isn't the root.
       pub lacks_root : ((owner : Labels) → NameAt b item.place owner → owner ≡ [] → ⊥) → LacksOpt b 24
-      lacks_root not = inr (inr (inr (inr ((entry, one_opt, not entry.owner found.2.3.name), no_error, refl))))
+      lacks_root not = inr (inr (inr (inr ((entry, one_opt, not entry.owner found.2.3.read.owner), no_error, refl))))
 
       -- It is the only one.
       pub only_opt : ((owner : Labels) → NameAt b item.place owner → owner ≡ []) → IsOnlyOpt b item
@@ -218,19 +220,21 @@ module _ (b : List ℕ) (start : Cursor) (all : left_from b start ≡ walk_of b)
         entry = entry;
         only = one_opt;
         whole = no_error;
-        root = is entry.owner found.2.3.name;
+        root = is entry.owner found.2.3.read.owner;
         reports = found.2.3;
         section = found.2.4;
       }
 
--- What opening a message says of its length: octets that were opened have a header section, and others don't.
+-- What opening a message says of its length.
 
+-- Octets that were opened have a header section.
 pub is_long : (n status : ℕ) → (n < header_size → status ≡ 2) → status ≡ 0 → header_size ≤ n
 is_long n status short done = elim (leb_tells header_size n) [
   | inl long ↦ long.1
   | inr less ↦ absurd (let two = short less.1 in omega arith)
 ]
 
+-- Octets that weren't opened have none.
 pub is_short : (n status : ℕ) → (header_size ≤ n → status ≡ 0) → (status ≡ 0 → ⊥) → n < header_size
 is_short n status opens failed = elim (leb_tells header_size n) [
   | inl long ↦ absurd (failed (opens long.1))

@@ -1,13 +1,14 @@
 -- What is still to come in an iteration, step by step.
-use Rattle.std.proofs.Common.{◌≡◌, ◌∙◌, ℕ, zero, suc, ◌+◌, ◌<◌, ◌≤◌, ◌⊎◌, inl, inr, List, [], ◌∷◌, length, map, ap, sym, refl, subst, arith}
+use Rattle.std.proofs.Common.{◌≡◌, ◌∙◌, ℕ, zero, suc, ◌+◌, ◌<◌, ◌≤◌, ◌⊎◌, inl, inr, true, List, [], ◌∷◌, length, map, ap, sym, refl, subst, arith}
 use Rattle.std.proofs.lemmas.Option.{slice_get_past}
 use Rattle.std.specs.Prelude.{Option, Some, None, Result, Ok, Err, slice_get, IfOk, IfErr}
 use Rattle.std.specs.Option.{option_map_or}
 use Rattle.dns_octets.specs.declared.error.ParseError.{ParseError}
 use Rattle.dns_octets.specs.declared.error.ParseError.TheVariants as errors
-use Rattle.dns_name.specs.Names.{Fault, FaultAt, EndsOrFaults, fault_of, head_of, head_at}
+use Rattle.dns_name.specs.Names.{Fault, FaultAt, EndsOrFaults, NameEndsAt, fault_of, head_of, head_at}
 use Rattle.dns_name.specs.Names.Faulty.{head}
 use Rattle.dns_name.specs.Names.Fault.{ShortInput}
+use Rattle.dns_name.specs.Unique.{EncodedName}
 use Rattle.dns_code.specs.HeaderSection.{header_size}
 use Rattle.dns_item.specs.Questions.{QuestionItem, SkipsQuestion, ReadsQuestion, QuestionSkipFaultAt, QuestionFaultAt}
 use Rattle.dns_item.specs.Items.{SkipsRecord, RecordEntry, ReadsRecord, RecordFaultAt}
@@ -33,12 +34,14 @@ use Rattle.dns_read.proofs.theory.SectionStartLemmas.{start_found, no_answers, n
 use Rattle.dns_item.specs.AfterNames.FieldsFaultAt.{name as in_name}
 use Rattle.dnsm_status.proofs.theory.FaultLemmas.{reported_fields}
 use Rattle.dnsm_status.specs.Codes.{IsReported}
-use Rattle.dnsm_read.specs.Steps.{left_from, Ends, EndsFrom, IsHeader, IsOpen, Opens, ReturnsQuestion, ReturnsRecord, ReturnsEntry, SkipsEntry, Spans, Reports}
+use Rattle.dnsm_read.specs.Names.{IsCachedOffset}
+use Rattle.dnsm_read.specs.Steps.{left_from, Ends, EndsFrom, IsHeader, IsOpen, Opens, ReturnsQuestion, ReturnsRecord, ReturnsEntry, EntryFaultAt, LeftIn, ReportsFields, SkipsEntry, Spans, Steps}
 use Rattle.dnsm_read.specs.Steps.Ends.{nothing, next_section, next_question, next_record}
 use Rattle.dnsm_read.specs.declared.walk.Cursor.{Cursor}
 use Rattle.dnsm_read.specs.declared.walk.Header.{Header}
 use Rattle.dnsm_read.specs.declared.walk.Item.{Item}
-use Rattle.dnsm_read.specs.Walk.{Entry, Asked, Stated, Given, walk_of, asked_then, stated_then, after_section, records_left, questions_end, section_at, count_at, left_at}
+use Rattle.dnsm_read.proofs.CachedOwnerLemmas.{entry_named}
+use Rattle.dnsm_read.specs.Walk.{Asked, Stated, Given, walk_of, asked_then, stated_then, after_section, records_left, questions_end, section_at, count_at, left_at}
 
 -- The offset after questions.
 
@@ -75,12 +78,14 @@ module _ (b : List ℕ) where
 
   -- Questions.
 
+  -- A question that can be read is the first of what is left.
   pub question_first : (n p q : ℕ) (x : QuestionItem) → ReadsQuestion b p q x → left_at b 0 (suc n) p ≡ Ok (Asked x) ∷ left_at b 0 n q
   unfolding left_at
   question_first n p q x reads =
       ap (λ (xs : List (Result QuestionItem Fault)). asked_then xs (follows (questions_end b (suc n) p))) ((questions_from_are_read b).entry n p q x reads)
       ∙ ap (λ (end : Option ℕ). asked_then (Ok x ∷ questions_from b n q) (follows end)) (end_after n p q reads.skips)
 
+  -- The fault of a question is all that is left.
   pub question_fault : (n p : ℕ) (f : Fault) → QuestionFaultAt b p f → left_at b 0 (suc n) p ≡ Err f ∷ []
   unfolding left_at
   question_fault n p f fault =
@@ -112,16 +117,19 @@ module _ (b : List ℕ) where
   unfolding records_in
   none_then which p = ap (by_reading which p) ((records_from_are_read b).none p)
 
+  -- A record that can be read is the first of what is left.
   pub record_first : (s n p q : ℕ) (x : RecordEntry) → ReadsRecord b p q x → left_at b (suc s) (suc n) p ≡ Ok (Stated (section_at (suc s)) x) ∷ left_at b (suc s) n q
   unfolding left_at
   record_first s n p q x reads = record_then (section_at (suc s)) n p q x reads
 
+  -- The fault of a record is all that is left.
   pub record_fault : (s n p : ℕ) (f : Fault) → RecordFaultAt b p f → left_at b (suc s) (suc n) p ≡ Err f ∷ []
   unfolding left_at
   record_fault s n p f fault = fault_then (section_at (suc s)) n p f fault
 
   -- Sections.
 
+  -- After the last item of a section come those of the next one.
   pub section_moves : (s p : ℕ) → s < 3 → left_at b (suc s) (count_at b (suc s)) p ≡ left_at b s 0 p
   unfolding left_at
   section_moves zero p less = sym (no_question p)
@@ -129,6 +137,7 @@ module _ (b : List ℕ) where
   section_moves (suc (suc zero)) p less = sym (none_then Authority p)
   section_moves (suc (suc (suc s))) p less = absurd (omega arith)
 
+  -- After the last item of the last section nothing is left.
   pub nothing_left : (p : ℕ) → left_at b 3 0 p ≡ []
   unfolding left_at
   nothing_left p = none_then Additional p
@@ -155,8 +164,10 @@ entry_of_question b cursor (Ok found) first h = (
       ap (λ s. left_at b s cursor.left cursor.place) first ∙ ap (λ k. left_at b 0 k cursor.place) more ∙ question_first b n cursor.place found.1 h.0 h.1
       ∙ ap (λ (s : ℕ). let first_given : Given = Ok (Asked h.0) in first_given ∷ left_at b s n found.1) (sym first),
 )
-entry_of_question b cursor (Err e) first h =
-    λ n more. ap (λ s. left_at b s cursor.left cursor.place) first ∙ ap (λ k. left_at b 0 k cursor.place) more ∙ question_fault b n cursor.place (fault_of e) h
+entry_of_question b cursor (Err e) first h = (
+  subst (λ s. EntryFaultAt b s cursor.place (fault_of e)) (sym first) h,
+  λ n more. ap (λ s. left_at b s cursor.left cursor.place) first ∙ ap (λ k. left_at b 0 k cursor.place) more ∙ question_fault b n cursor.place (fault_of e) h,
+)
 
 -- In the other sections an entry is a record.
 pub entry_of_record : (b : List ℕ) (cursor : Cursor) (r : Result (Item × ℕ) ParseError) (s : ℕ) → cursor.section ≡ suc s → cursor.section ≤ 3 → ReturnsRecord b cursor.section cursor.place r
@@ -169,19 +180,19 @@ entry_of_record b cursor (Ok found) s at below h =
           ap (λ t. left_at b t cursor.left cursor.place) at ∙ ap (λ k. left_at b (suc s) k cursor.place) more ∙ record_first b s n cursor.place found.1 h.0 h.1
           ∙ ap (λ (t : ℕ). let first_given : Given = Ok (Stated (section_at (suc s)) h.0) in first_given ∷ left_at b t n found.1) (sym at),
     )
-entry_of_record b cursor (Err e) s at below h =
-    λ n more. ap (λ t. left_at b t cursor.left cursor.place) at ∙ ap (λ k. left_at b (suc s) k cursor.place) more ∙ record_fault b s n cursor.place (fault_of e) h
+entry_of_record b cursor (Err e) s at below h = (
+  subst (λ t. EntryFaultAt b t cursor.place (fault_of e)) (sym at) h,
+  λ n more. ap (λ t. left_at b t cursor.left cursor.place) at ∙ ap (λ k. left_at b (suc s) k cursor.place) more ∙ record_fault b s n cursor.place (fault_of e) h,
+)
 
 -- An entry's RDATA lies within the message.
 
-reported_within : (b : List ℕ) (item : Item) (x : Entry) → Reports b item x → item.«data» + item.data_len ≤ length b
-reported_within b item (Asked x) h = let none_there = h.data_len in let within = h.within in omega arith
-reported_within b item (Stated which x) h = h.0.within
-
--- The RDATA of an entry is within the message.
-pub answered_within : (b : List ℕ) (cursor : Cursor) (r : Result (Item × ℕ) ParseError) → ReturnsEntry b cursor r → IfOk r (λ found. found.0.«data» + found.0.data_len ≤ length b)
-answered_within b cursor (Ok found) h = reported_within b found.0 h.0 h.1
-answered_within b cursor (Err e) h = tt
+-- The RDATA of an entry that ends within the message is within it too.
+pub skipped_within : (b : List ℕ) (section p : ℕ) (r : Result (Item × ℕ) ParseError) → IfOk r (λ found. SkipsEntry b section p found.1)
+    → IfOk r (λ found. Spans found.0 p found.1 × (found.0.section ≡ section)) → IfOk r (λ found. found.0.«data» + found.0.data_len ≤ length b)
+skipped_within b zero p (Ok found) skips place = let within = skips.within in let end = place.0.end in omega arith
+skipped_within b (suc s) p (Ok found) skips place = let within = skips.within in let end = place.0.end in omega arith
+skipped_within b section p (Err e) skips place = tt
 
 -- An entry begins at the cursor, and belongs to the cursor's section.
 
@@ -196,6 +207,11 @@ pub record_at_offset : (b : List ℕ) (cursor : Cursor) (r : Result (Item × ℕ
     → IfOk r (λ found. Spans found.0 cursor.place found.1) → IfOk r (λ found. Spans found.0 cursor.place found.1 × (found.0.section ≡ cursor.section))
 record_at_offset b cursor (Ok found) h spans = (spans, h.3)
 record_at_offset b cursor (Err e) h spans = tt
+
+-- A cursor without an item left enters the next section.
+pub left_in_next : (b : List ℕ) (old : Cursor) (s n m : ℕ) → LeftIn b old s n → n ≡ 0 → m ≡ count_at b (s + 1) → LeftIn b old (s + 1) m
+left_in_next b old s n m (inl here) empty counted = inr (omega arith, omega arith, counted)
+left_in_next b old s n m (inr later) empty counted = inr (omega arith, later.1, counted)
 
 -- The fault of an entry has a number.
 
@@ -212,12 +228,29 @@ record_reported b section p (Err e) h = reported_fields h
 -- A cursor that moved past empty sections.
 
 -- A cursor with no entry left in the last section is at the end.
-pub at_the_end : (b m : List ℕ) (old new : Cursor) → m ≡ b → left_from m new ≡ left_from m old → new.section ≤ 3 → (new.left ≡ 0 → new.section ≡ 3) → new.status ≡ old.status → new.left ≡ 0
-    → IsOpen b old → (left_from b old ≡ []) × (left_from b new ≡ []) × IsOpen b new
-at_the_end b m old new same left section last status none_left is_open =
+pub at_the_end : (b m : List ℕ) (old new : Cursor) → m ≡ b → left_from m new ≡ left_from m old → new.section ≤ 3 → (new.left ≡ 0 → new.section ≡ 3) → new.status ≡ old.status
+    → new.owner ≡ old.owner → new.left ≡ 0 → IsOpen b old → (left_from b old ≡ []) × (left_from b new ≡ []) × IsOpen b new
+at_the_end b m old new same left section last status owner none_left is_open =
     let at_end : left_from b new ≡ [] = ap (λ s. left_at b s new.left new.place) (last none_left) ∙ ap (λ k. left_at b 3 k new.place) none_left ∙ nothing_left b new.place in
     let kept = subst (λ k. left_from k new ≡ left_from k old) same left in
-    (sym kept ∙ at_end, at_end, record { long = is_open.long; section = section; status = status ∙ is_open.status })
+    (sym kept ∙ at_end, at_end, record { long = is_open.long; section = section; status = status ∙ is_open.status; owner = subst (IsCachedOffset b) (sym owner) is_open.owner })
+
+-- A cursor moves past the next entry, and caches an offset.
+pub at_the_entry : (b m : List ℕ) (old settled : Cursor) (item : Item) (next left owner : ℕ) → m ≡ b → left_from m settled ≡ left_from m old → settled.section ≤ 3
+    → settled.status ≡ old.status → settled.left ≡ left + 1 → ReturnsEntry b settled (Ok (item, next)) → (EncodedName b settled.place → IsCachedOffset b owner)
+    → Spans item settled.place next → IsOpen b old → Steps b old (record settled { place = next; left = left; owner = owner }) item (Ok true)
+at_the_entry b m old settled item next left owner same kept section status counted returned caches spans is_open =
+    let before = subst (λ k. left_from k settled ≡ left_from k old) same kept in (
+      returned.0,
+      sym before ∙ returned.2 left (let one_more : settled.left ≡ suc left = omega arith in one_more),
+      returned.1,
+      record {
+        long = is_open.long;
+        section = section;
+        status = status ∙ is_open.status;
+        owner = caches (entry_named b item returned.0 settled.place spans.start returned.1);
+      },
+    )
 
 -- A cursor whose next entry has a fault stays there.
 pub at_the_fault : (b m : List ℕ) (old new : Cursor) (f : Fault) → m ≡ b → left_from m new ≡ left_from m old → (new.left ≡ 0 → ⊥)
@@ -260,10 +293,43 @@ question_skipped b cursor (Ok found) first h = subst (λ s. SkipsEntry b s curso
 question_skipped b cursor (Err e) first h = tt
 
 -- A record that is read is skipped to its end.
-pub record_skipped : (b : List ℕ) (cursor : Cursor) (r : Result (Item × ℕ) ParseError) (s : ℕ) → cursor.section ≡ suc s
-    → ReturnsRecord b cursor.section cursor.place r → IfOk r (λ found. SkipsEntry b cursor.section cursor.place found.1)
-record_skipped b cursor (Ok found) s at h = subst (λ t. SkipsEntry b t cursor.place found.1) (sym at) h.1.skips
-record_skipped b cursor (Err e) s at h = tt
+pub record_skipped : (b : List ℕ) (section p : ℕ) (r : Result (Item × ℕ) ParseError) → ReturnsRecord b section p r → IfOk r (λ found. SkipsRecord b p found.1)
+record_skipped b section p (Ok found) h = h.1.skips
+record_skipped b section p (Err e) h = tt
+
+-- The item of a record that is read describes the record's fields.
+pub record_reports_fields : (b : List ℕ) (section p : ℕ) (r : Result (Item × ℕ) ParseError) → ReturnsRecord b section p r → IfOk r (λ found. Spans found.0 p found.1)
+    → IfOk r (λ found. ReportsFields b found.0)
+record_reports_fields b section p (Ok found) h spans =
+    let skips = h.1.skips in
+    let end = skips.end in
+    let start = h.2.rdata_start in
+    let starts = h.1.rdata_start in
+    let span = spans.end in
+    record {
+      owner_end = skips.name_end;
+      owner_ends = subst (λ k. NameEndsAt b k skips.name_end) (sym spans.start) skips.name_ends;
+      fields = record { rtype = h.2.rtype ∙ h.1.rtype; class = h.2.class ∙ h.1.class; ttl = h.2.ttl ∙ h.1.ttl; rdlen = omega arith };
+      rdata_start = start ∙ starts;
+    }
+record_reports_fields b section p (Err e) h spans = tt
+
+-- In the first section no entry is a record.
+pub question_reports_none : (b : List ℕ) (section : ℕ) (r : Result (Item × ℕ) ParseError) → section ≡ 0 → IfOk r (λ found. 1 ≤ section → ReportsFields b found.0)
+question_reports_none b section (Ok found) first = λ some. absurd (omega arith)
+question_reports_none b section (Err e) first = tt
+
+-- In the others each is one.
+pub entry_reports_fields : (b : List ℕ) (section : ℕ) (r : Result (Item × ℕ) ParseError) → IfOk r (λ found. ReportsFields b found.0)
+    → IfOk r (λ found. 1 ≤ section → ReportsFields b found.0)
+entry_reports_fields b section (Ok found) h = λ some. h
+entry_reports_fields b section (Err e) h = tt
+
+-- After the first section an entry is a record.
+pub entry_skipped : (b : List ℕ) (cursor : Cursor) (r : Result (Item × ℕ) ParseError) (s : ℕ) → cursor.section ≡ suc s
+    → IfOk r (λ found. SkipsRecord b cursor.place found.1) → IfOk r (λ found. SkipsEntry b cursor.section cursor.place found.1)
+entry_skipped b cursor (Ok found) s at skips = subst (λ t. SkipsEntry b t cursor.place found.1) (sym at) skips
+entry_skipped b cursor (Err e) s at skips = tt
 
 -- Past the end, every read is `ShortInput`.
 
@@ -351,10 +417,10 @@ module _ (b : List ℕ) where
 
 -- A cursor that was just opened has all entries before it.
 pub opened : (b m : List ℕ) (header : Header) (n : ℕ) → m ≡ b → IsHeader m header → n ≡ question_count m → header_size ≤ length b
-    → Opens b header (record { place = 12; left = n; section = 0; status = 0 })
+    → Opens b header (record { place = 12; left = n; section = 0; status = 0; owner = 0 })
 opened b m header n same fields counted long = record {
   fields = subst (λ k. IsHeader k header) same fields;
-  is_open = record { long = long; section = omega arith; status = refl };
+  is_open = record { long = long; section = omega arith; status = refl; owner = inl refl };
   section = refl;
   place = refl;
   left = counted ∙ ap question_count same;

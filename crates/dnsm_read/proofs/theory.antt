@@ -1,3 +1,4 @@
+pub mod AddressLemmas
 pub mod DataLemmas
 pub mod DataNameLemmas
 pub mod OptLemmas

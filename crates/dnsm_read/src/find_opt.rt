@@ -55,6 +55,7 @@ fn begin(octets: &[u8]) -> Result<(Cursor, u8), CallError>
         left: 0,
         section: 0,
         status: 0,
+        owner: 0,
     };
     if open(octets, &mut header, &mut cursor) != 0 {
         return Err(CallError::ShortInput);

@@ -37,11 +37,13 @@ fields_rise b (field ∷ fields) p q at =
     let others = fields_rise b fields at.0 q at.2 in
     omega arith
 
--- What C learns of the offset of a name in RDATA: the name is encoded there in the whole message, and begins within the RDATA.
+-- What C learns of the offset of a name in RDATA.
 module _ (b : List ℕ) (item : Item) (index p : ℕ) (found : IsDataName b item index p) where
+  -- The name can be read, up to the end of the RDATA and in the whole message.
   pub name_read : (name : Labels) × NameAt (up_to_data_end b item) p name × NameAt b p name
   name_read = (found.name.0, found.name.1, name_in_more b (data_end item) p found.name.0 found.name.1)
 
+  -- It begins within the RDATA.
   pub name_within : (item.«data» ≤ p) × (p < data_end item)
   name_within =
       let before = begins_within found.name.1 in

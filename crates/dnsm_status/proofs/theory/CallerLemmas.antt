@@ -40,6 +40,7 @@ module _ (out : List ℕ) (len status : ℕ) (none : len ≡ 0) where
   pub refused_octets : WritesOctets out out len status
   refused_octets = record { same_length = refl; within = λ done. omega arith; empty = λ failed other. none }
 
+  -- a call that fails writes no text
   pub refused_text : (fault : CallError) → status ≡ number_of fault → WritesText out out len status
   refused_text fault is = record { octets = refused_octets; within = λ done. absurd (no_success fault (sym is ∙ done)) }
 

@@ -49,7 +49,8 @@ returns-in_err-next_opt-2-clause-none c =
     let b = c.args.octets.now in
     let found = subst (λ (given : Bool). FindsOpt b c.in_ok-start.start c.next_opt.new.cursor c.next_opt.new.item (Ok given)) c.if-not-branch.false c.in_ok-next_opt.ensures in
     let p = err_from_is_err_and c.from_residual-in_err-next_opt-2.result c.from_residual-in_err-next_opt-2.ensures.1 in
-    rw (p.1, p.2) (lacks_later b c.in_ok-start.start c.in_ok-start.ensures.left c.next_opt.new.cursor c.next_opt.new.item found c.next_opt-2.new.cursor c.next_opt-2.new.item c.in_err-next_opt-2.field-0.0 c.in_err-next_opt-2.ensures)
+    rw (p.1, p.2) (lacks_later b c.in_ok-start.start c.in_ok-start.ensures.left c.next_opt.new.cursor c.next_opt.new.item found c.next_opt-2.new.cursor
+    c.next_opt-2.new.item c.in_err-next_opt-2.field-0.0 c.in_err-next_opt-2.ensures)
 
 pub returns-then-branch-clause-short : goal.returns-then-branch-clause-short
 returns-then-branch-clause-short c = λ less. absurd (let long = c.in_ok-start.ensures.open.long in omega arith)
@@ -75,7 +76,8 @@ returns-then-not-has_root_owner-clause-none c =
     let b = c.args.octets.now in
     let found = subst (λ (given : Bool). FindsOpt b c.in_ok-start.start c.next_opt.new.cursor c.next_opt.new.item (Ok given)) c.if-not-branch.false c.in_ok-next_opt.ensures in
     let none = subst (λ (given : Bool). FindsOpt b c.next_opt.new.cursor c.next_opt-2.new.cursor c.next_opt-2.new.item (Ok given)) c.if-branch.false c.in_ok-next_opt-2.ensures in
-    lacks_root b c.in_ok-start.start c.in_ok-start.ensures.left c.next_opt.new.cursor c.next_opt.new.item found c.next_opt-2.new.cursor c.next_opt-2.new.item none (λ owner at is. true≢false (sym ((c.has_root_owner.ensures owner at).1 is) ∙ c.if-not-has_root_owner.true))
+    lacks_root b c.in_ok-start.start c.in_ok-start.ensures.left c.next_opt.new.cursor c.next_opt.new.item found c.next_opt-2.new.cursor c.next_opt-2.new.item
+    none (λ owner at is. true≢false (sym ((c.has_root_owner.ensures owner at).1 is) ∙ c.if-not-has_root_owner.true))
 
 pub returns-clause-short : goal.returns-clause-short
 returns-clause-short c = λ less. absurd (let long = c.in_ok-start.ensures.open.long in omega arith)
@@ -85,7 +87,8 @@ returns-clause-item c =
     let b = c.args.octets.now in
     let found = subst (λ (given : Bool). FindsOpt b c.in_ok-start.start c.next_opt.new.cursor c.next_opt.new.item (Ok given)) c.if-not-branch.false c.in_ok-next_opt.ensures in
     let none = subst (λ (given : Bool). FindsOpt b c.next_opt.new.cursor c.next_opt-2.new.cursor c.next_opt-2.new.item (Ok given)) c.if-branch.false c.in_ok-next_opt-2.ensures in
-    only_opt b c.in_ok-start.start c.in_ok-start.ensures.left c.next_opt.new.cursor c.next_opt.new.item found c.next_opt-2.new.cursor c.next_opt-2.new.item none (λ owner at. (c.has_root_owner.ensures owner at).0 c.if-not-has_root_owner.false)
+    only_opt b c.in_ok-start.start c.in_ok-start.ensures.left c.next_opt.new.cursor c.next_opt.new.item found c.next_opt-2.new.cursor c.next_opt-2.new.item none
+    (λ owner at. (c.has_root_owner.ensures owner at).0 c.if-not-has_root_owner.false)
 
 pub returns-clause-rcode : goal.returns-clause-rcode
 returns-clause-rcode c =

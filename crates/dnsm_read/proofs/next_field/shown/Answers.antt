@@ -3,139 +3,91 @@ use Rattle.dns_name.specs.ParsedName.{labels}
 use Rattle.dns_name.specs.Names.{NameAt}
 use Rattle.fields_octets.specs.EncodedFields.{part_of}
 use Rattle.fields_octets.specs.Values.{FieldValue}
-use Rattle.fields_octets.specs.Values.FieldValue.{Ipv4, Ipv6, String, Sized, Octets}
 use Rattle.dnsm_read.specs.FieldValues.{IsPlaced, Shows}
-use Rattle.dnsm_read.proofs.FieldValueLemmas.{has_octets, octets_placed, value_end, value_name}
+use Rattle.dnsm_read.proofs.FieldValueLemmas.{octets_fit, octets_placed, octets_shown, value_name}
+use Rattle.dnsm_read.proofs.FieldValueLemmas.HasKind.{ipv4, ipv6, others, sized, string}
 use Rattle.dnsm_read.proofs.next_field.shown.Goals as goal
 
 pub octets_before-requires : goal.octets_before-requires
-octets_before-requires c =
-    let at =
-    value_end c.args.octets.now c.args.field.now.kind (part_of c.args.field.now.encoded) c.args.start c.end_of-end.result (Ipv4 c.in-Ipv4.own.now) (λ name is. cc) c.in-Ipv4.ensures c.end_of-end.ensures in
-    at.few
+octets_before-requires c = octets_fit ipv4 c.args.octets.now c.args.field.now c.args.start c.end_of-end.result c.in-Ipv4.ensures c.end_of-end.ensures
 
 pub returns-in-Ipv4-clause-value : goal.returns-in-Ipv4-clause-value
 returns-in-Ipv4-clause-value c =
-    let at =
-    value_end c.args.octets.now c.args.field.now.kind (part_of c.args.field.now.encoded) c.args.start c.end_of-end.result (Ipv4 c.in-Ipv4.own.now) (λ name is. cc) c.in-Ipv4.ensures c.end_of-end.ensures in
-    subst (λ (value : FieldValue). Shows c.args.octets.now c.octets_before.result value) c.in-Ipv4.ensures (
-      c.octets_before.ensures.kind,
-      has_octets c.args.octets.now c.octets_before.result c.end_of-end.result c.in-Ipv4.own.now at c.octets_before.ensures.place c.octets_before.ensures.len,
-    )
+    let made = c.octets_before.ensures in
+    octets_shown ipv4 c.args.octets.now c.args.field.now c.args.start c.end_of-end.result c.in-Ipv4.ensures c.end_of-end.ensures c.octets_before.result made.kind made.place made.len
 
 pub returns-in-Ipv4-clause-placed : goal.returns-in-Ipv4-clause-placed
 returns-in-Ipv4-clause-placed c =
-    let at =
-    value_end c.args.octets.now c.args.field.now.kind (part_of c.args.field.now.encoded) c.args.start c.end_of-end.result (Ipv4 c.in-Ipv4.own.now) (λ name is. cc) c.in-Ipv4.ensures c.end_of-end.ensures in
     let made = c.octets_before.ensures in (
       c.end_of-end.result,
       c.end_of-end.ensures,
-      subst (λ (value : FieldValue). IsPlaced c.octets_before.result value c.args.start c.end_of-end.result) c.in-Ipv4.ensures
-          (octets_placed c.octets_before.result c.end_of-end.result c.in-Ipv4.own.now at.few made.place made.len made.number),
+      octets_placed ipv4 c.args.octets.now c.args.field.now c.args.start c.end_of-end.result c.in-Ipv4.ensures c.end_of-end.ensures c.octets_before.result made.place made.len made.number,
     )
 
 pub octets_before-requires-in-Ipv6 : goal.octets_before-requires-in-Ipv6
-octets_before-requires-in-Ipv6 c =
-    let at =
-    value_end c.args.octets.now c.args.field.now.kind (part_of c.args.field.now.encoded) c.args.start c.end_of-end.result (Ipv6 c.in-Ipv6.own.now) (λ name is. cc) c.in-Ipv6.ensures c.end_of-end.ensures in
-    at.few
+octets_before-requires-in-Ipv6 c = octets_fit ipv6 c.args.octets.now c.args.field.now c.args.start c.end_of-end.result c.in-Ipv6.ensures c.end_of-end.ensures
 
 pub returns-in-Ipv6-clause-value : goal.returns-in-Ipv6-clause-value
 returns-in-Ipv6-clause-value c =
-    let at =
-    value_end c.args.octets.now c.args.field.now.kind (part_of c.args.field.now.encoded) c.args.start c.end_of-end.result (Ipv6 c.in-Ipv6.own.now) (λ name is. cc) c.in-Ipv6.ensures c.end_of-end.ensures in
-    subst (λ (value : FieldValue). Shows c.args.octets.now c.octets_before-in-Ipv6.result value) c.in-Ipv6.ensures (
-      c.octets_before-in-Ipv6.ensures.kind,
-      has_octets c.args.octets.now c.octets_before-in-Ipv6.result c.end_of-end.result c.in-Ipv6.own.now at c.octets_before-in-Ipv6.ensures.place c.octets_before-in-Ipv6.ensures.len,
-    )
+    let made = c.octets_before-in-Ipv6.ensures in
+    octets_shown ipv6 c.args.octets.now c.args.field.now c.args.start c.end_of-end.result c.in-Ipv6.ensures c.end_of-end.ensures c.octets_before-in-Ipv6.result made.kind made.place made.len
 
 pub returns-in-Ipv6-clause-placed : goal.returns-in-Ipv6-clause-placed
 returns-in-Ipv6-clause-placed c =
-    let at =
-    value_end c.args.octets.now c.args.field.now.kind (part_of c.args.field.now.encoded) c.args.start c.end_of-end.result (Ipv6 c.in-Ipv6.own.now) (λ name is. cc) c.in-Ipv6.ensures c.end_of-end.ensures in
     let made = c.octets_before-in-Ipv6.ensures in (
       c.end_of-end.result,
       c.end_of-end.ensures,
-      subst (λ (value : FieldValue). IsPlaced c.octets_before-in-Ipv6.result value c.args.start c.end_of-end.result) c.in-Ipv6.ensures
-          (octets_placed c.octets_before-in-Ipv6.result c.end_of-end.result c.in-Ipv6.own.now at.few made.place made.len made.number),
+      octets_placed ipv6 c.args.octets.now c.args.field.now c.args.start c.end_of-end.result c.in-Ipv6.ensures c.end_of-end.ensures c.octets_before-in-Ipv6.result made.place made.len made.number,
     )
 
 pub octets_before-requires-in-String : goal.octets_before-requires-in-String
-octets_before-requires-in-String c =
-    let at =
-    value_end c.args.octets.now c.args.field.now.kind (part_of c.args.field.now.encoded) c.args.start c.end_of-end.result (String c.in-String.own.now) (λ name is. cc) c.in-String.ensures c.end_of-end.ensures in
-    at.few
+octets_before-requires-in-String c = octets_fit string c.args.octets.now c.args.field.now c.args.start c.end_of-end.result c.in-String.ensures c.end_of-end.ensures
 
 pub returns-in-String-clause-value : goal.returns-in-String-clause-value
 returns-in-String-clause-value c =
-    let at =
-    value_end c.args.octets.now c.args.field.now.kind (part_of c.args.field.now.encoded) c.args.start c.end_of-end.result (String c.in-String.own.now) (λ name is. cc) c.in-String.ensures c.end_of-end.ensures in
-    subst (λ (value : FieldValue). Shows c.args.octets.now c.octets_before-in-String.result value) c.in-String.ensures (
-      c.octets_before-in-String.ensures.kind,
-      has_octets c.args.octets.now c.octets_before-in-String.result c.end_of-end.result c.in-String.own.now at c.octets_before-in-String.ensures.place c.octets_before-in-String.ensures.len,
-    )
+    let made = c.octets_before-in-String.ensures in
+    octets_shown string c.args.octets.now c.args.field.now c.args.start c.end_of-end.result c.in-String.ensures c.end_of-end.ensures c.octets_before-in-String.result made.kind made.place made.len
 
 pub returns-in-String-clause-placed : goal.returns-in-String-clause-placed
 returns-in-String-clause-placed c =
-    let at =
-    value_end c.args.octets.now c.args.field.now.kind (part_of c.args.field.now.encoded) c.args.start c.end_of-end.result (String c.in-String.own.now) (λ name is. cc) c.in-String.ensures c.end_of-end.ensures in
     let made = c.octets_before-in-String.ensures in (
       c.end_of-end.result,
       c.end_of-end.ensures,
-      subst (λ (value : FieldValue). IsPlaced c.octets_before-in-String.result value c.args.start c.end_of-end.result) c.in-String.ensures
-          (octets_placed c.octets_before-in-String.result c.end_of-end.result c.in-String.own.now at.few made.place made.len made.number),
+      octets_placed string c.args.octets.now c.args.field.now c.args.start c.end_of-end.result c.in-String.ensures c.end_of-end.ensures
+          c.octets_before-in-String.result made.place made.len made.number,
     )
 
 pub octets_before-requires-in-Sized : goal.octets_before-requires-in-Sized
-octets_before-requires-in-Sized c =
-    let at =
-    value_end c.args.octets.now c.args.field.now.kind (part_of c.args.field.now.encoded) c.args.start c.end_of-end.result (Sized c.in-Sized.own.now) (λ name is. cc) c.in-Sized.ensures c.end_of-end.ensures in
-    at.few
+octets_before-requires-in-Sized c = octets_fit sized c.args.octets.now c.args.field.now c.args.start c.end_of-end.result c.in-Sized.ensures c.end_of-end.ensures
 
 pub returns-in-Sized-clause-value : goal.returns-in-Sized-clause-value
 returns-in-Sized-clause-value c =
-    let at =
-    value_end c.args.octets.now c.args.field.now.kind (part_of c.args.field.now.encoded) c.args.start c.end_of-end.result (Sized c.in-Sized.own.now) (λ name is. cc) c.in-Sized.ensures c.end_of-end.ensures in
-    subst (λ (value : FieldValue). Shows c.args.octets.now c.octets_before-in-Sized.result value) c.in-Sized.ensures (
-      c.octets_before-in-Sized.ensures.kind,
-      has_octets c.args.octets.now c.octets_before-in-Sized.result c.end_of-end.result c.in-Sized.own.now at c.octets_before-in-Sized.ensures.place c.octets_before-in-Sized.ensures.len,
-    )
+    let made = c.octets_before-in-Sized.ensures in
+    octets_shown sized c.args.octets.now c.args.field.now c.args.start c.end_of-end.result c.in-Sized.ensures c.end_of-end.ensures c.octets_before-in-Sized.result made.kind made.place made.len
 
 pub returns-in-Sized-clause-placed : goal.returns-in-Sized-clause-placed
 returns-in-Sized-clause-placed c =
-    let at =
-    value_end c.args.octets.now c.args.field.now.kind (part_of c.args.field.now.encoded) c.args.start c.end_of-end.result (Sized c.in-Sized.own.now) (λ name is. cc) c.in-Sized.ensures c.end_of-end.ensures in
     let made = c.octets_before-in-Sized.ensures in (
       c.end_of-end.result,
       c.end_of-end.ensures,
-      subst (λ (value : FieldValue). IsPlaced c.octets_before-in-Sized.result value c.args.start c.end_of-end.result) c.in-Sized.ensures
-          (octets_placed c.octets_before-in-Sized.result c.end_of-end.result c.in-Sized.own.now at.few made.place made.len made.number),
+      octets_placed sized c.args.octets.now c.args.field.now c.args.start c.end_of-end.result c.in-Sized.ensures c.end_of-end.ensures c.octets_before-in-Sized.result made.place made.len made.number,
     )
 
 pub octets_before-requires-in-Octets : goal.octets_before-requires-in-Octets
-octets_before-requires-in-Octets c =
-    let at =
-    value_end c.args.octets.now c.args.field.now.kind (part_of c.args.field.now.encoded) c.args.start c.end_of-end.result (Octets c.in-Octets.own.now) (λ name is. cc) c.in-Octets.ensures c.end_of-end.ensures in
-    at.few
+octets_before-requires-in-Octets c = octets_fit others c.args.octets.now c.args.field.now c.args.start c.end_of-end.result c.in-Octets.ensures c.end_of-end.ensures
 
 pub returns-in-Octets-clause-value : goal.returns-in-Octets-clause-value
 returns-in-Octets-clause-value c =
-    let at =
-    value_end c.args.octets.now c.args.field.now.kind (part_of c.args.field.now.encoded) c.args.start c.end_of-end.result (Octets c.in-Octets.own.now) (λ name is. cc) c.in-Octets.ensures c.end_of-end.ensures in
-    subst (λ (value : FieldValue). Shows c.args.octets.now c.octets_before-in-Octets.result value) c.in-Octets.ensures (
-      c.octets_before-in-Octets.ensures.kind,
-      has_octets c.args.octets.now c.octets_before-in-Octets.result c.end_of-end.result c.in-Octets.own.now at c.octets_before-in-Octets.ensures.place c.octets_before-in-Octets.ensures.len,
-    )
+    let made = c.octets_before-in-Octets.ensures in
+    octets_shown others c.args.octets.now c.args.field.now c.args.start c.end_of-end.result c.in-Octets.ensures c.end_of-end.ensures c.octets_before-in-Octets.result made.kind made.place made.len
 
 pub returns-in-Octets-clause-placed : goal.returns-in-Octets-clause-placed
 returns-in-Octets-clause-placed c =
-    let at =
-    value_end c.args.octets.now c.args.field.now.kind (part_of c.args.field.now.encoded) c.args.start c.end_of-end.result (Octets c.in-Octets.own.now) (λ name is. cc) c.in-Octets.ensures c.end_of-end.ensures in
     let made = c.octets_before-in-Octets.ensures in (
       c.end_of-end.result,
       c.end_of-end.ensures,
-      subst (λ (value : FieldValue). IsPlaced c.octets_before-in-Octets.result value c.args.start c.end_of-end.result) c.in-Octets.ensures
-          (octets_placed c.octets_before-in-Octets.result c.end_of-end.result c.in-Octets.own.now at.few made.place made.len made.number),
+      octets_placed others c.args.octets.now c.args.field.now c.args.start c.end_of-end.result c.in-Octets.ensures c.end_of-end.ensures
+          c.octets_before-in-Octets.result made.place made.len made.number,
     )
 
 pub returns-in-Number-clause-value : goal.returns-in-Number-clause-value
