@@ -1,13 +1,12 @@
 -- Items of another message that were put, and why one isn't.
-use Rattle.std.proofs.Common.{◌≡◌, ◌≢◌, ℕ, ◌+◌, ◌<◌, ◌≤◌, ◌^◌, ◌⊎◌, List, length, get_or, inl, inr, arith, ap, sym, ◌∙◌, subst, refl}
+use Rattle.std.proofs.Common.{◌≡◌, ◌≢◌, ℕ, ◌+◌, ◌<◌, ◌≤◌, ◌⊎◌, List, length, get_or, inl, inr, arith, ap, sym, ◌∙◌, subst, refl}
 use Rattle.std.specs.Prelude.{min, if◌then◌else◌, ◌==◌}
-use Rattle.dns_name.specs.Names.{Fault, Labels, NameAt, uncompressed}
+use Rattle.dns_name.specs.Names.{Labels, NameAt, uncompressed}
 use Rattle.dns_name.specs.Unique.{encoded_name}
 use Rattle.dns_name.proofs.theory.Names as names
 use Rattle.dns_code.specs.HeaderSection.{header_size}
 use Rattle.dns_wire.specs.Parts.{Part, parts_size}
-use Rattle.dns_data.specs.Layout.{DataAt, DataFaultAt}
-use Rattle.dns_data.proofs.theory.DataReading.{not_both, one_rdata}
+use Rattle.dns_data.proofs.theory.DataReading.{one_rdata}
 use Rattle.dns_item.specs.Questions.{QuestionItem, IsQuestion}
 use Rattle.dns_item.specs.Items.{RecordItem, IsRecord}
 use Rattle.fields_octets.specs.Data.{parts_of, rtype_of}
@@ -15,12 +14,11 @@ use Rattle.fields_octets.specs.FieldData.{type_layout}
 use Rattle.fields_octets.specs.FieldOrders.{parts_left}
 use Rattle.fields_octets.specs.FieldParts.{fields_left, named_parts}
 use Rattle.fields_octets.specs.LaidOut.{encoded_parts}
-use Rattle.fields_octets.specs.LayoutTypes.{layout_type}
 use Rattle.fields_octets.specs.Table.{definitions_of}
 use Rattle.fields_octets.specs.declared.field_data.FieldData.{FieldData}
 use Rattle.fields_octets.specs.declared.fields.Fields.{Fields}
 use Rattle.fields_octets.proofs.theory.NamedFields.{parts_of_fields}
-use Rattle.dnsm_read.specs.DataFields.{IsDataIn, data_end, up_to_data_end}
+use Rattle.dnsm_read.specs.DataFields.{IsDataIn, data_end, data_type, up_to_data_end}
 use Rattle.dnsm_read.specs.declared.walk.Item.{Item}
 use Rattle.dnsm_put.specs.declared.draft.Draft.{Draft}
 use Rattle.dnsm_put.specs.declared.draft.PutItem.{PutItem}
@@ -81,7 +79,7 @@ module _ (b : List ℕ) (item : Item) (fits : HasNumbers item) where
         rtype = omega arith;
         class = omega arith;
         ttl = omega arith;
-        parts = encoded_parts (up_to_data_end b item) (type_layout (layout_type item.class item.data_len item.rtype)) item.«data» (data_end item) x.parts h.parts.fields;
+        parts = encoded_parts (up_to_data_end b item) (type_layout (data_type item)) item.«data» (data_end item) x.parts h.parts.fields;
         short = h.parts.fields.0;
       }
 
@@ -97,7 +95,7 @@ module _ (b : List ℕ) (item : Item) (fits : HasNumbers item) where
   -- The record that an item is, is that of its copy with the parts of its RDATA.
   pub record_copied : (copy : PutItem) (name : Labels) (parts : List Part) → IsCopy b item copy name → IsDataIn b item parts → (x : RecordItem) → IsRecordIn b item x → IsRecordWith copy parts x
   record_copied copy name parts is data_is x h =
-      let same = one_rdata (up_to_data_end b item) (type_layout (layout_type item.class item.data_len item.rtype)) item.«data» (data_end item) (data_end item) x.parts parts h.parts.fields data_is.fields in
+      let same = one_rdata (up_to_data_end b item) (type_layout (data_type item)) item.«data» (data_end item) (data_end item) x.parts parts h.parts.fields data_is.fields in
       record {
         is_record = is_record x h;
         owner = is.name ∙ ap uncompressed (names.one_name b item.place name x.owner is.at h.owner);
@@ -200,6 +198,21 @@ module _ (d : Draft) (n : ℕ) (b : List ℕ) (item : Item) where
       } in
       subst (λ e. IsRefusedFrom d n b item e) (sym h.0) made
 
+-- The size of a question's copy is that of the question.
+pub question_takes : (b : List ℕ) (item : Item) (copy : PutItem) (name : Labels) → IsCopy b item copy name → item.section ≡ 0
+    → (end at : ℕ) → end ≤ at + item_size copy → (size : ℕ) × TakesIn b item size × (end ≤ at + size)
+question_takes b item copy name is zero' end at small =
+    let size : item_size copy ≡ length copy.name.now + 4 = question_size copy (is.section ∙ zero') in
+    let same : length copy.name.now ≡ length (uncompressed name) = ap length is.name in
+    (length (uncompressed name) + 4, TakesIn.question zero' is.at, omega arith)
+
+-- The size of a record's copy with the parts of its RDATA is that of the record.
+pub record_takes : (b : List ℕ) (item : Item) (copy : PutItem) (name : Labels) (parts : List Part) → IsCopy b item copy name → IsDataIn b item parts → item.section ≢ 0
+    → (end at : ℕ) → end ≤ at + (length copy.name.now + 10 + parts_size parts) → (size : ℕ) × TakesIn b item size × (end ≤ at + size)
+record_takes b item copy name parts is data_is some end at small =
+    let same : length copy.name.now ≡ length (uncompressed name) = ap length is.name in
+    (length (uncompressed name) + 10 + parts_size parts, TakesIn.record_of some is.at data_is, omega arith)
+
 -- What putting a copy adds, for the item that it is of.
 module _ (b : List ℕ) (item : Item) (fits : HasNumbers item) (copy : PutItem) (name : Labels) (is : IsCopy b item copy name) (out out' : List ℕ) (d e : Draft) where
   -- a question
@@ -216,20 +229,3 @@ module _ (b : List ℕ) (item : Item) (fits : HasNumbers item) (copy : PutItem) 
       let P : ℕ → Type 0 = λ k. AddsTo k (IsQuestionOf copy) (IsRecordWith copy parts) out out' d e in
       adds_through item.section (IsQuestionOf copy) (IsQuestionIn b item) (IsRecordWith copy parts) (IsRecordIn b item) out out' d e
       (λ z x of. absurd (some z)) (λ y x of. record_copied b item fits copy name parts is data_is x of) (subst P is.section a)
-
--- RDATA that was read up to the end of an item's RDATA, and its reading there.
-module _ (b : List ℕ) (item : Item) (octets : List ℕ) (rtype p : ℕ) (same : octets ≡ up_to_data_end b item) (typed : rtype ≡ layout_type item.class item.data_len item.rtype) (at : p ≡ item.«data») where
-  moved : (parts : List Part) → IsDataIn b item parts → DataAt octets (type_layout rtype) p (data_end item) parts
-  moved parts h =
-      let P : List ℕ → Type 0 = λ xs. DataAt xs (type_layout rtype) p (data_end item) parts in
-      let Q : ℕ → Type 0 = λ r. DataAt (up_to_data_end b item) (type_layout r) p (data_end item) parts in
-      let R : ℕ → Type 0 = λ k. DataAt (up_to_data_end b item) (type_layout (layout_type item.class item.data_len item.rtype)) k (data_end item) parts in
-      subst P (sym same) (subst Q (sym typed) (subst R (sym at) h.fields))
-
-  -- With a fault it is no RDATA of the item.
-  pub fault_in : (f : Fault) → p ≤ length octets → DataFaultAt octets (type_layout rtype) p f → (parts : List Part) → IsDataIn b item parts → ⊥
-  fault_in f low fault parts h = not_both octets (type_layout rtype) p (data_end item) parts f low (moved parts h) fault
-
-  -- Nor if octets are left over.
-  pub left_over : (q : ℕ) (xs : List Part) → DataAt octets (type_layout rtype) p q xs → q < data_end item → (parts : List Part) → IsDataIn b item parts → ⊥
-  left_over q xs d less parts h = let e = (one_rdata octets (type_layout rtype) p q (data_end item) xs parts d (moved parts h)).0 in omega (arith, e, less)

@@ -1,7 +1,7 @@
 -- Questions and records that were written, and what an item that passes the check means.
 use Rattle.std.proofs.Common.{◌≡◌, ◌≢◌, ℕ, zero, suc, ◌+◌, ◌-◌, ◌<◌, ◌≤◌, ◌^◌, List, [], ◌∷◌, ◌++◌, length, length-append, length-drop, take, drop, arith, ap, sym, ◌∙◌, subst, refl}
 use Rattle.std.specs.Int.{to_be_bytes, w16, w32}
-use Rattle.std.proofs.lemmas.List.{length-take-le, take-take}
+use Rattle.std.proofs.lemmas.List.{length-take-le}
 use Rattle.dns_octets.specs.Octets.{overwritten}
 use Rattle.dns_name.specs.Names.{NameAt, NameEndsAt, uncompressed}
 use Rattle.dns_name.specs.Uncompressed.{IsUncompressed}
@@ -18,8 +18,8 @@ use Rattle.dnsm_put.specs.declared.rdata.Layout.{Layout}
 use Rattle.dnsm_put.specs.declared.rdata.Layout.TheVariants.{Name, TwoNames, Plain}
 use Rattle.dnsm_put.specs.Rdata.{AreDataOf, HasFields, layout_of, octets_alone}
 use Rattle.dnsm_put.specs.Writing.{IsPut, AreWritten, IsNamed}
-use Rattle.dnsm_put.specs.Items.{IsQuestionOf, IsRecordOf, IsRecordWith, Means, HoldsQuestion, HoldsRecord}
-use Rattle.dnsm_put.proofs.Buffers.{at_over, length_over, take_over, at_agreed, agree_of_take, agree_both, agree_from, agree_to, agree_after}
+use Rattle.dnsm_put.specs.Items.{IsQuestionOf, IsRecordOf, IsRecordWith, Means, HoldsQuestion, HoldsRecord, head_octets}
+use Rattle.dnsm_put.proofs.Buffers.{at_over, length_over, take_over, at_agreed, agree_of_take, agree_both, agree_from, agree_to, agree_after, kept_later}
 
 -- a question at its offset
 question_there : (c : List ℕ) (p r : ℕ) (x : QuestionItem) → IsQuestion x → NameAt c p x.name → NameEndsAt c p r → At c r (question_fields x) → ReadsQuestion c p (r + 4) x
@@ -81,51 +81,44 @@ holds_question out1 out2 p r q most fields item x of low named room fe put c a =
 pub with_parts : (item : PutItem) (x : RecordItem) → IsRecordOf item x → IsRecordWith item x.parts x
 with_parts item x of = record { is_record = of.is_record; owner = of.owner; rtype = of.rtype; class = of.class; ttl = of.ttl; parts = refl }
 
--- a record that was written: its owner, its fields, its RDATA, and then RDLENGTH
-pub holds_record : (out1 out2 out3 out4 : List ℕ) (p r start q most : ℕ) (fields sized : List ℕ) (item : PutItem) (x : RecordItem) (ps : List Part) → IsRecordWith item ps x → 12 ≤ p
-    → IsNamed out1 p p r x.owner → most ≤ length out1
-    → fields ≡ to_be_bytes w16 item.rtype ++ to_be_bytes w16 item.class ++ to_be_bytes w32 item.ttl ++ (0 ∷ 0 ∷ []) → IsPut out1 out2 r most fields start
-    → take start out3 ≡ take start out2 → length out3 ≡ length out2 → AreWritten out3 r start q ps → q - start ≤ 65535
-    → sized ≡ to_be_bytes w16 (q - start) → out4 ≡ overwritten out3 (r + 8) sized → q ≤ most → HoldsRecord out4 p q x
-holds_record out1 out2 out3 out4 p r start q most fields sized item x ps of low named room fe put2 kept long3 wrote few ze e4 within c a =
-    let W : List Part → Type 0 = λ qs. AreWritten out3 r start q qs in
-    let written : AreWritten out3 r start q x.parts = subst W (sym of.parts) wrote in
-    let e2 = put2.written in
-    let es = put2.ends in
-    let f : fields ≡ record_fields x ++ (0 ∷ 0 ∷ []) = fe ∙ (λ i. to_be_bytes w16 (sym of.rtype i) ++ to_be_bytes w16 (sym of.class i) ++ to_be_bytes w32 (sym of.ttl i) ++ (0 ∷ 0 ∷ [])) in
-    let ten : length fields ≡ 10 = ap length f in
-    let two : length sized ≡ 2 = ap length ze in
+-- a record that was written: its owner and the ten octets after it, its RDATA, and then RDLENGTH
+pub holds_record : (out1 out2 out3 : List ℕ) (p r q : ℕ) (item : PutItem) (x : RecordItem) (ps : List Part) → IsRecordWith item ps x → 12 ≤ p
+    → IsNamed out1 p p r x.owner → At out1 r (head_octets item) → take (r + 10) out2 ≡ take (r + 10) out1 → length out2 ≡ length out1
+    → AreWritten out2 r (r + 10) q ps → q - (r + 10) ≤ 65535 → out3 ≡ overwritten out2 (r + 8) (to_be_bytes w16 (q - (r + 10))) → HoldsRecord out3 p q x
+holds_record out1 out2 out3 p r q item x ps of low named head kept long wrote few e c a =
+    let W : List Part → Type 0 = λ qs. AreWritten out2 r (r + 10) q qs in
+    let written : AreWritten out2 r (r + 10) q x.parts = subst W (sym of.parts) wrote in
+    let f : head_octets item ≡ record_fields x ++ (0 ∷ 0 ∷ []) =
+    (λ i. to_be_bytes w16 (sym of.rtype i) ++ to_be_bytes w16 (sym of.class i) ++ to_be_bytes w32 (sym of.ttl i) ++ (0 ∷ 0 ∷ [])) in
+    let m = q - (r + 10) in
+    let sized = to_be_bytes w16 m in
+    let ten : length (head_octets item) ≡ 10 = refl in
+    let two : length sized ≡ 2 = refl in
     let after = written.after in
+    let within = written.within in
     let past = named.after in
-    let l2 : length out2 ≡ length out1 = ap length e2 ∙ length_over out1 fields r (omega arith) in
-    let l4 : length out4 ≡ length out3 = ap length e4 ∙ length_over out3 sized (r + 8) (omega arith) in
-    let k3 : take (r + 8) out3 ≡ take (r + 8) out2 = sym (take-take (r + 8) start out3 (omega arith)) ∙ ap (take (r + 8)) kept ∙ take-take (r + 8) start out2 (omega arith) in
-    let k4 : take (r + 8) out4 ≡ take (r + 8) out3 = ap (take (r + 8)) e4 ∙ take_over out3 sized (r + 8) (r + 8) (omega arith) (omega arith) in
-    let a3 : Agree out3 out4 12 (r + 8) = agree_of_take out3 out4 12 (r + 8) (omega arith) k4 in
-    let a2 : Agree out2 out4 12 (r + 8) = agree_of_take out2 out4 12 (r + 8) (omega arith) (k4 ∙ k3) in
-    let a1 : Agree out1 out2 12 r = agree_of_take out1 out2 12 r (omega arith) (ap (take r) e2 ∙ take_over out1 fields r r (omega arith) (omega arith)) in
-    let b1 : Agree out1 c 12 r = agree_both (omega arith) (agree_both (omega arith) a1 a2) a in
+    let there = head.within in
+    let l3 : length out3 ≡ length out2 = ap length e ∙ length_over out2 sized (r + 8) (omega arith) in
+    let k2 : take (r + 8) out2 ≡ take (r + 8) out1 = kept_later out1 out2 (r + 8) (r + 10) (omega arith) kept in
+    let k3 : take (r + 8) out3 ≡ take (r + 8) out2 = ap (take (r + 8)) e ∙ take_over out2 sized (r + 8) (r + 8) (omega arith) (omega arith) in
+    let a2 : Agree out2 out3 12 (r + 8) = agree_of_take out2 out3 12 (r + 8) (omega arith) k3 in
+    let a1 : Agree out1 out3 12 (r + 8) = agree_of_take out1 out3 12 (r + 8) (omega arith) (k3 ∙ k2) in
+    let b1 : Agree out1 c 12 r = agree_both (omega arith) (agree_to (omega arith) a1) a in
     let b2 : Agree out1 c p r = agree_from low b1 in
     let b0 : Agree out1 c 12 p = agree_to (omega arith) b1 in
-    let long = a.long in
-    let R : List ℕ → Type 0 = λ b. At b r fields in
-    let S : List ℕ → Type 0 = λ xs. At out2 r xs in
-    let f2 : At out2 r (record_fields x ++ (0 ∷ 0 ∷ [])) = subst S f (subst R (sym e2) (at_over out1 fields r (omega arith))) in
-    let g2 : At out2 r (record_fields x) = at_first {xs = record_fields x} (0 ∷ 0 ∷ []) f2 in
-    let gc : At c r (record_fields x) = at_agreed a (omega arith) (omega arith) (at_agreed a2 (omega arith) (omega arith) g2) in
+    let far = a.long in
+    let S : List ℕ → Type 0 = λ xs. At out1 r xs in
+    let g1 : At out1 r (record_fields x) = at_first {xs = record_fields x} (0 ∷ 0 ∷ []) (subst S f head) in
+    let gc : At c r (record_fields x) = at_agreed a (omega arith) (omega arith) (at_agreed a1 (omega arith) (omega arith) g1) in
     let Z : List ℕ → Type 0 = λ b. At b (r + 8) sized in
-    let z4 : At out4 (r + 8) sized = subst Z (sym e4) (at_over out3 sized (r + 8) (omega arith)) in
-    let m = q - start in
-    let Y : List ℕ → Type 0 = λ xs. At c (r + 8) xs in
-    let zc : At c (r + 8) (to_be_bytes w16 m) = subst Y ze (at_agreed a (omega arith) (omega arith) z4) in
-    let c3 : Agree out3 c 12 r = agree_both (omega arith) (agree_to (omega arith) a3) a in
-    let d3 : Agree out3 c start q = agree_both (omega arith) (agree_after out3 out4 sized (r + 8) start q e4 (omega arith) (omega arith) (omega arith)) (agree_from (omega arith) a) in
-    let j : start ≡ r + 10 = omega arith in
+    let zc : At c (r + 8) sized = at_agreed a (omega arith) (omega arith) (subst Z (sym e) (at_over out2 sized (r + 8) (omega arith))) in
+    let c2 : Agree out2 c 12 r = agree_both (omega arith) (agree_to (omega arith) a2) a in
+    let d2 : Agree out2 c (r + 10) q = agree_both (omega arith) (agree_after out2 out3 sized (r + 8) (r + 10) q e (omega arith) (omega arith) (omega arith)) (agree_from (omega arith) a) in
     let i : q ≡ r + 10 + m = omega arith in
-    let parts : PartsAt c (r + 10 + m) (r + 10) x.parts = subst (λ k. PartsAt c k (r + 10) x.parts) i (subst (λ k. PartsAt c q k x.parts) j (written.parts_at c c3 d3)) in
+    let parts : PartsAt c (r + 10 + m) (r + 10) x.parts = subst (λ k. PartsAt c k (r + 10) x.parts) i (written.parts_at c c2 d2) in
     let made = record_there c p r m x of.is_record (named.name c b0 b2) (named.ends c b0 b2) gc zc few (omega arith) parts in
-    let e : start ≡ r + 8 + 2 = omega arith in
-    let pointed : PartsPointed c q (r + 8 + 2) x.parts = subst (λ k. PartsPointed c q k x.parts) e (written.pointed c c3 d3) in
+    let j : r + 10 ≡ r + 8 + 2 = omega arith in
+    let pointed : PartsPointed c q (r + 8 + 2) x.parts = subst (λ k. PartsPointed c q k x.parts) j (written.pointed c c2 d2) in
     record {
       reads = subst (λ z. ReadsRecordItem c p z x) (sym i) made;
       pointed = (r, named.pointed c b0 b2, pointed);

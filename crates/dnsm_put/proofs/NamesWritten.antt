@@ -16,7 +16,7 @@ use Rattle.dns_wire.specs.TargetLaws.{NameAtWithin, Agree}
 use Rattle.dns_wire.proofs.theory.Stability.{agreed, agree_label, name_of_within, wider_in}
 use Rattle.dns_wire.proofs.theory.CompressedNames.{at_before, at_first, at_offset, at_second, root_at, label_begins, label_octets, label_part, after_label, pointer_at}
 use Rattle.dnsm_put.specs.Writing.{IsPut, LeadsTo, IsNamed}
-use Rattle.dnsm_put.proofs.Buffers.{at_over, length_over, take_over, at_agreed, agree_of_take}
+use Rattle.dnsm_put.proofs.Buffers.{at_over, length_over, take_over, at_agreed, agree_both, agree_from, agree_of_take, agree_to}
 use Rattle.dnsm_put.proofs.Steps.{Progress, next_label}
 
 -- labels, each after its length octet
@@ -194,4 +194,18 @@ written_whole out0 out2 top at most q octets n is e low room put =
       name = λ c a b. let l = b.long in name_of_within (omega arith) (made c b).name;
       ends = λ c a b. subst (λ k. NameEndsAt c at k) j (made c b).ends;
       pointed = λ c a b. subst (λ k. WellPointed c k at) j (made c b).pointed;
+    }
+
+-- A name stays where the octets up to its end do.
+pub named_kept : (b c : List ℕ) (top p q : ℕ) (n : Labels) → 12 ≤ p → top ≤ q → q ≤ length c → take q c ≡ take q b → IsNamed b top p q n → IsNamed c top p q n
+named_kept b c top p q n low under long kept h =
+    let both : Agree b c 12 q = agree_of_take b c 12 q long kept in
+    let first = λ (x : List ℕ) (a : Agree c x 12 top). agree_both (omega arith) (agree_to under both) a in
+    let own = λ (x : List ℕ) (a : Agree c x p q). agree_both (omega arith) (agree_from low both) a in
+    record {
+      after = h.after;
+      within = long;
+      name = λ x a d. h.name x (first x a) (own x d);
+      ends = λ x a d. h.ends x (first x a) (own x d);
+      pointed = λ x a d. h.pointed x (first x a) (own x d);
     }

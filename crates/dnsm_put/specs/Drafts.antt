@@ -21,7 +21,7 @@ pub record HoldsItems (b : List ℕ) (end : ℕ) (s : State) : Type 0 where
   pub answers_start : ℕ
   pub authorities_start : ℕ
   pub additionals_start : ℕ
-  pub questions : AllFrom (QuestionFrom b) s.questions 12 answers_start
+  pub questions : AllFrom (QuestionFrom b) s.questions header_size answers_start
   pub answers : AllFrom (RecordFrom b) s.answers answers_start authorities_start
   pub authorities : AllFrom (RecordFrom b) s.authorities authorities_start additionals_start
   pub additionals : AllFrom (RecordFrom b) s.additionals additionals_start end
@@ -37,7 +37,7 @@ pub record IsDraftOf (b : List ℕ) (d : Draft) (s : State) : Type 0 where
   pub no_answers : d.section < 1 → s.answers ≡ []
   pub no_authorities : d.section < 2 → s.authorities ≡ []
   pub no_additionals : d.section < 3 → s.additionals ≡ []
-  pub items : (c : List ℕ) → Agree b c 12 d.len → HoldsItems c d.len s
+  pub items : (c : List ℕ) → Agree b c header_size d.len → HoldsItems c d.len s
 
 -- What an accepted item adds to the state, in its section: the question, or the record, that it is.
 pub record AddsTo (section : ℕ) (IsAsked : QuestionItem → Type 0) (IsStated : RecordItem → Type 0) (b c : List ℕ) (d e : Draft) : Type 0 where

@@ -1,6 +1,8 @@
 -- What the items of a caller mean, and where they are encoded. RFC 1035 sections 4.1.2 and 4.1.3.
-use Rattle.std.specs.Prelude.{◌≡◌, ◌≢◌, ℕ, ◌+◌, List, length, ◌==◌, if◌then◌else◌}
+use Rattle.std.specs.Prelude.{◌≡◌, ◌≢◌, ℕ, ◌+◌, List, [], ◌∷◌, ◌++◌, length, ◌==◌, if◌then◌else◌}
+use Rattle.std.specs.Int.{to_be_bytes, w16, w32}
 use Rattle.dns_name.specs.Names.{uncompressed}
+use Rattle.dns_code.specs.HeaderSection.{header_size}
 use Rattle.dns_wire.specs.Parts.{Part, PartsPointed}
 use Rattle.dns_wire.specs.TargetLaws.{Agree}
 use Rattle.dns_item.specs.Questions.{QuestionItem, IsQuestion, ReadsQuestion}
@@ -34,6 +36,10 @@ pub record IsRecordWith (item : PutItem) (fields : List Part) (x : RecordItem) :
   pub ttl : x.ttl ≡ item.ttl
   pub parts : x.parts ≡ fields
 
+-- the ten octets after the owner of a record, with RDLENGTH zero
+abbrev pub head_octets : PutItem → List ℕ
+head_octets item = to_be_bytes w16 item.rtype ++ to_be_bytes w16 item.class ++ to_be_bytes w32 item.ttl ++ (0 ∷ 0 ∷ [])
+
 -- The item means a question, or a record.
 pub record Means (item : PutItem) : Type 0 where
   pub question : item.section ≡ 0 → (x : QuestionItem) × IsQuestionOf item x
@@ -55,8 +61,8 @@ pub record RecordFrom (b : List ℕ) (p q : ℕ) (x : RecordItem) : Type 0 where
 
 -- The question is encoded so in all octets that are the same from the end of the header section to q.
 abbrev pub HoldsQuestion : List ℕ → ℕ → ℕ → QuestionItem → Type 0
-HoldsQuestion b p q x = (c : List ℕ) → Agree b c 12 q → QuestionFrom c p q x
+HoldsQuestion b p q x = (c : List ℕ) → Agree b c header_size q → QuestionFrom c p q x
 
 -- The record is encoded so in all octets that are the same from the end of the header section to q.
 abbrev pub HoldsRecord : List ℕ → ℕ → ℕ → RecordItem → Type 0
-HoldsRecord b p q x = (c : List ℕ) → Agree b c 12 q → RecordFrom c p q x
+HoldsRecord b p q x = (c : List ℕ) → Agree b c header_size q → RecordFrom c p q x

@@ -1,5 +1,5 @@
 -- RDATA of the record types of RFC 1035 with names in it (sections 3.3.1 to 3.3.14), as a caller passes it: uncompressed.
-use Rattle.std.specs.Prelude.{◌≡◌, ℕ, zero, suc, ◌≤◌, List, [], ◌∷◌, ◌++◌, length, take, drop, ◌==◌, ◌&&◌, ◌||◌, if◌then◌else◌}
+use Rattle.std.specs.Prelude.{◌≡◌, ℕ, zero, suc, ◌≤◌, List, [], ◌∷◌, ◌++◌, length, take, drop, ◌==◌, if◌then◌else◌}
 use Rattle.dns_name.specs.Names.{Labels, IsName, uncompressed}
 use Rattle.dns_name.specs.Uncompressed.{IsUncompressed}
 use Rattle.dns_wire.specs.Parts.{Part, Octets, CompressibleName}
@@ -25,9 +25,13 @@ type_layout rtype =
     else if rtype == 12 then Name 0
     else Plain
 
--- the layout of the RDATA of an item. A record of class NONE (254) or ANY (255) may have none, whatever its type (RFC 2136 section 2.4).
+-- the type by whose fields the RDATA of an item is read. RFC 2136 section 2.4
+abbrev pub data_type : PutItem → ℕ
+data_type item = layout_type item.class (length item.rdata.now) item.rtype
+
+-- the layout of the RDATA of an item
 abbrev pub layout_of : PutItem → Layout
-layout_of item = if (length item.rdata.now == 0) && ((item.class == 254) || (item.class == 255)) then Plain else type_layout item.rtype
+layout_of item = type_layout (data_type item)
 
 -- two uncompressed names, and then `after` octets
 pub record AreTwoNames (after : ℕ) (rdata : List ℕ) : Type 0 where
@@ -60,10 +64,6 @@ abbrev pub AreDataOf : Layout → List ℕ → List Part → Type 0
 AreDataOf (Name before) rdata parts = (n : Labels) × (parts ≡ octets_before before rdata ++ (CompressibleName n ∷ [])) × (drop before rdata ≡ uncompressed n)
 AreDataOf (TwoNames after) rdata parts = (t : AreTwoNames after rdata) × (parts ≡ CompressibleName t.first ∷ CompressibleName t.second ∷ octets_alone t.rest)
 AreDataOf Plain rdata parts = parts ≡ octets_alone rdata
-
--- the type by whose fields the RDATA of an item is read. RFC 2136 section 2.4
-abbrev pub data_type : PutItem → ℕ
-data_type item = layout_type item.class (length item.rdata.now) item.rtype
 
 -- The RDATA of an item is the fields of its record type, uncompressed.
 abbrev pub IsTypeData : PutItem → Type 0

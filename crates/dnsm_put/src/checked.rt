@@ -4,24 +4,34 @@ ghost use Rattle.dnsm_put.specs.Rdata.{HasFields, IsTypeData, layout_of};
 ghost use Rattle.dnsm_put.specs.Refusals.{LacksData};
 
 use crate::draft::{Draft, PutItem};
-use crate::rdata::has_fields;
-use dns_iana::{Class, Rtype};
-use fields_octets::{FieldData, layout_type};
-
-/// The numbers of the types A and AAAA (RFC 1035 section 3.2.2, RFC 3596 section 2.1).
-const A: u16 = 1;
-
-const AAAA: u16 = 28;
+use crate::rdata::{Layout, data_type, has_fields, layout_of_item};
+use dns_iana::Rtype;
+use fields_octets::FieldData;
 
 /// Whether an item is an A or AAAA record with an address of 4 or 16 octets.
 #[inline(always)]
 fn is_address(item: &PutItem<'_>) -> bool
     ensures { result ≡ true → IsTypeData item.now }
 {
+    let rtype = Rtype::from_int(item.rtype);
     match item.rdata.len() {
-        4 => item.rtype == A,
-        16 => item.rtype == AAAA,
+        4 => rtype == Rtype::A,
+        16 => rtype == Rtype::AAAA,
         _ => false,
+    }
+}
+
+/// Whether the record type has names that may be compressed. RDATA with these names, and the octets
+/// beside them, is all fields of the type.
+#[inline(always)]
+fn has_names(item: &PutItem<'_>) -> bool
+    ensures { result ≡ true → HasFields (layout_of item.now) item.now.rdata.now
+        → IsTypeData item.now }
+{
+    match layout_of_item(item) {
+        Layout::Name(_before) => true,
+        Layout::TwoNames(_after) => true,
+        Layout::Plain => false,
     }
 }
 
@@ -30,10 +40,7 @@ fn are_fields(item: &PutItem<'_>) -> bool
     ensures yes { result ≡ true → IsTypeData item.now }
     ensures no { result ≡ false → IsTypeData item.now → ⊥ }
 {
-    let rtype = Rtype::from_int(item.rtype);
-    let class = Class::from_int(item.class);
-    let layout = layout_type(rtype, class, item.rdata.len());
-    match FieldData::from_uncompressed(layout, item.rdata) {
+    match FieldData::from_uncompressed(data_type(item), item.rdata) {
         Ok(_fields) => true,
         Err(_) => false,
     }
@@ -53,5 +60,5 @@ pub(crate) fn may_have(draft: &Draft, item: &PutItem<'_>) -> bool
     if draft.unchecked != 0 {
         return true;
     }
-    is_address(item) || are_fields(item)
+    has_names(item) || is_address(item) || are_fields(item)
 }

@@ -9,47 +9,26 @@ ghost use Rattle.fields_octets.specs.FieldOrders.{parts_left};
 ghost use Rattle.dnsm_put.specs.Items.{HoldsRecord, IsQuestionOf, IsRecordWith};
 ghost use Rattle.dnsm_put.specs.Drafts.{AddsTo};
 ghost use Rattle.dnsm_read.specs.DataFields.{IsDataIn};
-ghost use Rattle.dnsm_put.specs.Copies.{AddsFrom, HasNumbers, IsCopyWith, IsItemIn, IsRefusedFrom};
+ghost use Rattle.dnsm_put.specs.Copies.{AddsFrom, HasNumbers, IsCopyWith, IsItemIn, IsRefusedFrom, TakesIn};
 
 use crate::draft::{Draft, PutError, PutItem};
 use crate::fields::put_fields;
-use crate::items::{ADDITIONAL, QUESTION, append, most_of, record_fields_of};
-use crate::names::put_name;
-use crate::octets::put_octets;
+use crate::items::{ADDITIONAL, QUESTION, append, most_of, put_head, put_rdlength};
 use dns_code::HeaderSection;
-use dns_data::ParseAnyRecordData;
-use dns_iana::{Class, Rtype};
-use dns_name::Parser;
-use dnsm_read::Item;
 use dnsm_read::walk::name_at;
-use fields_octets::{FieldData, Fields, layout_type};
+use dnsm_read::{Item, data_fields};
+use fields_octets::{FieldData, Fields};
 
-/// The RDATA of an item, if it is the fields of its record type and ends after them.
+/// The RDATA of a record, if it is the fields of its type and ends after them.
 fn data_in<'a>(message: &'a [u8], item: &Item) -> Option<FieldData<'a>>
+    requires { item.now.section ≢ 0 }
     ensures some { IfSome result (λ fields. IsDataIn message.now item.now (parts_of fields)) }
     ensures none { IfNone result ((parts : List Part) → IsDataIn message.now item.now parts → ⊥) }
 {
-    let len = usize::from(item.data_len);
-    if item.data > message.len() || len > message.len() - item.data {
-        return None;
+    match data_fields::fields(message, item) {
+        Ok((_seen, fields)) => Some(fields),
+        Err(_) => None,
     }
-    let end = item.data + len;
-    let mut parser = Parser::new(&message[..end]);
-    let Ok(()) = parser.seek(item.data) else {
-        return None;
-    };
-    let layout = layout_type(
-        Rtype::from_int(item.rtype),
-        Class::from_int(item.class),
-        len,
-    );
-    let Ok(fields) = FieldData::parse_any_rdata(layout, &mut parser) else {
-        return None;
-    };
-    if parser.pos() < end {
-        return None;
-    }
-    Some(fields)
 }
 
 /// Writes a record with these fields as its RDATA at offset `at`. Returns the offset after it, or
@@ -71,16 +50,16 @@ fn put_record_with(
         → IsRecordWith item.now (parts_left fields.entry) x → HoldsRecord out.new at end x) }
     ensures within { IfSome result (λ end. end ≤ most) }
     ensures after { IfSome result (λ end. at ≤ end) }
+    ensures size { IfSome result (λ end. end
+        ≤ at + (length item.now.name.now + 10 + parts_size (parts_left fields.entry))) }
     ensures room { at + (length item.now.name.now + 10 + parts_size (parts_left fields.entry))
         ≤ most → IsSome result }
     ensures length { length out.new ≡ length out.old }
     ensures kept { take at out.new ≡ take at out.old }
 {
-    let after = put_name(hints, out, at, most, at, item.name)?;
-    let start = put_octets(out, after, most, &record_fields_of(item))?;
-    let end = put_fields(hints, out, start, most, after, fields)?;
-    let size = (end - start) as u16;
-    let _size = put_octets(out, after + 8, most, &size.to_be_bytes());
+    let after = put_head(hints, out, at, most, item)?;
+    let end = put_fields(hints, out, after + 10, most, after, fields)?;
+    put_rdlength(out, after, end);
     Some(end)
 }
 
@@ -99,6 +78,8 @@ fn append_record(
         (IsRecordWith item.now (parts_left fields.entry)) out.old out.new draft.old draft.new) }
     ensures room { OnOk result ((draft.new.len + draft.old.reserved ≤ length out.old)
         × (draft.new.len + draft.old.reserved ≤ draft.old.limit)) }
+    ensures size { OnOk result (draft.new.len ≤ draft.old.len
+        + (length item.now.name.now + 10 + parts_size (parts_left fields.entry))) }
     ensures section { OnOk result (draft.new.section ≡ item.now.section) }
     ensures few { OnOk result (get_or draft.old.counts item.now.section 0 < 65535) }
     ensures refused { IfErr result (λ error.
@@ -169,6 +150,8 @@ pub(crate) fn append_from(
     ensures means { OnOk result (IsItemIn message.now item.now) }
     ensures room { OnOk result ((draft.new.len + draft.old.reserved ≤ length out.old)
         × (draft.new.len + draft.old.reserved ≤ draft.old.limit)) }
+    ensures size { OnOk result ((size : ℕ) × TakesIn message.now item.now size
+        × (draft.new.len ≤ draft.old.len + size)) }
     ensures section { OnOk result (draft.new.section ≡ item.now.section) }
     ensures refused { IfErr result (λ error.
         IsRefusedFrom draft.old (length out.old) message.now item.now error) }

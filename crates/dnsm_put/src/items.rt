@@ -2,11 +2,15 @@
 ghost use Rattle.std.specs.Prelude.{◌≡◌, ◌≢◌, ℕ, ◌+◌, ◌-◌, ◌<◌, ◌≤◌, ◌++◌, ◌^◌, ◌∷◌, [], length, take, min, IfSome, IsSome, IfErr, OnOk, OnErr};
 ghost use Rattle.std.specs.Int.{to_be_bytes, w16, w32};
 ghost use Rattle.dns_code.specs.HeaderSection.{header_size};
+ghost use Rattle.dns_octets.specs.Octets.{overwritten};
+ghost use Rattle.dns_name.specs.Names.{Labels, IsName, uncompressed};
 ghost use Rattle.dns_name.specs.Uncompressed.{IsUncompressed};
+ghost use Rattle.dns_wire.specs.Targets.{At};
 ghost use Rattle.dns_item.specs.Questions.{QuestionItem};
 ghost use Rattle.dns_item.specs.Items.{RecordItem};
 ghost use Rattle.dnsm_put.specs.Rdata.{HasFields, layout_of};
-ghost use Rattle.dnsm_put.specs.Items.{HoldsQuestion, HoldsRecord, IsQuestionOf, IsRecordOf, Means, item_size};
+ghost use Rattle.dnsm_put.specs.Writing.{HintsWithin, IsNamed};
+ghost use Rattle.dnsm_put.specs.Items.{HoldsQuestion, HoldsRecord, IsQuestionOf, IsRecordOf, Means, head_octets, item_size};
 ghost use Rattle.dnsm_put.specs.Drafts.{Adds};
 ghost use Rattle.dnsm_put.specs.Refusals.{IsAcceptable, IsRefused};
 
@@ -49,7 +53,7 @@ fn question_fields_of(item: &PutItem<'_>) -> [u8; 4]
 
 /// The eight octets after the owner of a record, and two for RDLENGTH, which are zero.
 #[inline(always)]
-pub(crate) fn record_fields_of(item: &PutItem<'_>) -> [u8; 10]
+fn record_fields_of(item: &PutItem<'_>) -> [u8; 10]
     ensures { result ≡ to_be_bytes w16 item.now.rtype ++ to_be_bytes w16 item.now.class
         ++ to_be_bytes w32 item.now.ttl ++ (0 ∷ 0 ∷ []) }
 {
@@ -77,12 +81,56 @@ pub(crate) fn put_question(
         → HoldsQuestion out.new at end x) }
     ensures within { IfSome result (λ end. end ≤ most) }
     ensures after { IfSome result (λ end. at ≤ end) }
+    ensures size { IfSome result (λ end. end ≤ at + (length item.now.name.now + 4)) }
     ensures room { at + (length item.now.name.now + 4) ≤ most → IsSome result }
+    ensures hints { IfSome result (λ end. HintsWithin at hints.old → HintsWithin end hints.new) }
     ensures length { length out.new ≡ length out.old }
     ensures kept { take at out.new ≡ take at out.old }
 {
     let fields = put_name(hints, out, at, most, at, item.name)?;
     put_octets(out, fields, most, &question_fields_of(item))
+}
+
+/// Writes the owner of a record at offset `at`, and the ten octets after it, of which RDLENGTH is
+/// zero. Returns the offset after the owner, or `None` if the ten octets would end past `most`.
+#[inline(always)]
+pub(crate) fn put_head(
+    hints: &mut [u16; 64],
+    out: &mut [u8],
+    at: usize,
+    most: usize,
+    item: &PutItem<'_>,
+) -> Option<usize>
+    requires most { most ≤ length out.old }
+    requires at { at ≤ most }
+    requires after_header { header_size ≤ at }
+    requires name { IsUncompressed item.now.name.now }
+    ensures owner { IfSome result (λ after. (n : Labels) → IsName n
+        → item.now.name.now ≡ uncompressed n → IsNamed out.new at at after n) }
+    ensures fields { IfSome result (λ after. At out.new after (head_octets item.now)) }
+    ensures within { IfSome result (λ after. after + 10 ≤ most) }
+    ensures after { IfSome result (λ after. at ≤ after) }
+    ensures size { IfSome result (λ after. after ≤ at + length item.now.name.now) }
+    ensures room { at + (length item.now.name.now + 10) ≤ most → IsSome result }
+    ensures length { length out.new ≡ length out.old }
+    ensures kept { take at out.new ≡ take at out.old }
+{
+    let after = put_name(hints, out, at, most, at, item.name)?;
+    let _start = put_octets(out, after, most, &record_fields_of(item))?;
+    Some(after)
+}
+
+/// Writes RDLENGTH in a record whose owner ends at `after`, and whose RDATA ends at `end`.
+#[inline(always)]
+pub(crate) fn put_rdlength(out: &mut [u8], after: usize, end: usize)
+    requires within { end ≤ length out.old }
+    requires start { after + 10 ≤ end }
+    requires short { end ≤ after + 10 + 65535 }
+    ensures { out.new
+        ≡ overwritten out.old (after + 8) (to_be_bytes w16 (end - (after + 10))) }
+{
+    let size = (end - (after + 10)) as u16;
+    let _size = put_octets(out, after + 8, end, &size.to_be_bytes());
 }
 
 /// Writes a record at offset `at`. Returns the offset after it, or `None` if it would be past
@@ -105,16 +153,16 @@ fn put_record(
         → HoldsRecord out.new at end x) }
     ensures within { IfSome result (λ end. end ≤ most) }
     ensures after { IfSome result (λ end. at ≤ end) }
+    ensures size { IfSome result (λ end.
+        end ≤ at + (length item.now.name.now + 10 + length item.now.rdata.now)) }
     ensures room { at + (length item.now.name.now + 10 + length item.now.rdata.now) ≤ most
         → IsSome result }
     ensures length { length out.new ≡ length out.old }
     ensures kept { take at out.new ≡ take at out.old }
 {
-    let fields = put_name(hints, out, at, most, at, item.name)?;
-    let start = put_octets(out, fields, most, &record_fields_of(item))?;
-    let end = put_rdata(hints, out, start, most, fields, item)?;
-    let size = (end - start) as u16;
-    let _size = put_octets(out, fields + 8, most, &size.to_be_bytes());
+    let after = put_head(hints, out, at, most, item)?;
+    let end = put_rdata(hints, out, after + 10, most, after, item)?;
+    put_rdlength(out, after, end);
     Some(end)
 }
 
@@ -141,6 +189,7 @@ fn put_item(
         → IsRecordOf item.now x → HoldsRecord out.new at end x) }
     ensures within { IfSome result (λ end. end ≤ most) }
     ensures after { IfSome result (λ end. at ≤ end) }
+    ensures size { IfSome result (λ end. end ≤ at + item_size item.now) }
     ensures room { at + item_size item.now ≤ most → IsSome result }
     ensures length { length out.new ≡ length out.old }
     ensures kept { take at out.new ≡ take at out.old }
@@ -195,6 +244,7 @@ pub(crate) fn append(draft: &mut Draft, out: &mut [u8], item: &PutItem<'_>) -> R
     ensures means { OnOk result (Means item.now) }
     ensures room { OnOk result ((draft.new.len + draft.old.reserved ≤ length out.old)
         × (draft.new.len + draft.old.reserved ≤ draft.old.limit)) }
+    ensures size { OnOk result (draft.new.len ≤ draft.old.len + item_size item.now) }
     ensures section { OnOk result (draft.new.section ≡ item.now.section) }
     ensures acceptable { OnOk result (IsAcceptable draft.old item.now) }
     ensures refused { IfErr result (λ error.

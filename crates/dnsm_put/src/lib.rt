@@ -24,13 +24,13 @@ mod octets;
 mod rdata;
 mod response;
 
-ghost use Rattle.std.specs.Prelude.{◌≡◌, ◌⊎◌, ◌+◌, ◌<◌, ◌≤◌, length, take, replicate, IfOk, IfErr, OnOk, OnErr};
+ghost use Rattle.std.specs.Prelude.{◌≡◌, ◌⊎◌, ℕ, ◌+◌, ◌<◌, ◌≤◌, length, take, replicate, IfOk, IfErr, OnOk, OnErr};
 ghost use Rattle.dns_build.specs.State.{State, with_header, up_to, InBuilder};
 ghost use Rattle.dns_build.specs.MessageOf.{ReadsBack, PointsToLabels};
 ghost use Rattle.dns_code.specs.HeaderSection.{header_size};
 ghost use Rattle.dns_octets.specs.Octets.{overwritten};
-ghost use Rattle.dnsm_put.specs.Copies.{AddsFrom, IsItemIn, IsRefusedFrom};
-ghost use Rattle.dnsm_put.specs.Items.{Means};
+ghost use Rattle.dnsm_put.specs.Copies.{AddsFrom, IsItemIn, IsRefusedFrom, TakesIn};
+ghost use Rattle.dnsm_put.specs.Items.{Means, item_size};
 ghost use Rattle.dnsm_put.specs.Drafts.{Adds, DraftsStay, IsDraftOf, header_of, header_octets_of, HasSmallCounts};
 ghost use Rattle.dnsm_put.specs.Refusals.{IsAcceptable, IsRefused};
 ghost use Rattle.dnsm_put.specs.declared.draft.Draft.{Draft};
@@ -42,8 +42,9 @@ pub use draft::{Draft, PutError, PutItem};
 use octets::put_octets;
 pub use response::{ResponseError, begin_response};
 
-/// Begins a message without items, in a buffer of at least 12 octets. There is no limit, no octet is
-/// reserved, RDATA is checked, and no hint of an older draft is left. Writes nothing to the buffer.
+/// Begins a message without items, in a buffer of at least 12 octets. There is no limit, no octet
+/// is reserved, RDATA is checked, and no hint of an older draft is left. Writes nothing to the
+/// buffer.
 pub fn begin(draft: &mut Draft, out: &[u8], id: u16, flags: u16) -> Result<(), PutError>
     ensures begun { OnOk result ((s : State) → IsDraftOf out.now draft.new (up_to InBuilder s)) }
     ensures header { OnOk result ((draft.new.id ≡ id) × (draft.new.flags ≡ flags)) }
@@ -68,6 +69,7 @@ pub fn put(draft: &mut Draft, out: &mut [u8], item: &PutItem<'_>) -> Result<(), 
     ensures means { OnOk result (Means item.now) }
     ensures room { OnOk result ((draft.new.len + draft.old.reserved ≤ length out.old)
         × (draft.new.len + draft.old.reserved ≤ draft.old.limit)) }
+    ensures size { OnOk result (draft.new.len ≤ draft.old.len + item_size item.now) }
     ensures section { OnOk result (draft.new.section ≡ item.now.section) }
     ensures acceptable { OnOk result (IsAcceptable draft.old item.now) }
     ensures refused { IfErr result (λ error.
@@ -84,10 +86,10 @@ pub fn put(draft: &mut Draft, out: &mut [u8], item: &PutItem<'_>) -> Result<(), 
     items::append(draft, out, item)
 }
 
-/// Appends an item of another message, as `dnsm_next` gives it: the name at its offset, its type and
-/// class, and its TTL, which a cache may have lowered, in its section. Names in its RDATA are
-/// decompressed, and those of types of RFC 1035 compressed anew (RFC 3597 section 4). On an error the
-/// octets of the buffer after the message may have changed.
+/// Appends an item of another message, as `dnsm_next` gives it: the name at its offset, its type
+/// and class, and its TTL, which a cache may have lowered, in its section. Names in its RDATA are
+/// decompressed, and those of types of RFC 1035 compressed anew (RFC 3597 section 4). On an error
+/// the octets of the buffer after the message may have changed.
 pub fn put_from(
     draft: &mut Draft,
     out: &mut [u8],
@@ -99,6 +101,8 @@ pub fn put_from(
     ensures means { OnOk result (IsItemIn message.now item.now) }
     ensures room { OnOk result ((draft.new.len + draft.old.reserved ≤ length out.old)
         × (draft.new.len + draft.old.reserved ≤ draft.old.limit)) }
+    ensures size { OnOk result ((size : ℕ) × TakesIn message.now item.now size
+        × (draft.new.len ≤ draft.old.len + size)) }
     ensures section { OnOk result (draft.new.section ≡ item.now.section) }
     ensures refused { IfErr result (λ error.
         IsRefusedFrom draft.old (length out.old) message.now item.now error) }

@@ -3,17 +3,14 @@ ghost use Rattle.std.specs.Prelude.{◌≡◌, ◌+◌, ◌≤◌, ◌++◌, Lis
 ghost use Rattle.dns_code.specs.HeaderSection.{header_size};
 ghost use Rattle.dns_name.specs.Names.{Labels, IsName, uncompressed};
 ghost use Rattle.dns_wire.specs.Parts.{AreParts, Part};
-ghost use Rattle.dnsm_put.specs.Rdata.{AreDataOf, HasFields, layout_of, type_layout};
+ghost use Rattle.dnsm_put.specs.Rdata.{AreDataOf, HasFields, data_type, layout_of, type_layout};
 ghost use Rattle.dnsm_put.specs.Writing.{AreWritten};
 
 use crate::draft::PutItem;
 use crate::names::{is_name, put_name};
 use crate::octets::put_octets;
-
-/// The numbers of the classes NONE and ANY.
-const CLASS_NONE: u16 = 254;
-
-const CLASS_ANY: u16 = 255;
+use dns_iana::{Class, Rtype};
+use fields_octets::layout_type;
 
 /// What RDATA consists of, as far as names are concerned.
 #[derive(Clone, Copy)]
@@ -42,16 +39,23 @@ fn layout_of_type(rtype: u16) -> Layout
     }
 }
 
-/// The layout of the RDATA of an item. A record of class NONE or ANY may have none, whatever its
-/// type (RFC 2136 section 2.4).
+/// The type by whose fields the RDATA of an item is read. A record of class NONE or ANY may have no
+/// RDATA, whatever its type (RFC 2136 section 2.4).
 #[inline(always)]
-fn layout_of_item(item: &PutItem<'_>) -> Layout
+pub(crate) fn data_type(item: &PutItem<'_>) -> Rtype
+    ensures { result ≡ data_type item.now }
+{
+    let rtype = Rtype::from_int(item.rtype);
+    let class = Class::from_int(item.class);
+    layout_type(rtype, class, item.rdata.len())
+}
+
+/// The layout of the RDATA of an item.
+#[inline(always)]
+pub(crate) fn layout_of_item(item: &PutItem<'_>) -> Layout
     ensures { result ≡ layout_of item.now }
 {
-    if item.rdata.is_empty() && (item.class == CLASS_NONE || item.class == CLASS_ANY) {
-        return Layout::Plain;
-    }
-    layout_of_type(item.rtype)
+    layout_of_type(data_type(item).to_int())
 }
 
 /// The length of the name with which the octets begin, if they begin with an uncompressed name.

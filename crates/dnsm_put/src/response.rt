@@ -4,9 +4,11 @@ ghost use Rattle.std.specs.Int.{to_be_bytes, w16};
 ghost use Rattle.dns_name.specs.Names.{uncompressed};
 ghost use Rattle.dns_code.specs.Header.{fields, fields_in};
 ghost use Rattle.dns_item.specs.Question.{parsed_question};
+ghost use Rattle.dns_item.specs.Questions.{QuestionItem};
 ghost use Rattle.dns_build.specs.State.{State, with_question, up_to, InBuilder};
 ghost use Rattle.dnsm_put.specs.Drafts.{IsDraftOf, empty_draft};
 ghost use Rattle.dnsm_put.specs.Responses.{AsksIn, BeginsResponse, IsUnanswered, asked_size, response_header};
+ghost use Rattle.dnsm_put.specs.Writing.{HintsWithin};
 
 use crate::draft::{Draft, PutItem, clear};
 use crate::items::{QUESTION, put_question};
@@ -122,6 +124,8 @@ fn put_first(draft: &mut Draft, out: &mut [u8], question: &Question<ParsedName<'
       counts = draft.new.counts;
       hints = draft.new.hints;
     } }
+    ensures size { draft.new.len ≤ asked_size (parsed_question question.now) }
+    ensures hints { HintsWithin draft.new.len draft.new.hints }
     ensures length { length out.new ≡ length out.old }
 {
     let item = PutItem {
@@ -152,6 +156,8 @@ fn put_asked(draft: &mut Draft, out: &mut [u8], question: &Question<ParsedName<'
       counts = draft.new.counts;
       hints = draft.new.hints;
     } }
+    ensures size { draft.new.len ≤ asked_size (parsed_question question.now) }
+    ensures hints { HintsWithin draft.new.len draft.new.hints }
     ensures length { length out.new ≡ length out.old }
 {
     match question.qname().as_flat_slice() {
@@ -164,11 +170,11 @@ fn put_asked(draft: &mut Draft, out: &mut [u8], question: &Question<ParsedName<'
 }
 
 /// Begins the response to a query, with the query's question and no other item: its ID, opcode, RD
-/// and CD, QR set, the low four bits of `rcode`, and no other flag. Whoever validates nothing clears
-/// CD afterwards.
+/// and CD, QR set, the low four bits of `rcode`, and no other flag. Whoever validates nothing
+/// clears CD afterwards.
 ///
-/// There is no limit, no octet is reserved, and RDATA is checked. For a query whose question can't
-/// be read, `begin` begins a response without a question.
+/// There is no limit, no octet is reserved, RDATA is checked, and no hint of an older draft is
+/// left. For a query whose question can't be read, `begin` begins a response without a question.
 pub fn begin_response(
     draft: &mut Draft,
     out: &mut [u8],
@@ -179,6 +185,9 @@ pub fn begin_response(
     ensures settings { OnOk result ((draft.new.limit ≡ usize.MAX) × (draft.new.reserved ≡ 0)
         × (draft.new.unchecked ≡ 0)) }
     ensures section { OnOk result (draft.new.section ≡ 0) }
+    ensures size { OnOk result ((asked : QuestionItem) × AsksIn query.now asked
+        × (draft.new.len ≤ asked_size asked) × (asked_size asked ≤ length out.old)) }
+    ensures hints { OnOk result (HintsWithin draft.new.len draft.new.hints) }
     ensures refused { IfErr result (λ error.
         IsUnanswered query.now (length out.old) error) }
     ensures same { OnErr result ((draft.new ≡ draft.old) × (out.new ≡ out.old)) }

@@ -5,7 +5,7 @@ use Rattle.dns_name.specs.Unique.{encoded_name}
 use Rattle.fields_octets.specs.FieldOrders.{parts_left}
 use Rattle.dnsm_put.specs.Copies.{IsRefusedFrom}
 use Rattle.dnsm_put.specs.Refusals.{IsRefused}
-use Rattle.dnsm_put.proofs.Copied.{data_left, is_item, no_reason_from, question_adds, question_refused, read_copy, record_adds, record_refused}
+use Rattle.dnsm_put.proofs.Copied.{data_left, is_item, no_reason_from, question_adds, question_refused, question_takes, read_copy, record_adds, record_refused, record_takes}
 use Rattle.dnsm_put.proofs.copies.append_from.Goals as goal
 
 pub returns-in_default-clause-refused : goal.returns-in_default-clause-refused
@@ -13,7 +13,8 @@ returns-in_default-clause-refused c =
     let lacks = c.in_default.ensures.none in
     record {
       due = (lacks.0, lacks.1);
-      first = no_reason_from c.args.draft.now (length c.args.out.now) c.args.message.now c.args.item.now 1 (λ l. (omega arith, omega arith)) (λ l. absurd (omega arith)) (λ l. absurd (omega arith)) (λ l. absurd (omega arith)) (omega arith);
+      first = no_reason_from c.args.draft.now (length c.args.out.now) c.args.message.now c.args.item.now 1
+          (λ l. (omega arith, omega arith)) (λ l. absurd (omega arith)) (λ l. absurd (omega arith)) (λ l. absurd (omega arith)) (omega arith);
     }
 
 pub returns-then-item-eq-QUESTION-clause-adds : goal.returns-then-item-eq-QUESTION-clause-adds
@@ -52,7 +53,8 @@ pub returns-in_default-data_in-clause-refused : goal.returns-in_default-data_in-
 returns-in_default-data_in-clause-refused c =
     record {
       due = (c.if-item-eq-QUESTION.false, c.in_default-data_in.ensures.none);
-      first = no_reason_from c.args.draft.now (length c.args.out.now) c.args.message.now c.args.item.now 3 (λ l. (omega arith, omega arith)) (λ l. (labels c.in-Ok.name, c.in-Ok.ensures.name)) (λ l. absurd (omega arith)) (λ l. absurd (omega arith)) (omega arith);
+      first = no_reason_from c.args.draft.now (length c.args.out.now) c.args.message.now c.args.item.now 3
+          (λ l. (omega arith, omega arith)) (λ l. (labels c.in-Ok.name, c.in-Ok.ensures.name)) (λ l. absurd (omega arith)) (λ l. absurd (omega arith)) (omega arith);
     }
 
 pub append_record-requires-clause-section : goal.append_record-requires-clause-section
@@ -111,4 +113,24 @@ returns-clause-refused c =
     let parts = parts_left c.fields.result in
     let data_is = data_left b item c.in-Some.fields c.fields.result c.fields.ensures c.in-Some.ensures.some in
     IfErr-weaker c.append_record.result _ (λ error. IsRefusedFrom c.args.draft.now (length c.args.out.now) b item error)
-    (λ error r. record_refused c.args.draft.now (length c.args.out.now) b item copy name parts is data_is c.if-item-eq-QUESTION.false (omega arith) (omega arith) error r) c.append_record.ensures.refused
+    (λ error r. record_refused c.args.draft.now (length c.args.out.now) b item copy name parts is data_is c.if-item-eq-QUESTION.false (omega arith) (omega arith) error r)
+    c.append_record.ensures.refused
+
+pub returns-then-item-eq-QUESTION-clause-size : goal.returns-then-item-eq-QUESTION-clause-size
+returns-then-item-eq-QUESTION-clause-size c =
+    let b = c.args.message.now in
+    let item = c.args.item.now in
+    let name = labels c.in-Ok.name in
+    let is = read_copy c.in-Ok.ensures.name (c.as_slice.ensures.value ∙ c.uncompressed-owner.ensures) c.copy_of-copy.ensures in
+    on_ok_weaker c.append.result (question_takes b item c.copy_of-copy.result name is c.if-item-eq-QUESTION.true c.append.new.draft.len c.args.draft.now.len) c.append.ensures.size
+
+pub returns-clause-size : goal.returns-clause-size
+returns-clause-size c =
+    let b = c.args.message.now in
+    let item = c.args.item.now in
+    let name = labels c.in-Ok.name in
+    let is = read_copy c.in-Ok.ensures.name (c.as_slice.ensures.value ∙ c.uncompressed-owner.ensures) c.copy_of-copy.ensures in
+    let data_is = data_left b item c.in-Some.fields c.fields.result c.fields.ensures c.in-Some.ensures.some in
+    on_ok_weaker c.append_record.result
+    (record_takes b item c.copy_of-copy.result name (parts_left c.fields.result) is data_is c.if-item-eq-QUESTION.false c.append_record.new.draft.len c.args.draft.now.len)
+    c.append_record.ensures.size

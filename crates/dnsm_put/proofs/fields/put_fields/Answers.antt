@@ -21,8 +21,8 @@ loop-field-preserved c =
     record {
       can = tt;
       finite = tt;
-      fielded = fielded_more c.args.out.now c.args.most c.args.top c.args.at _ _ _ c.loop-field.out c.put_field.new.out c.loop-field.end c.in_ok-end.end _ c.requires.after_header c.requires.top left (omega arith)
-          (record {
+      fielded = fielded_more c.args.out.now c.args.most c.args.top c.args.at _ _ _ c.loop-field.out c.put_field.new.out c.loop-field.end c.in_ok-end.end _
+          c.requires.after_header c.requires.top left (omega arith) (record {
             long = c.put_field.ensures.length;
             kept = c.put_field.ensures.kept;
             after = c.in_ok-end.ensures.after;

@@ -46,3 +46,9 @@ put_asked-requires-clause-room c =
 
 pub returns-in-Err-clause-refused : goal.returns-in-Err-clause-refused
 returns-in-Err-clause-refused c = c.in-Err.ensures.refused (length c.args.out.now)
+
+pub returns-clause-size : goal.returns-clause-size
+returns-clause-size c =
+    let size = ap (λ (n : ParsedName). length (uncompressed (labels n))) c.qname.ensures in
+    let l = c.compose_len.ensures in
+    (parsed_question c.in-Ok.question, c.in-Ok.ensures.asks, c.put_asked.ensures.size, omega arith)
