@@ -1,5 +1,5 @@
 //! Makes whole messages.
-ghost use Rattle.std.specs.Prelude.{◌≡◌, ◌≢◌, ◌<◌, ◌≤◌, length, take, None, true};
+ghost use Rattle.std.specs.Prelude.{◌≡◌, ◌≢◌, ◌+◌, ◌<◌, ◌≤◌, length, take, None, true};
 ghost use Rattle.dns_wire.specs.Encoders.{Tree};
 ghost use Rattle.dns_code.specs.Header.{fields_in};
 ghost use Rattle.dns_code.specs.HeaderSection.{header_size};
@@ -8,10 +8,13 @@ ghost use Rattle.dnsm_make.specs.Built.{HasTooMany, IsBuilt, IsUnbuilt, header_o
 ghost use Rattle.dnsm_status.specs.CallerBuffers.{IsLonger, WritesOctets};
 ghost use Rattle.dnsm_status.specs.Codes.{number_of};
 ghost use Rattle.dnsm_make.specs.Made.{AsksNothing, AsksOne, IsQuery, IsResponse};
+ghost use Rattle.dnsm_make.specs.OptQueries.{IsOptQuery, LacksOptQuery};
 ghost use Rattle.dnsm_read.specs.Asked.{HoldsQuery};
 ghost use Rattle.dnsm_text.specs.Texts.{SpellsNoName};
 
+use dnsm_make::query_opt::{self, Asked};
 use dnsm_make::{NewItem, build, make};
+use dnsm_read::Opt;
 use dnsm_status::{CallError, buffers};
 use std::alloc::Global;
 
@@ -37,6 +40,42 @@ pub extern "C" fn dnsm_query(
 {
     match make::query(id, recursion, name, qtype, qclass) {
         Ok(made) => buffers::hand_out(made.as_slice(), out, len),
+        Err(fault) => buffers::refuse(fault, len),
+    }
+}
+
+/// Writes a query as `dnsm_query` does, and an OPT record with the fields of `opt`. `options` are
+/// the octets of its options.
+#[unsafe(no_mangle)]
+pub extern "C" fn dnsm_query_opt(
+    id: u16,
+    recursion: bool,
+    name: &[u8],
+    qtype: u16,
+    qclass: u16,
+    opt: &Opt,
+    options: &[u8],
+    out: &mut [u8],
+    len: &mut usize,
+) -> u32
+    ensures writes { WritesOctets out.old out.new len.new result }
+    ensures query { result ≡ 0 → IsOptQuery id recursion name.now qtype qclass opt.now options.now
+        (take len.new out.new) }
+    ensures no_room { result ≡ number_of CallError.NoRoom → IsLonger
+        (IsOptQuery id recursion name.now qtype qclass opt.now options.now)
+        (length out.old) len.new }
+    ensures short { result ≡ number_of CallError.NoRoom
+        → length out.old < length options.now + 282 }
+    ensures none { result ≢ 0 → result ≢ number_of CallError.NoRoom
+        → LacksOptQuery name.now options.now result }
+{
+    let asked = Asked {
+        name,
+        qtype,
+        qclass,
+    };
+    match query_opt::query_opt(id, recursion, &asked, opt, options, out) {
+        Ok(end) => buffers::finish_octets(end, out, len),
         Err(fault) => buffers::refuse(fault, len),
     }
 }

@@ -3,7 +3,7 @@ ghost use Rattle.std.specs.Prelude.{◌≡◌, ◌≢◌, ◌<◌, ◌≤◌, �
 ghost use Rattle.dns_code.specs.HeaderSection.{header_size};
 ghost use Rattle.dnsm_status.specs.Codes.{number_of};
 ghost use Rattle.dnsm_read.specs.Responses.{Answers, LacksAnswer};
-ghost use Rattle.dnsm_read.specs.Steps.{EndsFrom, IsOpen, Opens, Spans, GivesNext};
+ghost use Rattle.dnsm_read.specs.Steps.{EndsFrom, IsOpen, LeftIn, Opens, ReportsFields, Spans, GivesNext};
 
 use dnsm_read::{Cursor, Header, Item, answers, walk};
 use dnsm_status::{CallError, code};
@@ -35,7 +35,12 @@ pub extern "C" fn dnsm_next(message: &[u8], cursor: &mut Cursor, item: &mut Item
         → EndsFrom message.now cursor.new end → EndsFrom message.now cursor.old end }
     ensures end { cursor.old.status ≡ 0 → result ≡ 1
         → EndsFrom message.now cursor.old cursor.new.place }
-    ensures end_place { result ≡ 1 → cursor.new.place ≡ cursor.old.place }
+    ensures fields { result ≡ 0 → 1 ≤ item.new.section → ReportsFields message.now item.new }
+    ensures left { result ≡ 0
+        → LeftIn message.now cursor.old cursor.new.section (cursor.new.left + 1) }
+    ensures stopped { result ≢ 0 → cursor.new.place ≡ cursor.old.place }
+    ensures settled { result ≢ 0
+        → LeftIn message.now cursor.old cursor.new.section cursor.new.left }
     ensures no_section { cursor.old.status ≡ 0 → 3 < cursor.old.section
         → (result ≡ number_of CallError.BadSection) × (cursor.new ≡ cursor.old) }
     ensures short { cursor.old.status ≡ 0 → cursor.old.section ≤ 3

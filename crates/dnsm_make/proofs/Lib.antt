@@ -1,2 +1,3 @@
 pub mod theory
 mod MadeLemmas
+mod LastNameLemmas

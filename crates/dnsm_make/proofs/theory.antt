@@ -1,1 +1,2 @@
 pub mod BuildLemmas
+pub mod OptQueryLemmas

@@ -1,3 +1,5 @@
 pub mod Made
 pub mod Built
 pub mod NewData
+pub mod OptQueries
+pub mod LastNames

@@ -7,15 +7,16 @@ ghost use Rattle.dns_build.specs.State.{InQuestion, with_questions, with_records
 ghost use Rattle.dns_code.specs.Header.{fields};
 ghost use Rattle.dns_build.specs.BuilderStates.{InEach, MovesState};
 ghost use Rattle.dnsm_status.specs.Codes.{number_of};
-ghost use Rattle.dnsm_text.specs.Texts.{SpellsNoName};
+ghost use Rattle.dns_name.specs.NameTexts.{SpellsName};
 ghost use Rattle.dnsm_make.specs.NewData.{new_rtype, new_parts};
 ghost use Rattle.dnsm_make.specs.Built.{NewEntry, Means, AllMean, AreQuestions, AreRecords, IsQuestionOf, IsRecordOf, IsBuilt, LacksFields, IsRefused, FirstRefused, RefusesEntries, RefusesQuestion, RefusesRecord, IsUnbuilt, questions_among, records_among, header_of};
 
-use crate::new_data::{NewData, fields_of};
+use crate::last_name::LastName;
+use crate::new_data::{NewData, data_of};
+use crate::target::Target;
 use dns_build::{Builder, MessageBuilder, QuestionBuilder, RecordStage};
 use dns_code::{Header, Ttl};
 use dns_iana::{Class, Rtype};
-use dns_target::TreeCompressor;
 use dns_wire::{Composer, MAX_OCTETS};
 use dnsm_status::CallError;
 use dnsm_text::names::{Text, name_of};
@@ -43,35 +44,31 @@ pub struct NewItem<'a> {
     pub section: u8,
 }
 
-/// The target that a message is built on. It allocates.
-type Target = TreeCompressor<Vec<u8>>;
+type NewQuestion<'n> = (&'n Text, Rtype, Class);
 
-type NewQuestion = (Text, Rtype, Class);
+type NewRecord<'n, 'a> = (&'n Text, Class, Ttl, NewData<'a>);
 
-type NewRecord<'a> = (Text, Class, Ttl, NewData<'a>);
-
-/// Converts an item to a question.
-fn question_of(item: &NewItem<'_>) -> Result<NewQuestion, CallError>
-    ensures question { IfOk result (λ made. IsQuestionOf item.now (record {
-      name = name_labels made.0;
-      rtype = made.1;
-      class = made.2;
-    })) }
-    ensures none { IfErr result (λ fault. (fault ≡ CallError.BadText)
-        × SpellsNoName item.now.name.now) }
+/// Converts an item to a question. `name` is the name that its text spells.
+fn question_of<'n>(name: &'n Text, item: &NewItem<'_>) -> NewQuestion<'n>
+    requires { SpellsName item.now.name.now (name_labels name.now) }
+    ensures { IsQuestionOf item.now (record {
+      name = name_labels result.0.now;
+      rtype = result.1;
+      class = result.2;
+    }) }
 {
-    let name = name_of(item.name)?;
-    Ok((
+    (
         name,
         Rtype::from_int(item.rtype),
         Class::from_int(item.class),
-    ))
+    )
 }
 
-/// Converts an item to a record.
-fn record_of<'a>(item: &NewItem<'a>) -> Result<NewRecord<'a>, CallError>
+/// Converts an item to a record. `name` is the name that its text spells.
+fn record_of<'n, 'a>(name: &'n Text, item: &NewItem<'a>) -> Result<NewRecord<'n, 'a>, CallError>
+    requires { SpellsName item.now.name.now (name_labels name.now) }
     ensures made { IfOk result (λ made. IsRecordOf item.now (record {
-      owner = name_labels made.0;
+      owner = name_labels made.0.now;
       rtype = new_rtype made.3;
       class = made.1;
       ttl = made.2;
@@ -79,18 +76,18 @@ fn record_of<'a>(item: &NewItem<'a>) -> Result<NewRecord<'a>, CallError>
     })) }
     ensures none { IfErr result (λ fault. LacksFields item.now (number_of fault)) }
 {
-    let name = name_of(item.name)?;
     if item.rdata.len() > MAX_OCTETS {
         return Err(CallError::LongData);
     }
-    let fields = fields_of(item)?;
-    let rtype = Rtype::from_int(item.rtype);
-    Ok((
-        name,
-        Class::from_int(item.class),
-        Ttl::from_secs(item.ttl),
-        NewData { rtype, fields },
-    ))
+    match data_of(item) {
+        Ok(data) => Ok((
+            name,
+            Class::from_int(item.class),
+            Ttl::from_secs(item.ttl),
+            data,
+        )),
+        Err(fault) => Err(fault),
+    }
 }
 
 /// Checks that an item is a question or a record that can be written.
@@ -101,12 +98,14 @@ fn check(item: &NewItem<'_>) -> Result<(), CallError>
     if item.section > ADDITIONAL {
         return Err(CallError::BadSection);
     }
+    let name = name_of(item.name)?;
     if item.section == QUESTION {
-        let _question = question_of(item)?;
         return Ok(());
     }
-    let _record = record_of(item)?;
-    Ok(())
+    match record_of(&name, item) {
+        Ok(_record) => Ok(()),
+        Err(fault) => Err(fault),
+    }
 }
 
 /// Checks all items. Returns the error of the first bad one.
@@ -128,9 +127,10 @@ fn have_sections(items: &[NewItem<'_>]) -> bool
 }
 
 /// Pushes the questions among `items`, in order. Stops at the first that is refused.
-fn push_questions<T: Composer>(
+fn push_questions<'a, T: Composer>(
     builder: &mut QuestionBuilder<T>,
-    items: &[NewItem<'_>],
+    last: &mut LastName<'a>,
+    items: &[NewItem<'a>],
 ) -> Result<(), CallError>
     ensures questions { OnOk result (AreQuestions items.now) }
     ensures pushed { OnOk result ((xs : List NewEntry) → AllMean items.now xs
@@ -142,7 +142,8 @@ fn push_questions<T: Composer>(
 {
     for item in items {
         if item.section == QUESTION {
-            builder.push(question_of(item)?)?;
+            last.read(item.name)?;
+            builder.push(question_of(last.name(), item))?;
         }
     }
     Ok(())
@@ -150,9 +151,10 @@ fn push_questions<T: Composer>(
 
 /// Pushes the records among `items` that belong to the section of stage `S`, in order. Stops at the
 /// first that is refused.
-fn push_records<T: Composer, S: RecordStage>(
+fn push_records<'a, T: Composer, S: RecordStage>(
     builder: &mut Builder<T, S>,
-    items: &[NewItem<'_>],
+    last: &mut LastName<'a>,
+    items: &[NewItem<'a>],
 ) -> Result<(), CallError>
     ensures records { OnOk result (AreRecords S.section items.now) }
     ensures pushed { OnOk result ((xs : List NewEntry) → AllMean items.now xs
@@ -164,7 +166,11 @@ fn push_records<T: Composer, S: RecordStage>(
 {
     for item in items {
         if usize::from(item.section) + 1 == S::DEPTH {
-            builder.push(record_of(item)?)?;
+            last.read(item.name)?;
+            match record_of(last.name(), item) {
+                Ok(record) => builder.push(&record)?,
+                Err(fault) => return Err(fault),
+            }
         }
     }
     Ok(())
@@ -197,14 +203,15 @@ fn push_all<T: Composer>(
     }
     let mut builder = MessageBuilder::from_target(target)?;
     builder.set_header(header_of(id, flags));
+    let mut last = LastName::root();
     let mut questions = builder.question();
-    push_questions(&mut questions, items)?;
+    push_questions(&mut questions, &mut last, items)?;
     let mut answers = questions.answer();
-    push_records(&mut answers, items)?;
+    push_records(&mut answers, &mut last, items)?;
     let mut authorities = answers.authority();
-    push_records(&mut authorities, items)?;
+    push_records(&mut authorities, &mut last, items)?;
     let mut additionals = authorities.additional();
-    push_records(&mut additionals, items)?;
+    push_records(&mut additionals, &mut last, items)?;
     Ok(additionals.finish())
 }
 
@@ -236,10 +243,5 @@ pub fn build(alloc: Global, id: u16, flags: u16, items: &[NewItem<'_>]) -> Resul
     ensures none { IfErr result (λ fault. IsUnbuilt None true Tree (header_of id flags) items.now
         (number_of fault)) }
 {
-    build_over(
-        TreeCompressor::new(alloc, Vec::new(alloc)),
-        id,
-        flags,
-        items,
-    )
+    build_over(Target::new(alloc), id, flags, items)
 }

@@ -33,7 +33,7 @@ use std::str::FromStr;
 type Small = ArrayVec<u8, 512>;
 
 /// The header of a query.
-fn query_header(id: u16, recursion: bool) -> Header
+pub(crate) fn query_header(id: u16, recursion: bool) -> Header
     ensures { fields result ≡ query_header id recursion }
 {
     let mut header = Header::new();

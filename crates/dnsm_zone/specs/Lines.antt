@@ -1,11 +1,14 @@
 -- Lines of zone files that C passes: RDATA, and records. RFC 1035 section 5.1.
-use Rattle.std.specs.Prelude.{◌≡◌, ◌⊎◌, ℕ, List, [], length}
+use Rattle.std.specs.Prelude.{◌≡◌, ◌⊎◌, ℕ, ◌-◌, List, [], length, take}
 use Rattle.std.specs.Str.{IsUtf8}
 use Rattle.dns_wire.specs.Encoders.{Plain}
 use Rattle.dns_wire.specs.Parts.{Part}
 use Rattle.dns_wire.specs.Targets.{append, with_empty_table}
-use Rattle.dns_item.specs.Items.{RecordItem, ReadsRecordItem, encode_record}
+use Rattle.dns_data.specs.Layout.{DataAt}
+use Rattle.dns_item.specs.Items.{RecordEntry, RecordItem, ReadsRecordItem, encode_record}
 use Rattle.fields_octets.specs.DataOrders.{octets_of_parts}
+use Rattle.fields_octets.specs.FieldData.{type_layout}
+use Rattle.fields_octets.specs.LayoutTypes.{layout_type}
 use Rattle.fields_read_words.specs.LineWords.{AreWordsOf, texts}
 use Rattle.fields_read_records.specs.DataWords.{IsDataText}
 use Rattle.fields_read_records.specs.FieldWords.{Words}
@@ -44,12 +47,21 @@ LacksData rtype text = HasNoWords text ⊎ HasWords (AreNoData rtype) text
 abbrev pub octets_of_record : RecordItem → List ℕ
 octets_of_record x = (append (encode_record Plain x) (with_empty_table [])).octets
 
+-- the type by whose fields the RDATA of a record is read. RFC 2136 section 2.4
+abbrev pub data_type : RecordEntry → ℕ
+data_type x = layout_type x.class (x.rdata_end - x.rdata_start) x.rtype
+
+-- the fields of its type take all octets of a record's RDATA, as of an item of a message
+abbrev pub HasFields : List ℕ → RecordEntry → Type 0
+HasFields b x = (parts : List Part) × DataAt (take x.rdata_end b) (type_layout (data_type x)) x.rdata_start x.rdata_end parts
+
 -- the words represent a record, and these are its octets, which read back as it
 pub record AreRecord (octets : List ℕ) (words : Words) : Type 0 where
   pub item : RecordItem
   pub text : IsRecordText words item
   pub octets_are : octets ≡ octets_of_record item
   pub reads : ReadsRecordItem octets 0 (length octets) item
+  pub fields : HasFields octets reads.entry
 
 -- the words represent no record
 abbrev pub AreNoRecord : Words → Type 0

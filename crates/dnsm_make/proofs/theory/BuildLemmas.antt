@@ -5,7 +5,7 @@ use Rattle.std.proofs.Math.Seq.{drop-cons}
 use Rattle.std.proofs.lemmas.List.{drop_all, take_all}
 use Rattle.std.proofs.lemmas.List.Elements.{All-cons, All-more, All-nil, All-tail}
 use Rattle.std.specs.List.{All}
-use Rattle.std.specs.Prelude.{Bool, Option, Result, Err, None}
+use Rattle.std.specs.Prelude.{Bool, Option, Result, Ok, Err, None, IfErr, IsOk}
 use Rattle.dns_name.proofs.theory.NameTextFaults.{one_text_name}
 use Rattle.dns_wire.specs.Encoders.{Rule}
 use Rattle.dns_wire.specs.Parts.{Part}
@@ -32,6 +32,16 @@ use Rattle.dnsm_make.specs.Built.{IsRefused, FirstRefused, ReturnsRecordPush, Re
 use Rattle.dnsm_make.specs.Built.{AreQuestions, AreRecords, RefusesEntries, beginning_of, questions_among, records_among}
 use Rattle.dnsm_make.specs.declared.build.NewItem.{NewItem}
 use Rattle.dnsm_status.specs.declared.code.CallError.TheVariants.{BadSection, BadText, LongData, BadData, NoRoom, TooMany}
+
+-- A result that can't be an error is a value.
+pub never_err : {T E : Type 0} (r : Result T E) (P : E → Type 0) → IfErr r P → ((e : E) → P e → ⊥) → IsOk r
+never_err (Ok v) P h never = refl
+never_err (Err e) P h never = absurd (never e h)
+
+-- A text that spells no name refuses its item, in each section.
+pub unnamed : (item : NewItem) (section : ℕ) → item.section ≡ section → section ≤ 3 → SpellsNoName item.name.now → IsRefused item (number_of BadText)
+unnamed item zero is small none = inr (inl (is, none, refl))
+unnamed item (suc n) is small none = inr (inr (omega arith, omega arith, inl (none, refl)))
 
 -- An item is at most one question, and at most one record.
 
@@ -444,6 +454,7 @@ module _ (capacity : Option ℕ) (grows : Bool) (rule : Rule) where
   made_full header xs n many (inl h) = absurd (header_others h.error (sym h.number ∙ many))
   made_full header xs n many (inr h) = entry_full header xs n many h
 
+  -- A full count is reported only if a section has too many entries.
   pub unbuilt_full : (header : HeaderFields) (items : List NewItem) (n : ℕ) → n ≡ number_of TooMany → IsUnbuilt capacity grows rule header items n → HasTooMany items
   unbuilt_full header items n many (inl h) = absurd (first_otherwise n (λ is. omega arith) (λ is. omega arith) (λ is. omega arith) (λ is. omega arith) items h)
   unbuilt_full header items n many (inr h) = (h.0, h.1, made_full header h.0 n many h.2)
@@ -456,6 +467,7 @@ module _ (capacity : Option ℕ) (grows : Bool) (rule : Rule) (header : HeaderFi
   header_refused {X} r appending.ShortBuf is answer = subst (λ (q : Result X AppendError). AppendReturns capacity grows header_size q) is answer
   header_refused {X} r appending.OutOfMemory is answer = subst (λ (q : Result X AppendError). AppendReturns capacity grows header_size q) is answer
 
+  -- The error of the target at the header section is that of the entries.
   pub refused_header : {X : Type 0} (r : Result X AppendError) (e : AppendError) → r ≡ Err e → AppendReturns capacity grows header_size r
       → RefusesEntries capacity grows rule header xs (number_of (append_fault e))
   refused_header r e is answer = inl (record { error = e; refused = header_refused r e is answer; number = refl })
@@ -521,22 +533,28 @@ all_records items answers authorities additionals Additional = additionals
 -- The items before an index are converted.
 
 module _ (items : List NewItem) where
+  -- Before the first item nothing is converted.
   pub no_questions : AreQuestions (take 0 items)
   no_questions = All-nil MayAsk
 
+  -- One more item is converted.
   pub one_question : (i : ℕ) (d : NewItem) → i < length items → AreQuestions (take i items) → MayAsk (get_or items i d) → AreQuestions (take (i + 1) items)
   one_question i d within before here = All-more MayAsk items i d within before here
 
+  -- After the last item all questions are converted.
   pub all_questions : (i : ℕ) → length items ≤ i → AreQuestions (take i items) → AreQuestions items
   all_questions i past before = subst AreQuestions (take_all i items past) before
 
   module _ (which : Section) where
+    -- The same of the records of a section.
     pub no_records : AreRecords which (take 0 items)
     no_records = All-nil (MayState which)
 
+    -- One more item is converted, if it is in the section.
     pub one_record : (i : ℕ) (d : NewItem) → i < length items → AreRecords which (take i items) → MayState which (get_or items i d) → AreRecords which (take (i + 1) items)
     one_record i d within before here = All-more (MayState which) items i d within before here
 
+    -- After the last item all records of the section are converted.
     pub each_record : (i : ℕ) → length items ≤ i → AreRecords which (take i items) → AreRecords which items
     each_record i past before = subst (AreRecords which) (take_all i items past) before
 
