@@ -3,7 +3,7 @@ use crate::steps::{Answer, Ask, Call, Case, Step};
 use std::alloc::Global;
 use std::process::Abort;
 use std::slice;
-use tests_plain::{PlainMessage, PlainPart, PlainQuestion, PlainRecord, PlainRule, encode};
+use tests_plain::{PlainItem, PlainMessage, PlainPart, PlainRule, encode};
 
 /// The names a to x.
 const LETTERS: &[u8] = b"\
@@ -28,15 +28,15 @@ struct Written<'a> {
 }
 
 /// Appends a question of class IN.
-fn push_question<'a>(
-    rt: &impl Abort,
-    items: &mut Vec<PlainQuestion<'a>>,
-    name: &'a [u8],
-    rtype: u16,
-) {
-    let class = 1;
-    let pushed = items.push(PlainQuestion { name, rtype, class });
-    pushed.expect(rt, "memory");
+fn push_question<'a>(rt: &impl Abort, items: &mut Vec<PlainItem<'a>>, name: &'a [u8], rtype: u16) {
+    let item = PlainItem {
+        name,
+        rtype,
+        class: 1,
+        ttl: None,
+        parts: &[],
+    };
+    items.push(item).expect(rt, "memory");
 }
 
 /// The questions after these calls.
@@ -44,7 +44,7 @@ fn questions_after<'a>(
     rt: &impl Abort,
     alloc: Global,
     steps: &'a [Step<Ask>],
-) -> Vec<PlainQuestion<'a>> {
+) -> Vec<PlainItem<'a>> {
     let mut items = Vec::new(alloc);
     for (call, answer, _, _) in steps {
         match (call, answer) {
@@ -165,18 +165,14 @@ fn records_after<'a>(
 }
 
 /// The items of these records.
-fn items_of<'a>(
-    rt: &impl Abort,
-    alloc: Global,
-    records: &'a [Written<'a>],
-) -> Vec<PlainRecord<'a>> {
+fn items_of<'a>(rt: &impl Abort, alloc: Global, records: &'a [Written<'a>]) -> Vec<PlainItem<'a>> {
     let mut items = Vec::new(alloc);
     for record in records {
-        let item = PlainRecord {
-            owner: record.owner,
+        let item = PlainItem {
+            name: record.owner,
             rtype: record.rtype,
             class: 1,
-            ttl: record.ttl,
+            ttl: Some(record.ttl),
             parts: &record.parts,
         };
         items.push(item).expect(rt, "memory");

@@ -7,7 +7,7 @@ use dns_script::{Call, Reply, Stage, run};
 use dns_wire::Name;
 use std::alloc::Global;
 use std::process::Abort;
-use tests_plain::{PlainMessage, PlainPart, PlainRecord, PlainRule, encode};
+use tests_plain::{PlainItem, PlainMessage, PlainPart, PlainRule, encode};
 
 type AddressCall = Call<(Name<[u8; 3]>, Rtype), (Name<[u8; 3]>, u32, A)>;
 
@@ -46,11 +46,11 @@ fn runs_a_thousand_calls(rt: HostRuntime) {
     let is_done = replies.len() == 1000 && are_done(&replies);
     assert_holds(&rt, "the replies", is_done);
     let parts = [PlainPart::Octets(b"\xC0\x00\x02\x01")];
-    let answer = PlainRecord {
-        owner: b"\x01a\x00",
+    let answer = PlainItem {
+        name: b"\x01a\x00",
         rtype: 1,
         class: 1,
-        ttl: 60,
+        ttl: Some(60),
         parts: &parts,
     };
     let message = PlainMessage {

@@ -17,7 +17,7 @@ use dns_message::target::{
 };
 use std::alloc::Global;
 use std::process::Abort;
-use tests_plain::{PlainMessage, PlainPart, PlainQuestion, PlainRecord, PlainRule, encode};
+use tests_plain::{PlainItem, PlainMessage, PlainPart, PlainRule, encode};
 
 /// A name in an array, so that the calls borrow nothing.
 type Owner = Name<ArrayVec<u8, 22>>;
@@ -153,22 +153,22 @@ const NS_WWW: &[u8] = b"\x02ns\x03www\x07example\x03com\x00";
 const A_NS_WWW: &[u8] = b"\x01a\x02ns\x03www\x07example\x03com\x00";
 
 /// An NS record of `tests_plain`. The array has the server.
-fn plain_server<'a>(owner: &'a [u8], parts: &'a [PlainPart<'a>; 1]) -> PlainRecord<'a> {
-    PlainRecord {
-        owner,
+fn plain_server<'a>(owner: &'a [u8], parts: &'a [PlainPart<'a>; 1]) -> PlainItem<'a> {
+    PlainItem {
+        name: owner,
         rtype: 2,
         class: 1,
-        ttl: 60,
+        ttl: Some(60),
         parts,
     }
 }
 
 /// The OPT record: a payload size of 1,232, rcode 19 and DO.
-const PLAIN_OPT: PlainRecord<'static> = PlainRecord {
-    owner: b"\x00",
+const PLAIN_OPT: PlainItem<'static> = PlainItem {
+    name: b"\x00",
     rtype: 41,
     class: 1232,
-    ttl: 0x0100_8000,
+    ttl: Some(0x0100_8000),
     parts: &[],
 };
 
@@ -179,10 +179,12 @@ fn plain_octets(rt: &impl Abort, alloc: Global, rule: PlainRule) -> Vec<u8> {
     let additional = [PlainPart::CompressibleName(A_NS_WWW)];
     let message = PlainMessage {
         header: [0, 0, 0, 3],
-        questions: &[PlainQuestion {
+        questions: &[PlainItem {
             name: EXAMPLE,
             rtype: 2,
             class: 1,
+            ttl: None,
+            parts: &[],
         }],
         answers: &[plain_server(EXAMPLE, &answer)],
         authorities: &[plain_server(WWW, &authority)],

@@ -1,11 +1,12 @@
 -- Plain items that are appended. RFC 1035 sections 4.1.2 and 4.1.3.
 use Rattle.std.proofs.Common.{◌≡◌, ℕ, ◌+◌, List, [], ◌∷◌, ◌++◌, length, take, drop, ap, sym, ◌∙◌, subst, refl, arith, length-append, append_assoc, append-nil}
 use Rattle.std.specs.Borrow.{Bor}
+use Rattle.std.specs.Prelude.{Some, Result, Ok, Err, OnOk, is_ok, if◌then◌else◌}
 use Rattle.std.specs.Int.{to_be_bytes, w16, w32}
 use Rattle.std.specs.FinMap.{len}
 use Rattle.std.specs.List.{AllZip}
 use Rattle.std.proofs.Math.Seq.{take-append_seam, drop-append_seam}
-use Rattle.dns_name.specs.Names.{Labels}
+use Rattle.dns_name.specs.Names.{Labels, uncompressed}
 use Rattle.dns_wire.specs.Encoders.{Rule, Encoder, encode_octets, both, with_length, encode_name}
 use Rattle.dns_wire.specs.Parts.{Part, Octets, CompressibleName, UncompressedName, encode_part, encode_parts}
 use Rattle.dns_wire.specs.Targets.{Written, append}
@@ -18,8 +19,12 @@ use Rattle.tests_plain.specs.PlainNames.{IsNamed, ListsTable, IsInRange, Represe
 use Rattle.tests_plain.specs.PlainItems.{IsPart, IsQuestionItem, IsRecordItem}
 use Rattle.tests_plain.specs.declared.writing.PlainTarget.{PlainTarget}
 use Rattle.tests_plain.specs.declared.writing.PlainPart.TheVariants as parts
-use Rattle.tests_plain.specs.declared.writing.PlainQuestion.{PlainQuestion}
-use Rattle.tests_plain.specs.declared.writing.PlainRecord.{PlainRecord}
+use Rattle.tests_plain.specs.declared.writing.PlainItem.{PlainItem}
+
+-- What a vector has after an append, if that succeeds.
+pub appended : {E : Type 0} (r : Result (Unit {0}) E) (new more old : List ℕ) → new ≡ (if is_ok r then more else old) → OnOk r (new ≡ more)
+appended (Ok done) new more old e = e
+appended (Err error) new more old e = tt
 
 -- Octets are appended.
 pub appends_octets : (old new : PlainTarget) (w : Written) (xs : List ℕ) → Represents old w → new.octets.items ≡ old.octets.items ++ xs → new.table ≡ old.table
@@ -38,6 +43,14 @@ appends_nothing t w r = record { octets = r.octets ∙ sym (append-nil w.octets)
 -- Two encodings are appended in turn.
 pub appends_both : (a b : Encoder) (new : PlainTarget) (w : Written) → Represents new (append b (append a w)) → Represents new (append (both a b) w)
 appends_both a b new w r = subst (Represents new) (append-both a b w) r
+
+-- A part that is never compressed is appended.
+pub appends_octets_part : (rule : Rule) (octets : Bor (List ℕ)) (x : Part) (old new : PlainTarget) (w : Written) → IsPart (parts.Octets octets) x → Represents old w
+    → new.octets.items ≡ old.octets.items ++ octets.now → new.table ≡ old.table → Represents new (append (encode_part rule x) w)
+appends_octets_part rule octets (Octets xs) old new w is r whole table = appends_octets old new w xs r (whole ∙ ap (λ ys. old.octets.items ++ ys) is) table
+appends_octets_part rule octets (CompressibleName name) old new w is r whole table = absurd is
+appends_octets_part rule octets (UncompressedName lowercased name) old new w is r whole table =
+    appends_octets old new w (uncompressed name) r (whole ∙ ap (λ ys. old.octets.items ++ ys) is) table
 
 -- A part that may be compressed is appended.
 pub appends_name_part : (rule : Rule) (octets : Bor (List ℕ)) (x : Part) (old new : PlainTarget) (w : Written) → IsPart (parts.CompressibleName octets) x → Represents old w
@@ -104,7 +117,7 @@ appends_length encoder old zeros mid new w start rdata r at zero same f is octet
     }
 
 -- A question is its name and two numbers.
-pub appends_question : (rule : Rule) (item : PlainQuestion) (x : questions.QuestionItem) (mid new : PlainTarget) (w : Written) → IsQuestionItem item x
+pub appends_question : (rule : Rule) (item : PlainItem) (x : questions.QuestionItem) (mid new : PlainTarget) (w : Written) → IsQuestionItem item x
     → Represents mid (append (encode_name rule x.name) w)
     → new.octets.items ≡ mid.octets.items ++ to_be_bytes w16 item.rtype ++ to_be_bytes w16 item.class → new.table ≡ mid.table → Represents new (append (encode_question rule x) w)
 unfolding encode_question
@@ -114,18 +127,20 @@ appends_question rule item x mid new w is r octets table =
     appends_both (encode_name rule x.name) (encode_octets fields) new w (appends_octets mid new _ fields r (octets ∙ same) table)
 
 -- A record is its owner, three numbers, and its RDATA after its length.
-pub appends_record : (rule : Rule) (item : PlainRecord) (x : items.RecordItem) (mid fields new : PlainTarget) (w : Written) → IsRecordItem item x → Represents mid (append (encode_name rule x.owner) w)
-    → fields.octets.items ≡ mid.octets.items ++ to_be_bytes w16 item.rtype ++ to_be_bytes w16 item.class ++ to_be_bytes w32 item.ttl → fields.table ≡ mid.table
+pub appends_record : (rule : Rule) (item : PlainItem) (ttl : ℕ) (x : items.RecordItem) (mid fields new : PlainTarget) (w : Written) → IsRecordItem item x → item.ttl ≡ Some ttl
+    → Represents mid (append (encode_name rule x.owner) w)
+    → fields.octets.items ≡ mid.octets.items ++ to_be_bytes w16 item.rtype ++ to_be_bytes w16 item.class ++ to_be_bytes w32 ttl → fields.table ≡ mid.table
     → ((w : Written) → Represents fields w → Represents new (append (with_length (encode_parts rule x.parts)) w)) → Represents new (append (encode_record rule x) w)
 unfolding encode_record
-appends_record rule item x mid fields new w is r octets table f =
+appends_record rule item seconds x mid fields new w is given r octets table f =
     let numbers = record_fields x in
     let rtype = to_be_bytes w16 item.rtype in
     let class = to_be_bytes w16 item.class in
-    let ttl = to_be_bytes w32 item.ttl in
+    let ttl = to_be_bytes w32 seconds in
+    let one_ttl : seconds ≡ x.ttl = cc (given, is.ttl) in
     let same : mid.octets.items ++ rtype ++ class ++ ttl ≡ mid.octets.items ++ (rtype ++ class ++ ttl) =
     ap (λ ys. ys ++ ttl) (append_assoc mid.octets.items rtype class) ∙ append_assoc mid.octets.items (rtype ++ class) ttl in
     let named = encode_name rule x.owner in
     let after = both (encode_octets numbers) (with_length (encode_parts rule x.parts)) in
-    let here = appends_octets mid fields _ numbers r (octets ∙ same ∙ (λ i. mid.octets.items ++ (to_be_bytes w16 (is.rtype i) ++ to_be_bytes w16 (is.class i) ++ to_be_bytes w32 (is.ttl i)))) table in
+    let here = appends_octets mid fields _ numbers r (octets ∙ same ∙ (λ i. mid.octets.items ++ (to_be_bytes w16 (is.rtype i) ++ to_be_bytes w16 (is.class i) ++ to_be_bytes w32 (one_ttl i)))) table in
     appends_both named after new w (appends_both (encode_octets numbers) (with_length (encode_parts rule x.parts)) new _ (f _ here))

@@ -272,7 +272,8 @@ module _ (old new : PlainTarget) (labels : Labels) (w : Written) (r : Represents
   }
 
   -- If a compressed name is appended, and its suffixes enter the table where all are in range, its encoding is appended.
-  pub appends_compressed : (rule : plain.PlainRule) (suffixes : List Suffix) (b : Bool) → rule ≢ rules.Plain → AppendsCompressed old.octets.items new.octets.items suffixes (compressed_by (rule_of rule))
+  pub appends_compressed : (rule : plain.PlainRule) (suffixes : List Suffix) (b : Bool) → rule ≢ rules.Plain
+      → AppendsCompressed old.octets.items new.octets.items suffixes (compressed_by (rule_of rule))
       → b ≡ list_all is_in_range (compressed_by (rule_of rule)).suffixes
       → new.table.items ≡ cond b (suffixes ++ old.table.items) old.table.items
       → Represents new (append (encode_name (rule_of rule) labels) w)

@@ -1,5 +1,5 @@
 -- Plain items and messages, and what they represent. RFC 1035 section 4.1.
-use Rattle.std.specs.Prelude.{◌≡◌}
+use Rattle.std.specs.Prelude.{◌≡◌, Some, None}
 use Rattle.std.specs.List.{AllZip}
 use Rattle.dns_name.specs.Names.{uncompressed}
 use Rattle.dns_wire.specs.Parts.{Part, Octets, CompressibleName, UncompressedName}
@@ -10,8 +10,7 @@ use Rattle.dns_build.specs.State.{State}
 use Rattle.tests_plain.specs.PlainNames.{IsNamed}
 use Rattle.tests_plain.specs.declared.writing.PlainPart as plain
 use Rattle.tests_plain.specs.declared.writing.PlainPart.TheVariants as parts
-use Rattle.tests_plain.specs.declared.writing.PlainQuestion.{PlainQuestion}
-use Rattle.tests_plain.specs.declared.writing.PlainRecord.{PlainRecord}
+use Rattle.tests_plain.specs.declared.writing.PlainItem.{PlainItem}
 use Rattle.tests_plain.specs.declared.writing.PlainMessage.{PlainMessage}
 
 -- a part of RDATA: the same octets, or the uncompressed octets of the name
@@ -22,17 +21,18 @@ IsPart (parts.CompressibleName octets) (CompressibleName name) = IsNamed octets.
 IsPart plain_part part = ⊥
 
 -- the question
-pub record IsQuestionItem (plain_item : PlainQuestion) (x : questions.QuestionItem) : Type 0 where
+pub record IsQuestionItem (plain_item : PlainItem) (x : questions.QuestionItem) : Type 0 where
   pub name : IsNamed plain_item.name.now x.name
   pub rtype : plain_item.rtype ≡ x.rtype
   pub class : plain_item.class ≡ x.class
+  pub ttl : plain_item.ttl ≡ None
 
 -- the record
-pub record IsRecordItem (plain_item : PlainRecord) (x : items.RecordItem) : Type 0 where
-  pub owner : IsNamed plain_item.owner.now x.owner
+pub record IsRecordItem (plain_item : PlainItem) (x : items.RecordItem) : Type 0 where
+  pub owner : IsNamed plain_item.name.now x.owner
   pub rtype : plain_item.rtype ≡ x.rtype
   pub class : plain_item.class ≡ x.class
-  pub ttl : plain_item.ttl ≡ x.ttl
+  pub ttl : plain_item.ttl ≡ Some x.ttl
   pub parts : AllZip IsPart plain_item.parts.now x.parts
 
 -- the message has the header and the items of the state

@@ -14,6 +14,4 @@ pub use reading::{
     EntryKind, Items, PlainEntry, PlainName, entries, entry_at, entry_end, name_at, name_end,
     section_start,
 };
-pub use writing::{
-    PlainMessage, PlainPart, PlainQuestion, PlainRecord, PlainRule, PlainTarget, encode,
-};
+pub use writing::{PlainItem, PlainMessage, PlainPart, PlainRule, PlainTarget, encode};

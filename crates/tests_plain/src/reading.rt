@@ -2,7 +2,7 @@
 ghost use Rattle.std.specs.Prelude.{◌≡◌, ◌+◌, ◌<◌, ◌≤◌, length, map, OnOk, IfOk};
 ghost use Rattle.std.specs.Int.{w16, w32};
 ghost use Rattle.arrayvec.specs.ArrayVec.{array_vec_len};
-ghost use Rattle.dns_name.specs.Names.{head_at, Reads, max_size, Faulty, FaultAt, SkipFaulty, SkipFaultAt};
+ghost use Rattle.dns_name.specs.Names.{BeginsOrFails, max_size, Faulty, FaultAt, SkipFaulty, SkipFaultAt};
 ghost use Rattle.dns_name.specs.Parsers.{number_at};
 ghost use Rattle.dns_code.specs.HeaderSection.{header_size};
 ghost use Rattle.dns_read.specs.Reading.{Skipped, StopsSkipping, Reading};
@@ -19,15 +19,18 @@ use std::alloc::{AllocError, Global};
 /// The uncompressed octets of a name.
 pub type PlainName = ArrayVec<u8, 255>;
 
-/// Returns what begins at an offset in a name (RFC 1035 section 4.1.4).
+/// Returns what begins at an offset in a name whose labels so far take `size` octets (RFC 1035
+/// section 4.1.4). A label that begins there keeps the name short enough, and is complete.
 #[tactic(auto, unfolding(dns_name::specs::Names::head_at))]
-fn head_at(octets: &[u8], offset: usize) -> Result<Head, ParseError>
-    ensures head { Reads result (head_at octets.now offset) }
-    ensures within { OnOk result (offset < length octets.now) }
+fn head_at(octets: &[u8], offset: usize, size: usize) -> Result<Head, ParseError>
+    requires { size ≤ max_size }
+    ensures { BeginsOrFails octets.now offset size result }
 {
     let first = *octets.get(offset).ok_or(ParseError::ShortInput)?;
     match first {
         0 => Ok(Head::Root),
+        1..64 if size + usize::from(first) > 253 => Err(ParseError::Form(FormError::LONG_NAME)),
+        1..64 if octets.len() - offset <= usize::from(first) => Err(ParseError::ShortInput),
         1..64 => Ok(Head::Label(first)),
         64..192 => Err(ParseError::Form(FormError::BAD_LABEL)),
         192.. => {
@@ -43,31 +46,20 @@ fn name_after(octets: &[u8], offset: usize, mut labels: PlainName) -> Result<Pla
     ensures { Gives result (λ name. NameAfter octets.now offset labels.items name.items)
         (Faulty octets.now offset (array_vec_len labels)) }
 {
-    match head_at(octets, offset)? {
+    match head_at(octets, offset, labels.len())? {
         Head::Root => {
             labels.push(0);
             Ok(labels)
         }
         Head::Label(len) => {
-            let taken = usize::from(len) + 1;
-            if labels.len() + taken > 254 {
-                return Err(ParseError::Form(FormError::LONG_NAME));
-            }
-            if octets.len() - offset < taken {
-                return Err(ParseError::ShortInput);
-            }
-            let text = &octets[offset + 1..offset + taken];
-            labels.push(len);
-            labels.try_extend_from_slice(text).unwrap();
-            name_after(octets, offset + taken, labels)
+            let end = offset + 1 + usize::from(len);
+            labels.try_extend_from_slice(&octets[offset..end]).unwrap();
+            name_after(octets, end, labels)
         }
-        Head::Pointer(target) => {
-            let target = usize::from(target);
-            if target >= offset {
-                return Err(ParseError::Form(FormError::BAD_POINTER));
-            }
-            name_after(octets, target, labels)
+        Head::Pointer(target) if usize::from(target) < offset => {
+            name_after(octets, usize::from(target), labels)
         }
+        Head::Pointer(_target) => Err(ParseError::Form(FormError::BAD_POINTER)),
     }
 }
 
@@ -84,16 +76,10 @@ fn end_after(octets: &[u8], offset: usize, size: usize) -> Result<usize, ParseEr
     requires { size ≤ max_size }
     ensures { Gives result (EndsWithin octets.now offset size) (SkipFaulty octets.now offset size) }
 {
-    match head_at(octets, offset)? {
+    match head_at(octets, offset, size)? {
         Head::Root => Ok(offset + 1),
         Head::Label(len) => {
             let taken = usize::from(len) + 1;
-            if size + taken > 254 {
-                return Err(ParseError::Form(FormError::LONG_NAME));
-            }
-            if octets.len() - offset < taken {
-                return Err(ParseError::ShortInput);
-            }
             end_after(octets, offset + taken, size + taken)
         }
         Head::Pointer(_target) => Ok(offset + 2),
@@ -188,7 +174,8 @@ pub fn entry_at(octets: &[u8], kind: EntryKind, offset: usize) -> Result<PlainEn
 /// Returns the offset after consecutive entries, or why one of them can't be skipped.
 fn skip_all(octets: &[u8], kind: EntryKind, count: u16, offset: usize) -> Result<usize, ParseError>
     ensures { Gives result (Skipped (SkipsEntry kind octets.now) count offset)
-        (StopsSkipping (SkipsEntry kind octets.now) (EntrySkipFaultAt kind octets.now) count offset) }
+        (StopsSkipping (SkipsEntry kind octets.now)
+        (EntrySkipFaultAt kind octets.now) count offset) }
 {
     if count == 0 {
         return Ok(offset);
@@ -207,12 +194,8 @@ pub fn section_start(octets: &[u8], section: Section) -> Result<usize, ParseErro
         Section::Authority => (u16_at(octets, 6), Section::Answer),
         Section::Additional => (u16_at(octets, 8), Section::Authority),
     };
-    skip_all(
-        octets,
-        EntryKind::Record,
-        count,
-        section_start(octets, before)?,
-    )
+    let start = section_start(octets, before)?;
+    skip_all(octets, EntryKind::Record, count, start)
 }
 
 /// The entries of a section and, if one of them isn't readable, its error as the last item.
@@ -223,16 +206,14 @@ pub fn entries(alloc: Global, octets: &[u8], kind: EntryKind, count: u16, offset
     ensures { IfOk result (λ items. Reading (ShowsEntry kind octets.now)
         (EntryFaultAt kind octets.now) count offset (map faulted items.items)) }
 {
-    let mut items = Vec::new(alloc);
     if count == 0 {
-        return Ok(items);
+        return Ok(Vec::new(alloc));
     }
-    match entry_at(octets, kind, offset) {
-        Ok(entry) => {
-            items = entries(alloc, octets, kind, count - 1, entry.end)?;
-            items.insert(0, Ok(entry))?;
-        }
-        Err(error) => items.push(Err(error))?,
-    }
+    let entry = entry_at(octets, kind, offset);
+    let mut items = match &entry {
+        Ok(entry) => entries(alloc, octets, kind, count - 1, entry.end)?,
+        Err(_error) => Vec::new(alloc),
+    };
+    items.insert(0, entry)?;
     Ok(items)
 }

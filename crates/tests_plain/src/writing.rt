@@ -34,22 +34,15 @@ pub enum PlainPart<'a> {
     CompressibleName(&'a [u8]),
 }
 
-/// A question (RFC 1035 section 4.1.2). Nothing is said of one whose `name` is no name.
+/// A question (RFC 1035 section 4.1.2), which has neither a TTL nor parts, or a record (section
+/// 4.1.3). The TTL is in seconds. Nothing is said of an item whose `name`, or a name among whose
+/// parts, is no name.
 #[derive(Clone, Copy)]
-pub struct PlainQuestion<'a> {
+pub struct PlainItem<'a> {
     pub name: &'a [u8],
     pub rtype: u16,
     pub class: u16,
-}
-
-/// A record (RFC 1035 section 4.1.3). The TTL is in seconds. Nothing is said of one whose `owner`,
-/// or a name among whose parts, is no name.
-#[derive(Clone, Copy)]
-pub struct PlainRecord<'a> {
-    pub owner: &'a [u8],
-    pub rtype: u16,
-    pub class: u16,
-    pub ttl: u32,
+    pub ttl: Option<u32>,
     pub parts: &'a [PlainPart<'a>],
 }
 
@@ -57,10 +50,10 @@ pub struct PlainRecord<'a> {
 #[derive(Clone, Copy)]
 pub struct PlainMessage<'a> {
     pub header: [u8; 4],
-    pub questions: &'a [PlainQuestion<'a>],
-    pub answers: &'a [PlainRecord<'a>],
-    pub authorities: &'a [PlainRecord<'a>],
-    pub additionals: &'a [PlainRecord<'a>],
+    pub questions: &'a [PlainItem<'a>],
+    pub answers: &'a [PlainItem<'a>],
+    pub authorities: &'a [PlainItem<'a>],
+    pub additionals: &'a [PlainItem<'a>],
 }
 
 /// A suffix that is written as labels, and its offset.
@@ -69,6 +62,9 @@ struct Suffix {
     name: Vec<u8>,
     offset: usize,
 }
+
+/// The suffixes of a name that may enter the table, the longest first.
+type Suffixes = Result<Vec<Suffix>, AllocError>;
 
 /// Octets, and the table of the suffixes in them, the newest first.
 #[derive(Drop)]
@@ -114,33 +110,11 @@ fn may_enter(rule: PlainRule, offset: usize, entry_count: usize) -> bool
     }
 }
 
-/// Whether a pointer can hold the offset of each suffix.
-fn are_in_range(suffixes: &[Suffix]) -> bool
-    ensures { result ≡ list_all (λ suffix. nat_lt suffix.offset pointer_end) suffixes.now }
-{
-    match suffixes.split_first() {
-        Some((first, others)) => first.offset < 16384 && are_in_range(others),
-        None => true,
-    }
-}
-
-/// Returns the octets from an offset on; none if it is past the end.
-fn octets_from(octets: &[u8], offset: usize) -> &[u8]
-    ensures { result.now ≡ drop offset octets.now }
-{
-    if offset > octets.len() {
-        return &[];
-    }
-    &octets[offset..]
-}
-
 /// Appends a number in two octets, big-endian. Of a greater number, the lower 16 bits.
 fn push_number(octets: &mut Vec<u8>, number: usize) -> Result<(), AllocError>
     ensures { OnOk result (octets.new.items ≡ octets.old.items ++ to_be_bytes w16 number) }
 {
-    octets.push((number / 256 % 256) as u8)?;
-    octets.push((number % 256) as u8)?;
-    Ok(())
+    octets.extend_from_slice(&((number % 65536) as u16).to_be_bytes())
 }
 
 impl PlainTarget {
@@ -154,16 +128,12 @@ impl PlainTarget {
 
     /// Appends a name as it is compressed while the table has `count` entries, and keeps the table.
     /// Returns the suffixes of the name that may enter it.
-    fn compress(
-        &mut self,
-        rule: PlainRule,
-        name: &[u8],
-        count: usize,
-    ) -> Result<Vec<Suffix>, AllocError>
+    fn compress(&mut self, rule: PlainRule, name: &[u8], count: usize) -> Suffixes
         requires { count + length name.now < 2 ^ 64 }
         ensures table { OnOk result (self.new.table ≡ self.old.table) }
         ensures octets { IfOk result (λ suffixes.
-            Compresses (rule_of rule) name.now count self.old self.new.octets.items suffixes.items) }
+            Compresses (rule_of rule) name.now count self.old
+            self.new.octets.items suffixes.items) }
     {
         let (alloc, offset) = (*self.octets.allocator(), self.octets.len());
         let Some((label, parent)) = first_label(name) else {
@@ -192,25 +162,13 @@ impl PlainTarget {
             (Appends (IsNamed name.now) (encode_name (rule_of rule)) self.old self.new) }
     {
         if let PlainRule::Plain = rule {
-            self.octets.extend_from_slice(name)?;
-            return Ok(());
+            return self.octets.extend_from_slice(name);
         }
         let count = self.table.len();
         let mut suffixes = self.compress(rule, name, count)?;
-        if are_in_range(&suffixes) {
+        if suffixes.iter().all(|suffix| suffix.offset < 16384) {
             suffixes.append(&mut self.table)?;
             self.table = suffixes;
-        }
-        Ok(())
-    }
-
-    fn push_part(&mut self, rule: PlainRule, part: PlainPart<'_>) -> Result<(), AllocError>
-        ensures { OnOk result
-            (Appends (IsPart part.entry) (encode_part (rule_of rule)) self.old self.new) }
-    {
-        match part {
-            PlainPart::Octets(octets) => self.octets.extend_from_slice(octets)?,
-            PlainPart::CompressibleName(name) => self.push_name(rule, name)?,
         }
         Ok(())
     }
@@ -219,12 +177,14 @@ impl PlainTarget {
         ensures { OnOk result
             (Appends (AllZip IsPart parts.now) (encode_parts (rule_of rule)) self.old self.new) }
     {
-        let Some((first, others)) = parts.split_first() else {
+        let Some((part, others)) = parts.split_first() else {
             return Ok(());
         };
-        self.push_part(rule, *first)?;
-        self.push_parts(rule, others)?;
-        Ok(())
+        match part {
+            PlainPart::Octets(octets) => self.octets.extend_from_slice(octets)?,
+            PlainPart::CompressibleName(name) => self.push_name(rule, name)?,
+        }
+        self.push_parts(rule, others)
     }
 
     /// Appends RDATA after its length.
@@ -235,46 +195,31 @@ impl PlainTarget {
         let start = self.octets.len();
         push_number(&mut self.octets, 0)?;
         self.push_parts(rule, parts)?;
-        let rdata = octets_from(&self.octets, start + 2);
+        let rdata = self.octets.get(start + 2..).unwrap_or(&[]);
         let rdata = Vec::from_slice(*self.octets.allocator(), rdata)?;
         self.octets.truncate(start);
         push_number(&mut self.octets, rdata.len())?;
-        self.octets.extend_from_slice(&rdata)?;
-        Ok(())
+        self.octets.extend_from_slice(&rdata)
     }
 
-    fn push_questions(
-        &mut self,
-        rule: PlainRule,
-        items: &[PlainQuestion<'_>],
-    ) -> Result<(), AllocError>
-        ensures { OnOk result (Appends (AllZip IsQuestionItem items.now)
+    /// Appends items, which are all questions or all records.
+    fn push_items(&mut self, rule: PlainRule, items: &[PlainItem<'_>]) -> Result<(), AllocError>
+        ensures questions { OnOk result (Appends (AllZip IsQuestionItem items.now)
             (λ xs. all_of (map (encode_question (rule_of rule)) xs)) self.old self.new) }
-    {
-        let Some((question, others)) = items.split_first() else {
-            return Ok(());
-        };
-        self.push_name(rule, question.name)?;
-        push_number(&mut self.octets, usize::from(question.rtype))?;
-        push_number(&mut self.octets, usize::from(question.class))?;
-        self.push_questions(rule, others)?;
-        Ok(())
-    }
-
-    fn push_records(&mut self, rule: PlainRule, items: &[PlainRecord<'_>]) -> Result<(), AllocError>
-        ensures { OnOk result (Appends (AllZip IsRecordItem items.now)
+        ensures records { OnOk result (Appends (AllZip IsRecordItem items.now)
             (λ xs. all_of (map (encode_record (rule_of rule)) xs)) self.old self.new) }
     {
-        let Some((record, others)) = items.split_first() else {
+        let Some((item, others)) = items.split_first() else {
             return Ok(());
         };
-        self.push_name(rule, record.owner)?;
-        push_number(&mut self.octets, usize::from(record.rtype))?;
-        push_number(&mut self.octets, usize::from(record.class))?;
-        self.octets.extend_from_slice(&record.ttl.to_be_bytes())?;
-        self.push_rdata(rule, record.parts)?;
-        self.push_records(rule, others)?;
-        Ok(())
+        self.push_name(rule, item.name)?;
+        push_number(&mut self.octets, usize::from(item.rtype))?;
+        push_number(&mut self.octets, usize::from(item.class))?;
+        if let Some(ttl) = item.ttl {
+            self.octets.extend_from_slice(&ttl.to_be_bytes())?;
+            self.push_rdata(rule, item.parts)?;
+        }
+        self.push_items(rule, others)
     }
 }
 
@@ -293,9 +238,9 @@ pub fn encode(
     push_number(&mut target.octets, message.answers.len())?;
     push_number(&mut target.octets, message.authorities.len())?;
     push_number(&mut target.octets, message.additionals.len())?;
-    target.push_questions(rule, message.questions)?;
-    target.push_records(rule, message.answers)?;
-    target.push_records(rule, message.authorities)?;
-    target.push_records(rule, message.additionals)?;
+    target.push_items(rule, message.questions)?;
+    target.push_items(rule, message.answers)?;
+    target.push_items(rule, message.authorities)?;
+    target.push_items(rule, message.additionals)?;
     Ok(target.octets)
 }

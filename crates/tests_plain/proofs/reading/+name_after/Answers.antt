@@ -1,52 +1,49 @@
-use Rattle.std.proofs.Common.{◌≡◌, ◌∙◌, ap, ◌+◌, ◌<◌, ◌≤◌, arith, length, ◌++◌, slice_range}
-use Rattle.std.specs.Prelude.{Ok}
+use Rattle.std.proofs.Common.{◌≡◌, refl, ◌+◌, ◌≤◌, arith, length}
 use Rattle.std.proofs.lemmas.Result.{err_from_is_err_and, MatchResult-weaker}
-use Rattle.dns_name.specs.Names.{head_at, Faulty}
+use Rattle.arrayvec.specs.ArrayVec.{array_vec_len}
+use Rattle.std.specs.Prelude.{Ok}
+use Rattle.dns_name.specs.Names.{head_at, Begins, Faulty, max_size}
 use Rattle.dns_name.specs.declared.head.Head.TheVariants.{Root, Label, Pointer}
+use Rattle.dns_name.proofs.theory.ExtentLaws.{skip_fault}
 use Rattle.tests_plain.proofs.NameSteps.{after_root, longer_count, after_label, fault_after_label, after_pointer}
 use Rattle.tests_plain.proofs.reading.+name_after.Goals as goal
 
 pub returns-in_err-head_at : goal.returns-in_err-head_at
 returns-in_err-head_at t c =
     let p = err_from_is_err_and c.from_residual.result c.from_residual.ensures.1 in
-    rw (p.1, p.2) (Faulty.head c.in_err-head_at.ensures.head)
-
-pub returns-then-len-taken-gt254 : goal.returns-then-len-taken-gt254
-returns-then-len-taken-gt254 t c =
-    let h : head_at c.args.octets.now c.args.offset ≡ Ok (Label c.in-Label.len) = cc c.in_ok-head_at.ensures.head in
-    Faulty.long h (omega arith)
-
-pub returns-then-octets-offset : goal.returns-then-octets-offset
-returns-then-octets-offset t c =
-    let h : head_at c.args.octets.now c.args.offset ≡ Ok (Label c.in-Label.len) = cc c.in_ok-head_at.ensures.head in
-    let w : c.args.offset < length c.args.octets.now = c.in_ok-head_at.ensures.within in
-    Faulty.cut h (omega arith) (omega arith)
-
-pub returns-then-target-offset : goal.returns-then-target-offset
-returns-then-target-offset t c =
-    let h : head_at c.args.octets.now c.args.offset ≡ Ok (Pointer c.in-Pointer.target) = cc c.in_ok-head_at.ensures.head in
-    Faulty.ahead h (omega arith)
+    let size : c.len.result ≡ array_vec_len c.args.labels = omega (arith, c.len.ensures) in
+    rw (p.1, p.2, ← size) (skip_fault _ c.in_err-head_at.ensures)
 
 pub returns-in-Root : goal.returns-in-Root
 returns-in-Root t c =
-    let h : head_at c.args.octets.now c.args.offset ≡ Ok Root = cc c.in_ok-head_at.ensures.head in
-    after_root _ _ _ _ h c.requires c.push.ensures.items
+    let h : Begins c.args.octets.now c.args.offset c.len.result Root = rw c.in-Root.is at c.in_ok-head_at.ensures in
+    after_root _ _ _ _ h.there c.requires c.push.ensures.items
 
-pub returns-else-octets-offset : goal.returns-else-octets-offset
-returns-else-octets-offset t c =
-    let h : head_at c.args.octets.now c.args.offset ≡ Ok (Label c.in-Label.len) = cc c.in_ok-head_at.ensures.head in
-    let w : c.args.offset < length c.args.octets.now = c.in_ok-head_at.ensures.within in
-    let pushed = c.push-in-Label.ensures.items in
-    let longer = (rw c.unwrap.ensures at c.try_extend_from_slice.ensures.ok) ∙ ap (λ xs. xs ++ slice_range c.args.octets.now (c.args.offset + 1) (c.args.offset + (c.from-taken.result + 1))) pushed in
-    let fits : c.args.offset + 1 + c.in-Label.len ≤ length c.args.octets.now = omega arith in
-    let end : c.args.offset + (c.from-taken.result + 1) ≡ c.args.offset + 1 + c.in-Label.len = omega arith in
+pub returns-in-Label : goal.returns-in-Label
+returns-in-Label t c =
+    let b = c.args.octets.now in
+    let p = c.args.offset in
+    let n = c.in-Label.len in
+    let h : Begins b p c.len.result (Label n) = rw c.in-Label.is at c.in_ok-head_at.ensures in
+    let s : array_vec_len c.args.labels + n + 1 ≤ max_size = omega (arith, h.short n refl, c.len.ensures) in
+    let fits : p + 1 + n ≤ length b = h.fits n refl in
+    let at = p + 1 + c.from.result in
+    let end : at ≡ p + 1 + n = omega (arith, c.from.ensures) in
+    let longer = rw c.unwrap.ensures at c.try_extend_from_slice.ensures.ok in
     MatchResult-weaker c.name_after.result c.name_after.ensures
-    (λ name x. after_label _ _ _ _ _ _ fits end longer h (omega arith) _ x)
-    (λ error x. fault_after_label _ _ _ _ _ _ h (omega arith) fits end (longer_count _ _ _ _ _ _ fits end longer) _ x)
+    (λ name x. after_label _ _ _ _ _ _ h.there fits end longer s _ x)
+    (λ error x. fault_after_label _ _ _ _ _ _ h.there s fits end (longer_count _ _ _ _ _ _ h.there fits end longer) _ x)
 
-pub returns-else-target-offset : goal.returns-else-target-offset
-returns-else-target-offset t c =
-    let h : head_at c.args.octets.now c.args.offset ≡ Ok (Pointer c.from-target.result) = cc (c.in_ok-head_at.ensures.head, c.from-target.ensures) in
+pub returns-in-Pointer : goal.returns-in-Pointer
+returns-in-Pointer t c =
+    let at : c.from-in-Pointer.result ≡ c.in-Pointer.target = omega (arith, c.from-in-Pointer.ensures) in
+    let h : Begins c.args.octets.now c.args.offset c.len.result (Pointer c.in-Pointer.target) = rw c.in-Pointer.is at c.in_ok-head_at.ensures in
+    let there : head_at c.args.octets.now c.args.offset ≡ Ok (Pointer c.from-in-Pointer.result) = rw at h.there in
     MatchResult-weaker c.name_after-in-Pointer.result c.name_after-in-Pointer.ensures
-    (λ name x. after_pointer _ _ _ _ h (omega arith) _ x)
-    (λ error x. Faulty.pointer h (omega arith) x)
+    (λ name x. after_pointer _ _ _ _ there (omega arith) _ x)
+    (λ error x. Faulty.pointer there (omega arith) x)
+
+pub returns-in-Pointer-2 : goal.returns-in-Pointer-2
+returns-in-Pointer-2 t c =
+    let h : Begins c.args.octets.now c.args.offset c.len.result (Pointer c.in-Pointer-2._target) = rw c.in-Pointer-2.is at c.in_ok-head_at.ensures in
+    Faulty.ahead h.there (omega arith)

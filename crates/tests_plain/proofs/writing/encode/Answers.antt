@@ -22,8 +22,8 @@ returns c = λ s has.
     let same = regrouped (octets_of_fields s.header) (number (length s.questions)) (number (length s.answers)) (number (length s.authorities)) (number (length s.additionals)) in
     let headed : PlainTarget = record { octets = c.push_number-4.new.octets; table = c.new-target.result.table } in
     let head : Represents headed (head_of s) = record { octets = four ∙ same; table = c.new-target.ensures.table; count = c.new-target.ensures.count; in_range = c.new-target.ensures.in_range } in
-    let questions = c.in_ok-push_questions.ensures s.questions _ has.questions head in
-    let answers = c.in_ok-push_records.ensures s.answers _ has.answers questions in
-    let authorities = c.in_ok-push_records-2.ensures s.authorities _ has.authorities answers in
-    let additionals = c.in_ok-push_records-3.ensures s.additionals _ has.additionals authorities in
+    let questions = c.in_ok-push_items.ensures.questions s.questions _ has.questions head in
+    let answers = c.in_ok-push_items-2.ensures.records s.answers _ has.answers questions in
+    let authorities = c.in_ok-push_items-3.ensures.records s.authorities _ has.authorities answers in
+    let additionals = c.in_ok-push_items-4.ensures.records s.additionals _ has.additionals authorities in
     additionals.octets ∙ ap (λ (w : Written). w.octets) (encodes_sections (rule_of c.args.rule) s)
