@@ -3,14 +3,21 @@
  *     1. Statuses, and the version
  *     2. Reading a message
  *     3. Names
- *     4. RDATA
- *     5. Numbers, and their texts
- *     6. EDNS
- *     7. Queries, and responses of one address
- *     8. Writing a message by one call
- *     9. Writing a message item by item
+ *     4. Names compared
+ *     5. RDATA
+ *     6. Names in RDATA
+ *     7. RDATA and records from text
+ *     8. Texts of numbers
+ *     9. Numbers from texts
+ *     10. EDNS
+ *     11. Queries, and responses of one address
+ *     12. Queries with EDNS
+ *     13. Writing a message by one call
+ *     14. Writing a message item by item
+ *     15. Responses, and items of other messages
  *
- * and each begins with an example. There `message` are the `message_len` octets of a message.
+ * and each begins with an example. There `message` are the `message_len` octets of a message, and `record` is its first record, as
+ * dnsm_next wrote it. Each call is in an example.
  *
  * Calls. Each but dnsm_version and dnsm_opt_ttl returns a status: DNSM_OK, or the reason why there is no result. No call
  * prints, blocks, or ends the process.
@@ -146,12 +153,14 @@ typedef struct dnsm_header {
     uint8_t rcode;
 } dnsm_header;
 
-/* A position in a message. The caller owns it, and may copy it to return to the position later. */
+/* A position in a message. The caller owns it, and may copy it to return to the position later. In a cursor that dnsm_open hasn't
+ * set, `owner` has to be 0. */
 typedef struct dnsm_cursor {
     size_t place;       /* offset at which the next item begins; after DNSM_END the offset after the last item */
     uint16_t left;      /* items still to come in the section, by its count */
     uint8_t section;
     dnsm_status status; /* DNSM_OK, or the error that ended the iteration */
+    uint16_t owner;     /* 0, or the offset of a name that was read: an owner that only points there isn't read again */
 } dnsm_cursor;
 
 /* A question or a record. */
@@ -190,13 +199,11 @@ dnsm_status dnsm_next(const uint8_t *message, size_t message_len, dnsm_cursor *c
  *     size_t len, end;
  *     if (dnsm_name_text(message, message_len, 12, text, sizeof text, &len) == DNSM_OK)
  *         puts(text);
- *     if (dnsm_name_end(message, message_len, 12, &end) == DNSM_OK)
- *         printf("a name from offset 12 to %zu\n", end);
+ *     if (dnsm_name_octets(message, message_len, 12, name, sizeof name, &len) == DNSM_OK &&
+ *         dnsm_name_end(message, message_len, 12, &end) == DNSM_OK)
+ *         printf("%zu octets, from offset 12 to %zu\n", len, end);
  *     if (dnsm_name_from_text("a\\.b.example", 12, name, sizeof name, &len) == DNSM_OK)
  *         printf("a name of %zu octets\n", len);
- *
- * Comparisons, keys and hashes ignore ASCII case (RFC 1035 section 2.3.3). A server that looks up many names computes the key of
- * each once, and sorts them by it.
  *
  * Names as text. The text of a name is its labels, separated by dots (RFC 1035 section 5.1). A final dot may be left out, and
  * changes nothing: each name is absolute. The root is a single dot. In a label, each graphic ASCII character but the dot and the
@@ -235,6 +242,24 @@ dnsm_status dnsm_name_end(const uint8_t *message, size_t message_len, size_t pla
  * Errors: DNSM_NO_ROOM, and DNSM_BAD_TEXT if the text is no name. */
 dnsm_status dnsm_name_from_text(const char *text, size_t text_len, uint8_t *out, size_t out_len, size_t *len);
 
+/* 4. Names compared
+ *
+ *     static const uint8_t zone[] = "\7EXAMPLE\3ORG", seed[16] = {0};
+ *     uint8_t equal, below, order, key[DNSM_NAME_KEY];
+ *     uint32_t hash;
+ *     size_t len;
+ *     if (dnsm_name_equal(message, message_len, 12, zone, sizeof zone, 0, &equal) == DNSM_OK)
+ *         puts(equal ? "the name of the zone" : "another name");
+ *     if (dnsm_name_below(message, message_len, 43, zone, sizeof zone, 0, &below) == DNSM_OK &&
+ *         dnsm_name_order(message, message_len, 43, zone, sizeof zone, 0, &order) == DNSM_OK)
+ *         printf("%s, %s\n", below ? "in the zone" : "outside of it", order == 2 ? "after its name" : "not after it");
+ *     if (dnsm_name_key(message, message_len, 12, key, sizeof key, &len) == DNSM_OK &&
+ *         dnsm_name_hash(message, message_len, 12, seed, sizeof seed, &hash) == DNSM_OK)
+ *         printf("a key of %zu octets, and the hash %lu\n", len, (unsigned long)hash);
+ *
+ * All these calls ignore ASCII case (RFC 1035 section 2.3.3). A server that looks up many names computes the key of each once, and
+ * sorts them by it. */
+
 /* Sets `*equal` to 1 if two names are equal, each at an offset of octets of its own, else to 0.
  *
  * Errors: those of dnsm_name_end for the first name, or else for the second. Then `*equal` isn't written. */
@@ -268,28 +293,19 @@ dnsm_status dnsm_name_key(const uint8_t *message, size_t message_len, size_t pla
 dnsm_status dnsm_name_hash(const uint8_t *message, size_t message_len, size_t place, const uint8_t *seed, size_t seed_len,
                            uint32_t *hash);
 
-/* 4. RDATA
+/* 5. RDATA
  *
- *     dnsm_header header;
- *     dnsm_cursor cursor;
- *     dnsm_item item;
- *     dnsm_data_field field;
- *     char text[1200];
+ *     char text[512];
  *     uint8_t data[512];
- *     size_t len, index;
- *     dnsm_open(message, message_len, &header, &cursor);
- *     while (dnsm_next(message, message_len, &cursor, &item) == DNSM_OK) {
- *         if (dnsm_data_text(message, message_len, &item, text, sizeof text, &len) == DNSM_OK)
- *             puts(text);
- *         if (dnsm_data_name_text(message, message_len, &item, 0, text, sizeof text, &len) == DNSM_OK)
- *             printf("with the name %s\n", text);
- *         for (index = 0; dnsm_next_field(message, message_len, &item, &index, &field) == DNSM_OK;)
- *             printf("field %zu is of kind %u\n", index, field.kind);
- *         if (dnsm_data_octets(message, message_len, &item, data, sizeof data, &len) == DNSM_OK)
- *             printf("%zu octets with names uncompressed\n", len);
- *     }
- *     if (dnsm_data_from_text(DNSM_TYPE_MX, "10 mail.example.org.", 20, data, sizeof data, &len) == DNSM_OK)
- *         printf("%zu octets from text\n", len);
+ *     size_t len, index = 0;
+ *     dnsm_data_field field;
+ *     puts(dnsm_check_data(message, message_len, &record) == DNSM_OK ? "well-formed" : "malformed");
+ *     if (dnsm_data_text(message, message_len, &record, text, sizeof text, &len) == DNSM_OK)
+ *         puts(text);
+ *     while (dnsm_next_field(message, message_len, &record, &index, &field) == DNSM_OK)
+ *         printf("field %zu is of kind %u\n", index, field.kind);
+ *     if (dnsm_data_octets(message, message_len, &record, data, sizeof data, &len) == DNSM_OK)
+ *         printf("%zu octets with names uncompressed\n", len);
  */
 
 /* Writes the RDATA of a record as in a zone file (RFC 1035 section 5.1): the fields of its type, separated by spaces, for the 65
@@ -304,7 +320,8 @@ dnsm_status dnsm_data_text(const uint8_t *message, size_t message_len, const dns
                            size_t *len);
 
 /* Writes the RDATA of a record, with names uncompressed: what dnsm_put and dnsm_build take. It is checked to be the fields of
- * its type, for the 65 types of dnsm_data_text; RDATA of other types may be any octets. Nothing after the RDATA is read.
+ * its type, for the 65 types of dnsm_data_text; RDATA of other types may be any octets. Nothing after the RDATA is read. 65,535
+ * octets are always enough.
  *
  * Errors: DNSM_BAD_SECTION for a question, which has no RDATA; DNSM_SHORT_INPUT if the RDATA isn't within the message, which
  * happens only for an item that dnsm_next didn't write for these octets; DNSM_BAD_DATA if it isn't that of its type, or has more
@@ -316,23 +333,6 @@ dnsm_status dnsm_data_octets(const uint8_t *message, size_t message_len, const d
  *
  * Errors: those of dnsm_data_octets but DNSM_NO_ROOM. */
 dnsm_status dnsm_check_data(const uint8_t *message, size_t message_len, const dnsm_item *item);
-
-/* Sets `*place` to the offset of a name in the RDATA of a record, for dnsm_name_text and dnsm_name_octets with the end of the
- * RDATA as `message_len`. The names are counted from 0, in the order of the fields, for each type with a field that is a name. In
- * IPSECKEY, AMTRELAY and HIP names are parts of fields of octets, and aren't counted. No octet after the RDATA belongs to the
- * name, also where it has a compression pointer.
- *
- * Errors, the first that applies: DNSM_BAD_SECTION for a question; DNSM_NO_NAME if RDATA of this type has no name with this
- * index; and those of dnsm_data_octets but DNSM_NO_ROOM. On an error `*place` isn't written. */
-dnsm_status dnsm_data_name(const uint8_t *message, size_t message_len, const dnsm_item *item, size_t index, size_t *place);
-
-/* Writes such a name as text, or as its octets.
- *
- * Errors: those of dnsm_data_name, and DNSM_NO_ROOM. */
-dnsm_status dnsm_data_name_text(const uint8_t *message, size_t message_len, const dnsm_item *item, size_t index, char *out,
-                                size_t out_len, size_t *len);
-dnsm_status dnsm_data_name_octets(const uint8_t *message, size_t message_len, const dnsm_item *item, size_t index, uint8_t *out,
-                                  size_t out_len, size_t *len);
 
 /* What a field of RDATA is: a number; a record type, in `number`; the octets of an address; a name, at `place`; a string,
  * without its length; octets after their length of 16 bits; or other octets. */
@@ -364,6 +364,47 @@ typedef struct dnsm_data_field {
 dnsm_status dnsm_next_field(const uint8_t *message, size_t message_len, const dnsm_item *item, size_t *index,
                             dnsm_data_field *field);
 
+/* 6. Names in RDATA
+ *
+ *     char text[DNSM_NAME_TEXT];
+ *     uint8_t name[DNSM_NAME_OCTETS];
+ *     size_t len, place;
+ *     if (dnsm_data_name_text(message, message_len, &record, 0, text, sizeof text, &len) == DNSM_OK)
+ *         puts(text);
+ *     if (dnsm_data_name_octets(message, message_len, &record, 0, name, sizeof name, &len) == DNSM_OK &&
+ *         dnsm_data_name(message, message_len, &record, 0, &place) == DNSM_OK)
+ *         printf("%zu octets, from offset %zu\n", len, place);
+ */
+
+/* Sets `*place` to the offset of a name in the RDATA of a record, for dnsm_name_text and dnsm_name_octets with the end of the
+ * RDATA as `message_len`. The names are counted from 0, in the order of the fields, for each type with a field that is a name. In
+ * IPSECKEY, AMTRELAY and HIP names are parts of fields of octets, and aren't counted. No octet after the RDATA belongs to the
+ * name, also where it has a compression pointer.
+ *
+ * Errors, the first that applies: DNSM_BAD_SECTION for a question; DNSM_NO_NAME if RDATA of this type has no name with this
+ * index; and those of dnsm_data_octets but DNSM_NO_ROOM. On an error `*place` isn't written. */
+dnsm_status dnsm_data_name(const uint8_t *message, size_t message_len, const dnsm_item *item, size_t index, size_t *place);
+
+/* Writes such a name as text, or as its octets.
+ *
+ * Errors: those of dnsm_data_name, and DNSM_NO_ROOM. */
+dnsm_status dnsm_data_name_text(const uint8_t *message, size_t message_len, const dnsm_item *item, size_t index, char *out,
+                                size_t out_len, size_t *len);
+dnsm_status dnsm_data_name_octets(const uint8_t *message, size_t message_len, const dnsm_item *item, size_t index, uint8_t *out,
+                                  size_t out_len, size_t *len);
+
+/* 7. RDATA and records from text
+ *
+ *     static const char mx[] = "10 mail.example.org.", line[] = "www.example.org. 300 IN A 192.0.2.1";
+ *     uint8_t data[512], octets[512];
+ *     size_t data_len, len;
+ *     dnsm_item item;
+ *     if (dnsm_data_from_text(DNSM_TYPE_MX, mx, sizeof mx - 1, data, sizeof data, &data_len) == DNSM_OK)
+ *         printf("%zu octets of RDATA\n", data_len);
+ *     if (dnsm_record_from_text(line, sizeof line - 1, octets, sizeof octets, &len, &item) == DNSM_OK)
+ *         printf("a record of %zu octets, with type %u and TTL %lu\n", len, item.type, (unsigned long)item.ttl);
+ */
+
 /* Writes the RDATA that a text represents, as in a zone file: what dnsm_data_text writes for RDATA of this type, or `\#` with a
  * length and hexadecimal digits (RFC 3597 section 5), which have to be RDATA of this type, too. Names are absolute. Allocates.
  *
@@ -377,20 +418,19 @@ dnsm_status dnsm_data_from_text(uint16_t type, const char *text, size_t text_len
  * Errors: DNSM_NO_ROOM, DNSM_BAD_TEXT, and DNSM_NO_MEMORY. Then the item isn't written. */
 dnsm_status dnsm_record_from_text(const char *text, size_t text_len, uint8_t *out, size_t out_len, size_t *len, dnsm_item *item);
 
-/* 5. Numbers, and their texts
+/* 8. Texts of numbers
  *
- *     char type[16], class_[16];
+ *     char type[16], class_[16], opcode[16], rcode[16], option[32], error[64];
  *     size_t len;
- *     uint16_t number;
- *     if (dnsm_type_text(DNSM_TYPE_HTTPS, type, sizeof type, &len) == DNSM_OK &&
- *         dnsm_class_text(DNSM_CLASS_IN, class_, sizeof class_, &len) == DNSM_OK)
- *         printf("%s %s\n", class_, type);
- *     if (dnsm_type_from_text("mx", 2, &number) == DNSM_OK)
- *         printf("type %u\n", number);
+ *     dnsm_type_text(DNSM_TYPE_HTTPS, type, sizeof type, &len);
+ *     dnsm_class_text(DNSM_CLASS_IN, class_, sizeof class_, &len);
+ *     dnsm_opcode_text(DNSM_OPCODE_UPDATE, opcode, sizeof opcode, &len);
+ *     dnsm_rcode_text(DNSM_RCODE_NXDOMAIN, rcode, sizeof rcode, &len);
+ *     dnsm_option_text(DNSM_OPTION_NSID, option, sizeof option, &len);
+ *     dnsm_extended_error_text(DNSM_EDE_STALE_ANSWER, error, sizeof error, &len);
+ *     printf("%s, %s, %s, %s, %s, %s\n", type, class_, opcode, rcode, option, error);
  *
- * Texts are read in any case, and need no zero octet: the name that IANA has registered, as dnsm_type_text writes it, or the word
- * that it writes for a number without a name, as TYPE, and the number in decimal digits. A call that reads one sets a number, and
- * returns DNSM_BAD_TEXT if the text is none; then the number isn't written. */
+ * These buffers are always long enough, so that no call returns an error. */
 
 /* The numbers that IANA has registered, by their names: of record types, classes, opcodes, rcodes of up to twelve bits (16 is
  * BADVERS), options of OPT records, and extended errors (RFC 8914). Any other number may be used, too. */
@@ -484,6 +524,22 @@ dnsm_status dnsm_option_text(uint16_t code, char *out, size_t out_len, size_t *l
  * Errors: DNSM_NO_ROOM. */
 dnsm_status dnsm_extended_error_text(uint16_t code, char *out, size_t out_len, size_t *len);
 
+/* 9. Numbers from texts
+ *
+ *     uint16_t type, class_, rcode, option, error;
+ *     uint8_t opcode;
+ *     if (dnsm_type_from_text("mx", 2, &type) == DNSM_OK && dnsm_class_from_text("CLASS1", 6, &class_) == DNSM_OK)
+ *         printf("type %u, class %u\n", type, class_);
+ *     if (dnsm_opcode_from_text("Notify", 6, &opcode) == DNSM_OK && dnsm_rcode_from_text("NXDOMAIN", 8, &rcode) == DNSM_OK)
+ *         printf("opcode %u, rcode %u\n", opcode, rcode);
+ *     if (dnsm_option_from_text("COOKIE", 6, &option) == DNSM_OK &&
+ *         dnsm_extended_error_from_text("Blocked", 7, &error) == DNSM_OK)
+ *         printf("option %u, extended error %u\n", option, error);
+ *
+ * Texts are read in any case, and need no zero octet: the name that IANA has registered, as dnsm_type_text writes it, or the word
+ * that it writes for a number without a name, as TYPE, and the number in decimal digits. A call that reads one sets a number, and
+ * returns DNSM_BAD_TEXT if the text is none; then the number isn't written. */
+
 /* Reads a record type, as HTTPS or TYPE65, a class, as IN or CLASS1, an opcode up to 255, an rcode up to 4,095, the code of an
  * option, or that of an extended error.
  *
@@ -495,7 +551,7 @@ dnsm_status dnsm_rcode_from_text(const char *text, size_t text_len, uint16_t *rc
 dnsm_status dnsm_option_from_text(const char *text, size_t text_len, uint16_t *code);
 dnsm_status dnsm_extended_error_from_text(const char *text, size_t text_len, uint16_t *code);
 
-/* 6. EDNS
+/* 10. EDNS
  *
  *     dnsm_item item;
  *     dnsm_opt opt;
@@ -506,6 +562,8 @@ dnsm_status dnsm_extended_error_from_text(const char *text, size_t text_len, uin
  *         for (size_t place = item.data; dnsm_next_option(message, message_len, &item, &place, &option) == DNSM_OK;)
  *             printf("option %u of %u octets\n", option.code, option.data_len);
  *     }
+ *     if (dnsm_opt_fields(&record, &opt) == DNSM_NOT_OPT)
+ *         puts("the first record is no OPT record");
  */
 
 /* The fields of an OPT record (RFC 6891 section 6.1.3). */
@@ -531,11 +589,6 @@ dnsm_status dnsm_opt_fields(const dnsm_item *item, dnsm_opt *opt);
  * first item that can't be read; DNSM_NO_OPT; DNSM_BAD_OWNER if the owner isn't the root. Then nothing is written. */
 dnsm_status dnsm_find_opt(const uint8_t *message, size_t message_len, dnsm_opt *opt, dnsm_item *item, uint16_t *rcode);
 
-/* The TTL of an OPT record with these fields. To write one with dnsm_build, pass an item with the name ".", this TTL, the class
- * `udp_size`, the type DNSM_TYPE_OPT, the section DNSM_ADDITIONAL, and as data what dnsm_option_octets wrote for each option, one
- * after the other, or nothing. */
-uint32_t dnsm_opt_ttl(const dnsm_opt *opt);
-
 /* An option of an OPT record (RFC 6891 section 6.1.2). */
 typedef struct dnsm_opt_option {
     size_t data;       /* offset of its octets, which lie within the RDATA */
@@ -554,12 +607,7 @@ typedef struct dnsm_opt_option {
 dnsm_status dnsm_next_option(const uint8_t *message, size_t message_len, const dnsm_item *item, size_t *place,
                              dnsm_opt_option *option);
 
-/* Writes an option: its code, the length of its data, and its data.
- *
- * Errors: DNSM_NO_ROOM, and DNSM_LONG_DATA for more than 65,535 octets of data. */
-dnsm_status dnsm_option_octets(uint16_t code, const uint8_t *data, size_t data_len, uint8_t *out, size_t out_len, size_t *len);
-
-/* 7. Queries, and responses of one address
+/* 11. Queries, and responses of one address
  *
  *     static const uint8_t address[4] = {192, 0, 2, 1};
  *     uint8_t query[DNSM_MADE], response[DNSM_MADE];
@@ -568,7 +616,8 @@ dnsm_status dnsm_option_octets(uint16_t code, const uint8_t *data, size_t data_l
  *         dnsm_query(4660, true, "www.example.com", 15, DNSM_TYPE_A, DNSM_CLASS_IN, query, sizeof query, &query_len);
  *     if (status == DNSM_OK)
  *         status = dnsm_respond_a(query, query_len, true, 3600, address, response, sizeof response, &response_len);
- *     printf("%zu octets, and %zu\n", query_len, response_len);
+ *     if (status == DNSM_OK && dnsm_answers(query, query_len, response, response_len) == DNSM_OK)
+ *         printf("a query of %zu octets, and its response of %zu\n", query_len, response_len);
  */
 
 /* The length of an output buffer that is always enough for dnsm_query and dnsm_respond_a. */
@@ -595,7 +644,38 @@ dnsm_status dnsm_respond_a(const uint8_t *query, size_t query_len, bool authorit
  * DNSM_OTHER_QUERY. */
 dnsm_status dnsm_answers(const uint8_t *query, size_t query_len, const uint8_t *response, size_t response_len);
 
-/* 8. Writing a message by one call
+/* 12. Queries with EDNS
+ *
+ *     const dnsm_opt opt = {1232, DNSM_DO, 0, 0};
+ *     uint8_t options[4], query[512];
+ *     size_t options_len, len;
+ *     if (dnsm_option_octets(DNSM_OPTION_NSID, NULL, 0, options, sizeof options, &options_len) == DNSM_OK &&
+ *         dnsm_query_opt(4660, true, "www.example.com", 15, DNSM_TYPE_A, DNSM_CLASS_IN, &opt, options, options_len,
+ *                        query, sizeof query, &len) == DNSM_OK)
+ *         printf("a query of %zu octets, whose OPT record has TTL %lu\n", len, (unsigned long)dnsm_opt_ttl(&opt));
+ */
+
+/* Writes an option: its code, the length of its data, and its data.
+ *
+ * Errors: DNSM_NO_ROOM, and DNSM_LONG_DATA for more than 65,535 octets of data. */
+dnsm_status dnsm_option_octets(uint16_t code, const uint8_t *data, size_t data_len, uint8_t *out, size_t out_len, size_t *len);
+
+/* Writes a query as dnsm_query does, and an OPT record (RFC 6891 section 6.1) with the fields of `opt` and the options `options`:
+ * what dnsm_option_octets wrote for each, one after the other, or nothing. To set DNSM_AD or DNSM_CD, change the fourth octet
+ * afterwards, as by `out[3] |= DNSM_CD`. 282 octets more than its options are always enough.
+ *
+ * Errors, the first that applies: DNSM_BAD_TEXT, DNSM_LONG_DATA for more than 65,535 octets of options, DNSM_BAD_OPTION if they
+ * aren't whole options, and DNSM_NO_ROOM. */
+dnsm_status dnsm_query_opt(uint16_t id, bool recursion, const char *name, size_t name_len, uint16_t type, uint16_t class_,
+                           const dnsm_opt *opt, const uint8_t *options, size_t options_len,
+                           uint8_t *out, size_t out_len, size_t *len);
+
+/* The TTL of an OPT record with these fields. To write one with dnsm_build, pass an item with the name ".", this TTL, the class
+ * `udp_size`, the type DNSM_TYPE_OPT, the section DNSM_ADDITIONAL, and as data what dnsm_option_octets wrote for each option, one
+ * after the other, or nothing. */
+uint32_t dnsm_opt_ttl(const dnsm_opt *opt);
+
+/* 13. Writing a message by one call
  *
  *     static const uint8_t address[] = {192, 0, 2, 1};
  *     const dnsm_new_item items[] = {
@@ -606,7 +686,9 @@ dnsm_status dnsm_answers(const uint8_t *query, size_t query_len, const uint8_t *
  *     size_t len;
  *     if (dnsm_build(4660, DNSM_QR | DNSM_AA, items, 2, out, sizeof out, &len) == DNSM_OK)
  *         printf("%zu octets\n", len);
- */
+ *
+ * Take dnsm_put (part 14) to keep within a limit, to allocate nothing, or to save time. Take dnsm_build for the shortest message, or
+ * for names as text. */
 
 /* A question or a record to write. The name is text (see "Names as text"). The data is RDATA in wire format, with names
  * uncompressed. For the 65 types of dnsm_data_text it has to be the fields of the type, whatever the class, without compression
@@ -628,13 +710,16 @@ typedef struct dnsm_new_item {
  * MX and SOA. The message may have more than 65,535 octets, which no transport carries: check `*len`. The call allocates, and
  * frees all that it allocated.
  *
+ * It gives all of the message or nothing. A name whose text is that of the item before isn't parsed again. In a message of up to
+ * 16,384 octets no compression of the names is shorter.
+ *
  * Errors: DNSM_BAD_SECTION, DNSM_BAD_TEXT, DNSM_LONG_DATA or DNSM_BAD_DATA for an item that can't be written, the first one if
  * there are several, also if memory is out. DNSM_TOO_MANY only if a section has more than 65,535 items, DNSM_NO_MEMORY if an
  * allocation failed, and DNSM_NO_ROOM. */
 dnsm_status dnsm_build(uint16_t id, uint16_t flags, const dnsm_new_item *items, size_t items_len,
                        uint8_t *out, size_t out_len, size_t *len);
 
-/* 9. Writing a message item by item
+/* 14. Writing a message item by item
  *
  *     static const uint8_t name[] = "\7example\3com", address[] = {192, 0, 2, 1};
  *     const dnsm_put_item question = {name, sizeof name, NULL, 0, 0, DNSM_TYPE_A, DNSM_CLASS_IN, DNSM_QUESTION};
@@ -643,34 +728,17 @@ dnsm_status dnsm_build(uint16_t id, uint16_t flags, const dnsm_new_item *items, 
  *     size_t len;
  *     dnsm_draft draft;
  *     dnsm_status status = dnsm_begin(&draft, out, sizeof out, 4660, DNSM_QR | DNSM_AA);
- *     if (status == DNSM_OK)
- *         status = dnsm_put(&draft, out, sizeof out, &question);
- *     if (status == DNSM_OK && dnsm_put(&draft, out, sizeof out, &answer) == DNSM_NO_ROOM)
+ *     if (status == DNSM_OK && (status = dnsm_put(&draft, out, sizeof out, &question)) == DNSM_OK &&
+ *         dnsm_put(&draft, out, sizeof out, &answer) == DNSM_NO_ROOM)
  *         draft.flags |= DNSM_TC;
  *     if (status == DNSM_OK && dnsm_finish(&draft, out, sizeof out, &len) == DNSM_OK)
  *         printf("%zu octets\n", len);
- *
- * The response to a query, with the answers of another message:
- *
- *     uint8_t query[DNSM_MADE];
- *     size_t query_len;
- *     dnsm_header header;
- *     dnsm_cursor cursor;
- *     dnsm_item item;
- *     dnsm_query(4660, true, "example.org", 11, DNSM_TYPE_MX, DNSM_CLASS_IN, query, sizeof query, &query_len);
- *     status = dnsm_begin_response(&draft, out, sizeof out, query, query_len, DNSM_RCODE_NOERROR);
- *     dnsm_open(message, message_len, &header, &cursor);
- *     while (status == DNSM_OK && dnsm_next(message, message_len, &cursor, &item) == DNSM_OK)
- *         if (item.section == DNSM_ANSWER)
- *             status = dnsm_put_from(&draft, out, sizeof out, message, message_len, &item);
- *     if (status == DNSM_OK && dnsm_finish(&draft, out, sizeof out, &len) == DNSM_OK)
- *         printf("a response of %zu octets\n", len);
  */
 
-/* A message under construction in a buffer of the caller: an alternative to dnsm_build that allocates nothing. The caller owns
- * the draft and may copy it. A copy taken before an item was put is a mark, and copying it back removes the items put since;
- * then copies taken after those items mean nothing. The buffer belongs to all copies: each call needs the octets that the call
- * before left. They may move between calls.
+/* A message under construction in a buffer of the caller (part 13 says when to take dnsm_build). The caller owns the draft and may
+ * copy it. A copy taken before an item was put is a mark, and copying it back removes the items put since; then copies taken after
+ * those items mean nothing. The buffer belongs to all copies: each call needs the octets that the call before left. They may move
+ * between calls.
  *
  * Set `limit`, `reserved`, `id`, `flags` and `unchecked` between calls as you like. The other fields belong to the calls. With
  * other values there, each call is safe, but its results mean nothing; `hints` may have any values. */
@@ -721,6 +789,27 @@ dnsm_status dnsm_begin(dnsm_draft *draft, uint8_t *out, size_t out_len, uint16_t
  * buffer or the limit. On an error the message stays as it was, but octets of the buffer after it may have changed. */
 dnsm_status dnsm_put(dnsm_draft *draft, uint8_t *out, size_t out_len, const dnsm_put_item *item);
 
+/* Writes the header section of a draft, and sets `*len` to the length of the message, the draft's `len`, also on an error. More
+ * items may be put afterwards; then call it again.
+ *
+ * Errors: DNSM_NO_ROOM if the draft's `len` is less than 12 or exceeds `out_len`. */
+dnsm_status dnsm_finish(const dnsm_draft *draft, uint8_t *out, size_t out_len, size_t *len);
+
+/* 15. Responses, and items of other messages
+ *
+ *     uint8_t query[DNSM_MADE], out[512];
+ *     size_t query_len, len;
+ *     dnsm_draft draft;
+ *     dnsm_status status =
+ *         dnsm_query(4660, true, "example.org", 11, DNSM_TYPE_MX, DNSM_CLASS_IN, query, sizeof query, &query_len);
+ *     if (status == DNSM_OK)
+ *         status = dnsm_begin_response(&draft, out, sizeof out, query, query_len, DNSM_RCODE_NOERROR);
+ *     if (status == DNSM_OK)
+ *         status = dnsm_put_from(&draft, out, sizeof out, message, message_len, &record);
+ *     if (status == DNSM_OK && dnsm_finish(&draft, out, sizeof out, &len) == DNSM_OK)
+ *         printf("a response of %zu octets\n", len);
+ */
+
 /* Begins the response to a query, with the query's question: its ID, opcode, RD and CD, QR, and the low four bits of `rcode`.
  * A server that doesn't validate clears DNSM_CD afterwards (RFC 4035 section 3.1.6). As by dnsm_begin, there is no limit, no octet
  * is reserved, and RDATA is checked.
@@ -740,12 +829,6 @@ dnsm_status dnsm_begin_response(dnsm_draft *draft, uint8_t *out, size_t out_len,
  * dnsm_put. On an error the message stays as it was, but octets of the buffer after it may have changed. */
 dnsm_status dnsm_put_from(dnsm_draft *draft, uint8_t *out, size_t out_len, const uint8_t *message, size_t message_len,
                           const dnsm_item *item);
-
-/* Writes the header section of a draft, and sets `*len` to the length of the message, the draft's `len`, also on an error. More
- * items may be put afterwards; then call it again.
- *
- * Errors: DNSM_NO_ROOM if the draft's `len` is less than 12 or exceeds `out_len`. */
-dnsm_status dnsm_finish(const dnsm_draft *draft, uint8_t *out, size_t out_len, size_t *len);
 
 #ifdef __cplusplus
 }

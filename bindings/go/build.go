@@ -76,6 +76,22 @@ func Query(id uint16, recursion bool, name string, type_ Type) ([]byte, error) {
 	})
 }
 
+// QueryOPT is a query like that of Query, with an OPT record. The error is BadText if the text is no name, or LongData for more than
+// 65,535 octets of options.
+func QueryOPT(id uint16, recursion bool, name string, type_ Type, opt *OPT) ([]byte, error) {
+	options, err := opt.data()
+	if err != nil {
+		return nil, err
+	}
+	from, fields := []byte(name), opt.fields()
+	// Enough for each query with these options.
+	out := make([]byte, 282+len(options))
+	return writtenInto(out, func(out []byte, length *C.size_t) C.dnsm_status {
+		return C.dnsm_query_opt(C.uint16_t(id), C.bool(recursion), chars(from), C.size_t(len(from)), C.uint16_t(type_), C.uint16_t(ClassIN),
+			&fields, pointer(options), C.size_t(len(options)), pointer(out), C.size_t(len(out)), length)
+	})
+}
+
 // RespondA is the response to a query of class IN for type A or ANY, with one address. The error is why it is no such query.
 func RespondA(query []byte, authoritative bool, ttl uint32, address [4]byte) ([]byte, error) {
 	return written(func(out []byte, length *C.size_t) C.dnsm_status {

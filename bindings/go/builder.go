@@ -52,6 +52,18 @@ func (b *Builder) SetLimit(octets uint) { b.draft.limit = C.size_t(octets) }
 // SetReserved keeps octets free for later items, as for an OPT record. 0 lets the next ones have them.
 func (b *Builder) SetReserved(octets uint) { b.draft.reserved = C.size_t(octets) }
 
+// SetUnchecked copies RDATA of other types than those with names of RFC 1035 as it is, if it is known to be well-formed. Before, all is
+// checked.
+func (b *Builder) SetUnchecked(unchecked bool) {
+	b.draft.unchecked = 0
+	if unchecked {
+		b.draft.unchecked = 1
+	}
+}
+
+// SetID sets the ID.
+func (b *Builder) SetID(id uint16) { b.draft.id = C.uint16_t(id) }
+
 // Flags is the third and fourth octets of the header.
 func (b *Builder) Flags() uint16 { return uint16(b.draft.flags) }
 
@@ -87,8 +99,8 @@ func (b *Builder) PutFrom(item Item, section Section, ttl uint32) error {
 // Mark is what has been written so far, for Rewind.
 func (b *Builder) Mark() Mark { return Mark{b.draft} }
 
-// Rewind removes the items since a mark of this builder, and restores flags, limit and reserved octets. Marks that were made after
-// it mean nothing from then on: with one of them, the octets needn't be a message.
+// Rewind removes the items since a mark of this builder, and restores all that was set before it, as flags and limit. Marks that were
+// made after it mean nothing from then on: with one of them, the octets needn't be a message.
 func (b *Builder) Rewind(mark Mark) { b.draft = mark.draft }
 
 // Finish writes the header, and returns the message, which is in the buffer. More items may follow; then call it again.

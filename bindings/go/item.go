@@ -41,6 +41,12 @@ func (i Item) NameOctets() []byte {
 	return octets
 }
 
+// Offset is the offset of its name in the message.
+func (i Item) Offset() int { return int(i.item.place) }
+
+// DataOffset is the offset of its RDATA in the message. The TTL of a record is six octets before it, in four octets, big-endian.
+func (i Item) DataOffset() int { return int(i.item.data) }
+
 // Data is its RDATA as it is in the message; names in it may be compressed. A question has none.
 func (i Item) Data() []byte {
 	return i.octets[i.item.data:][:i.item.data_len:i.item.data_len]
@@ -65,6 +71,14 @@ func (i Item) DataName(index uint) (string, error) {
 		return "", Status(status)
 	}
 	return nameText(i.octets, offset)
+}
+
+// DataNameOctets is the octets of such a name, without compression pointers. The errors are those of DataName.
+func (i Item) DataNameOctets(index uint) ([]byte, error) {
+	return written(func(out []byte, length *C.size_t) C.dnsm_status {
+		return C.dnsm_data_name_octets(pointer(i.octets), C.size_t(len(i.octets)), &i.item, C.size_t(index), pointer(out),
+			C.size_t(len(out)), length)
+	})
 }
 
 // String is a line of a zone file.

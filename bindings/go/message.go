@@ -45,6 +45,17 @@ func (m *Message) Items() *Items {
 	return &Items{octets: m.octets, cursor: m.start}
 }
 
+// Trailing is the octets after the last item, which are no part of the message. The error is that of the first item that can't be read.
+func (m *Message) Trailing() ([]byte, error) {
+	items := m.Items()
+	for items.Next() {
+	}
+	if err := items.Err(); err != nil {
+		return nil, err
+	}
+	return m.octets[items.Offset():], nil
+}
+
 // Section is the items of a section. With an error, they are those before the first that can't be read. What can't be read after
 // the section makes no error. The error is BadSection for a number that exceeds 3.
 func (m *Message) Section(section Section) ([]Item, error) {
@@ -114,6 +125,9 @@ func (i *Items) Next() bool {
 	}
 	return i.status == C.DNSM_OK
 }
+
+// Offset is where the next item begins; after the last one, where the message ends.
+func (i *Items) Offset() int { return int(i.cursor.place) }
 
 // Item is the item that Next has read.
 func (i *Items) Item() Item {

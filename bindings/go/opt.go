@@ -45,12 +45,17 @@ func (i Item) OPT() (*OPT, error) {
 	}
 }
 
-// Item is the record for Build and Builder.Put.
-func (o *OPT) Item() (NewItem, error) {
+// fields is the fields that are in the class and the TTL of the record.
+func (o *OPT) fields() C.dnsm_opt {
 	fields := C.dnsm_opt{udp_size: C.uint16_t(o.UDPSize), rcode_high: C.uint8_t(o.RcodeHigh), version: C.uint8_t(o.Version)}
 	if o.DO {
 		fields.flags = C.DNSM_DO
 	}
+	return fields
+}
+
+// data is the octets of the options.
+func (o *OPT) data() ([]byte, error) {
 	var data []byte
 	for _, option := range o.Options {
 		octets, err := written(func(out []byte, length *C.size_t) C.dnsm_status {
@@ -58,9 +63,19 @@ func (o *OPT) Item() (NewItem, error) {
 			return C.dnsm_option_octets(C.uint16_t(option.Code), from, C.size_t(len(option.Data)), pointer(out), C.size_t(len(out)), length)
 		})
 		if err != nil {
-			return NewItem{}, err
+			return nil, err
 		}
 		data = append(data, octets...)
+	}
+	return data, nil
+}
+
+// Item is the record for Build and Builder.Put.
+func (o *OPT) Item() (NewItem, error) {
+	fields := o.fields()
+	data, err := o.data()
+	if err != nil {
+		return NewItem{}, err
 	}
 	return NewItem{
 		Section:    Additional,

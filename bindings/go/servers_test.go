@@ -48,6 +48,12 @@ func TestDataIsUncompressed(t *testing.T) {
 	if text, err := items[3].DataName(1); err != nil || text != "mail.example.org." {
 		t.Error(text, err)
 	}
+	if name, err := items[3].DataNameOctets(1); err != nil || !bytes.Equal(name, mail) {
+		t.Error(name, err)
+	}
+	if name, err := items[3].DataNameOctets(2); !errors.Is(err, NoName) {
+		t.Error(name, err)
+	}
 	if err := items[0].CheckData(); !errors.Is(err, BadSection) || items[1].CheckData() != nil {
 		t.Error(err)
 	}
@@ -94,6 +100,83 @@ func TestNamesAreCompared(t *testing.T) {
 	}
 	if _, err := NamesEqual([]byte{0x40}, one); !errors.Is(err, BadLabel) {
 		t.Error(err)
+	}
+}
+
+func TestNameHash(t *testing.T) {
+	one, other := octetsOf(t, "www.Example"), octetsOf(t, "wwv.example")
+	seed := []byte("0123456789abcdef")
+	hash, err := NameHash(one, seed)
+	if again, _ := NameHash(octetsOf(t, "WWW.example"), seed); err != nil || again != hash {
+		t.Error(hash, again, err)
+	}
+	for _, differing := range []struct{ name, seed []byte }{{other, seed}, {one, seed[1:]}} {
+		if found, err := NameHash(differing.name, differing.seed); err != nil || found == hash {
+			t.Error(found, err)
+		}
+	}
+}
+
+func TestOffsets(t *testing.T) {
+	items := itemsOf(t, []byte(mailResponse))
+	if mx := items[1]; mx.Offset() != 29 || mx.DataOffset() != 41 || items[0].DataOffset() != 29 {
+		t.Error(mx.Offset(), mx.DataOffset())
+	}
+	for offset, wanted := range map[uint]int{12: 25, 29: 31, 43: 50} {
+		if end, err := NameEnd([]byte(mailResponse), offset); err != nil || end != wanted {
+			t.Error(end, err)
+		}
+	}
+	if _, err := NameEnd([]byte(mailResponse), uint(len(mailResponse))); !errors.Is(err, ShortInput) {
+		t.Error(err)
+	}
+}
+
+func TestTrailing(t *testing.T) {
+	for octets, wanted := range map[string]string{mailResponse: "", mailResponse + "more": "more"} {
+		message, err := Parse([]byte(octets))
+		if err != nil {
+			t.Fatal(err)
+		}
+		if trailing, err := message.Trailing(); err != nil || string(trailing) != wanted {
+			t.Error(trailing, err)
+		}
+	}
+	message, err := Parse([]byte(mailResponse[:len(mailResponse)-1]))
+	if err != nil {
+		t.Fatal(err)
+	}
+	if trailing, err := message.Trailing(); !errors.Is(err, ShortInput) {
+		t.Error(trailing, err)
+	}
+}
+
+// SRV isn't of RFC 1035, and MX is.
+func TestUncheckedData(t *testing.T) {
+	builder, err := NewBuilder(make([]byte, 512), 1, 0)
+	if err != nil {
+		t.Fatal(err)
+	}
+	put := func(type_ Type) error {
+		return builder.Put(NewItem{Section: Answer, Name: "a", Type: type_, Class: ClassIN, Data: []byte{0}})
+	}
+	if err := put(TypeSRV); !errors.Is(err, BadData) {
+		t.Error(err)
+	}
+	builder.SetUnchecked(true)
+	if err := put(TypeSRV); err != nil {
+		t.Error(err)
+	}
+	if err := put(TypeMX); !errors.Is(err, BadData) {
+		t.Error(err)
+	}
+	builder.SetUnchecked(false)
+	if err := put(TypeSRV); !errors.Is(err, BadData) {
+		t.Error(err)
+	}
+	builder.SetID(0x1234)
+	if made, err := builder.Finish(); err != nil || made[0] != 0x12 || made[1] != 0x34 {
+		t.Error(made, err)
 	}
 }
 
@@ -183,6 +266,12 @@ func TestFindOPT(t *testing.T) {
 func TestTextsOfNumbers(t *testing.T) {
 	texts := []string{Opcode(5).String(), Opcode(3).String(), Rcode(3).String(), Rcode(4095).String(), OptionCode(3).String()}
 	if wanted := []string{"Update", "OPCODE3", "NXDomain", "RCODE4095", "NSID"}; !reflect.DeepEqual(texts, wanted) {
+		t.Error(texts)
+	}
+	texts = []string{TypeNSAPPTR.String(), ClassNONE.String(), OpcodeIQuery.String(), RcodeBADCOOKIE.String(),
+		OptionEDNSTCPKeepalive.String(), EDERRSIGsMissing.String()}
+	wanted := []string{"NSAP-PTR", "NONE", "IQuery", "BADCOOKIE", "edns-tcp-keepalive", "RRSIGs Missing"}
+	if !reflect.DeepEqual(texts, wanted) {
 		t.Error(texts)
 	}
 	if major, _, _ := LibraryVersion(); major != 2 {

@@ -34,6 +34,7 @@ const (
 	OtherQuery  Status = C.DNSM_OTHER_QUERY  // the ID, the opcode or the questions of a response aren't those of the query
 )
 
+// Error is a sentence that says why, in English.
 func (s Status) Error() string {
 	return text(func(out []byte, length *C.size_t) C.dnsm_status {
 		return C.dnsm_status_text(C.dnsm_status(s), chars(out), C.size_t(len(out)), length)

@@ -3,6 +3,7 @@ package dnsm
 import (
 	"bytes"
 	"errors"
+	"fmt"
 	"reflect"
 	"testing"
 )
@@ -224,6 +225,26 @@ func TestQueriesAndResponsesHaveAllFields(t *testing.T) {
 		wanted += "\xc0\x0c\x00\x01\x00\x01\x01\x02\x03\x04\x00\x04\xc0\x00\x02\x09"
 		equal(t, []interface{}{string(response), err}, []interface{}{wanted, nil})
 	}
+}
+
+func TestAQueryHasAnOPTRecord(t *testing.T) {
+	asked, err := QueryOPT(0x102, true, "a.b", TypeMX, &wholeOPT)
+	wanted := "\x01\x02\x01\x00\x00\x01\x00\x00\x00\x00\x00\x01\x01a\x01b\x00\x00\x0f\x00\x01"
+	wanted += "\x00\x00\x29\x10\x00\x01\x02\x80\x00\x00\x0a" + options
+	equal(t, []interface{}{string(asked), err}, []interface{}{wanted, nil})
+	asked, err = QueryOPT(1, false, ".", TypeA, &OPT{UDPSize: 512})
+	wanted = "\x00\x01\x00\x00\x00\x01\x00\x00\x00\x00\x00\x01\x00\x00\x01\x00\x01"
+	wanted += "\x00\x00\x29\x02\x00\x00\x00\x00\x00\x00\x00"
+	equal(t, []interface{}{string(asked), err}, []interface{}{wanted, nil})
+	_, unnamed := QueryOPT(1, true, "", TypeA, &OPT{})
+	_, long := QueryOPT(1, true, ".", TypeA, &OPT{Options: []Option{{1, make([]byte, 65532)}}})
+	equal(t, []error{unnamed, long}, []error{BadText, LongData})
+}
+
+func ExampleQueryOPT() {
+	octets, err := QueryOPT(4660, true, "www.example.com", TypeA, &OPT{UDPSize: 1232, DO: true, Options: []Option{{Code: 3}}})
+	fmt.Println(len(octets), err)
+	// Output: 48 <nil>
 }
 
 func TestALimitMayBeLong(t *testing.T) {

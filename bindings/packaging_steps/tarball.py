@@ -10,6 +10,7 @@ def make(release, built):
     folder = release.folder("tarball")
     library.install(release, built, f"{folder}/include", f"{folder}/lib")
     write(f"{folder}/lib/pkgconfig/dnsm.pc", release.filled("c/dnsm.pc.in", PREFIX="${pcfiledir}/../..", LIBRARIES="lib"))
+    copy(f"{BINDINGS}/c/install", f"{folder}/install", 0o755)
     write(f"{folder}/README.md", release.filled("c/README.md.in"))
     copy_terms(folder)
     copy_tree(f"{BINDINGS}/c/examples", f"{folder}/examples")

@@ -3,8 +3,7 @@
 
     header.py DNSM_H LIB_RS     with the package for Python installed
 
-Prints the differences, and fails if there are any. The module for Go needs no such test: cgo reads the header. Of the numbers that
-IANA registers Python has those that are met most.
+Prints the differences, and fails if there are any. The module for Go needs no such test: cgo reads the header.
 """
 
 import ctypes
@@ -51,8 +50,17 @@ PYTHON_POINTERS = {
 
 # Numbers that are in no enum in Python.
 NO_ENUM = {"DNSM_NAME_TEXT", "DNSM_NAME_OCTETS", "DNSM_NAME_KEY", "DNSM_MADE", "DNSM_DO"}
-# The numbers that IANA registers, by the beginning of their names.
-REGISTERED = {"TYPE": dnsm.Type, "CLASS": dnsm.Class, "OPCODE": dnsm.Opcode, "RCODE": dnsm.Rcode, "OPTION": (), "EDE": ()}
+# The enums of Python, by the beginning of the names in dnsm.h.
+ENUMS = {
+    "": (dnsm.Status, dnsm.Section, dnsm.Flag),
+    "FIELD_": (dnsm.FieldKind,),
+    "TYPE_": (dnsm.Type,),
+    "CLASS_": (dnsm.Class,),
+    "OPCODE_": (dnsm.Opcode,),
+    "RCODE_": (dnsm.Rcode,),
+    "OPTION_": (dnsm.OptionCode,),
+    "EDE_": (dnsm.ExtendedErrorCode,),
+}
 
 
 def declaration(text):
@@ -122,13 +130,8 @@ def main(header, crate):
     compare("Python: the calls", sorted(calls), sorted(_calls._CALLS))
     for name, (words, _) in calls.items():
         compare(f"Python: {name}", [python_type(word, kind) for word, kind in words], _calls._CALLS.get(name))
-    enums = {f"DNSM_{it.name}": it.value for enum in (dnsm.Status, dnsm.Section, dnsm.Flag) for it in enum}
-    enums.update({f"DNSM_FIELD_{it.name}": it.value for it in dnsm.FieldKind})
-    registered = {f"DNSM_{kind}_{it.name}": it.value for kind, enum in REGISTERED.items() for it in enum}
-    others = {name: it for name, it in numbers.items() if name not in NO_ENUM and name.split("_")[1] not in REGISTERED}
-    compare("Python: the numbers", others, enums)
-    for name, number in registered.items():
-        compare(f"Python: {name}", numbers.get(name), number)
+    named = {f"DNSM_{start}{it.name}": it.value for start, enums in ENUMS.items() for enum in enums for it in enum}
+    compare("Python: the numbers", {name: it for name, it in numbers.items() if name not in NO_ENUM}, named)
     print("\n".join(found))
     return bool(found)
 

@@ -20,6 +20,17 @@ quoted_program() {
   quoted python >program.py && names venv/bin/python program.py
 }
 
+# The programs of the package's own page. The second takes the addresses from elsewhere, here more than it has room for.
+page() {
+  venv/bin/python -W error -c '
+import importlib.metadata, re
+names = {"addresses": [bytes(15) + bytes([last]) for last in range(40)]}
+blocks = re.findall("```python\\n(.*?)```", importlib.metadata.metadata("dnsm").get_payload(), re.S)
+for block in blocks:
+    exec(block, names)
+assert len(blocks) == 2 and names["octets"][2] & 2'
+}
+
 # The package by its sources, and a user's program by what the package says of its types.
 typed() {
   mypy --strict --cache-dir mypy venv/lib/python*/site-packages/dnsm &&
@@ -40,6 +51,7 @@ recorded() {
 checks() {
   check python::described described
   check python::quoted quoted_program
+  check python::page page
   check python::typed typed mypy
 }
 
@@ -47,6 +59,10 @@ check python::recorded recorded python3
 check python::header header python3
 first=yes
 for python in ${PYTHONS:-python3}; do
+  if has "$python" && ! "$python" -c ''; then
+    echo "test packages::python::$python ... FAILED"
+    continue
+  fi
   if ! "$python" -c 'import ensurepip, venv' 2>/dev/null; then
     skip "python::installed_by_$python" "$python with venv"
     continue
@@ -55,4 +71,4 @@ for python in ${PYTHONS:-python3}; do
   [ "$first" = no ] || checks
   first=no
 done
-[ "$first" = no ] || for name in described quoted typed; do skip "python::$name" 'python3 with venv'; done
+[ "$first" = no ] || for name in described quoted page typed; do skip "python::$name" 'python3 with venv'; done

@@ -47,11 +47,16 @@ formatted() {
   (cd crates && cargo fmt --all --check)
 }
 
+runs() {
+  cargo --version
+}
+
 # cargo packs crates of a workspace that depend on each other since 1.90.
 is_new() {
   printf '1.90.0\n%s\n' "$(cargo --version | cut -d' ' -f2)" | sort -V -C
 }
 
+check rust::runs runs cargo
 if ! has cargo || ! is_new; then
   for name in packed used system tested warnings formatted; do skip "rust::$name" 'cargo 1.90'; done
 else

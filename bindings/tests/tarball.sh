@@ -3,7 +3,7 @@
 
 library=$prefix/lib/libdnsm.so.$version
 strict='-std=c99 -Wall -Wextra -Wconversion -Wpedantic -Werror -O2'
-programs='show write respond mx'
+programs='show write respond mx serve forward'
 
 # linked FOLDER OPTION..: the programs with the static library.
 linked() {
@@ -28,9 +28,26 @@ shared() {
   all_three shared
 }
 
+# Installed as for a package, in another folder than where it is going to be, and used there. A path that isn't absolute is refused.
+installed() {
+  local root=$PWD/root words
+  ! "$prefix/install" folder && [ ! -e folder ] || return
+  DESTDIR=$root "$prefix/install" "/opt/a folder" && DESTDIR=$root "$prefix/install" "/opt/a folder" || return
+  (cd "$root/opt/a folder" && find . -type f | sort) |
+    diff <(printf '%s\n' ./include/dnsm.h ./lib/libdnsm.a "./lib/libdnsm.so.$version" ./lib/pkgconfig/dnsm.pc) - || return
+  export PKG_CONFIG_SYSROOT_DIR=$root PKG_CONFIG_LIBDIR="$root/opt/a folder/lib/pkgconfig" LD_LIBRARY_PATH="$root/opt/a folder/lib"
+  words=$(pkg-config --cflags --libs dnsm) && eval "$cc $strict -o installed '$prefix/examples/write.c' $words" &&
+    writes ./installed && ldd installed | grep -F "libdnsm.so.2 => $root/opt/a folder/lib"
+}
+
 # Also wholly static, and position-independent.
 static() {
   linked static && all_three static && linked whole -static && all_three whole && linked pie -static-pie && all_three pie
+}
+
+# The servers over sockets, asked over UDP and TCP of this machine.
+servers() {
+  linked servers && python3 "$tests/c/serving" servers/serve servers/forward servers/show | diff "$tests/c/serving.txt" -
 }
 
 # The program of the page.
@@ -85,7 +102,9 @@ symbols() {
 }
 
 check tarball::shared shared "$cc" pkg-config
+check tarball::installed installed "$cc" pkg-config
 check tarball::static static "$cc"
+check tarball::servers servers "$cc" python3
 check tarball::quoted quoted_program "$cc"
 check tarball::cplusplus cplusplus "${CXX:-c++}"
 check tarball::hardened hardened readelf

@@ -16,13 +16,14 @@
 #include <string.h>
 #include <sys/random.h>
 #include <sys/socket.h>
+#include <sys/time.h>
 #include <time.h>
 #include <unistd.h>
 
 /* The octets of an OPT record without options; of a message for a client without EDNS, of one for others, and of a reply. */
 enum { OPT_OCTETS = 11, PLAIN = 512, UDP_MOST = 1232, MOST = 65535 };
-/* Entries of the cache; the longest that one is kept, in seconds; how long a reply is waited for, in seconds. */
-enum { ENTRIES = 4096, LONGEST = 86400, PATIENCE = 2 };
+/* Entries of the cache; seconds that one is kept at most, and that a reply is waited for. The index of the field MINIMUM of SOA. */
+enum { ENTRIES = 4096, LONGEST = 86400, PATIENCE = 2, SOA_MINIMUM = 6 };
 
 /* What is asked: a name in lower case, and flags of the query that change the reply. */
 typedef struct question {
@@ -149,12 +150,13 @@ static size_t ask_tcp(const uint8_t *query, size_t query_len, size_t name_len, u
     return len;
 }
 
-/* Sets how long a reply may be kept. Returns false if it can't be read to its end. */
+/* Sets how long a reply may be kept. Returns false if it can't be read to its end, or has malformed RDATA. */
 static bool read_lifetime(const uint8_t *reply, size_t len, uint32_t *lifetime)
 {
     dnsm_header header;
     dnsm_cursor cursor;
     dnsm_item item;
+    dnsm_data_field minimum;
     bool has_soa = false;
     dnsm_status status = dnsm_open(reply, len, &header, &cursor);
     *lifetime = LONGEST;
@@ -162,11 +164,13 @@ static bool read_lifetime(const uint8_t *reply, size_t len, uint32_t *lifetime)
         uint32_t ttl = item.ttl > INT32_MAX ? 0 : item.ttl; /* RFC 2181 section 8 */
         if (item.section == DNSM_QUESTION || item.type == DNSM_TYPE_OPT)
             continue;
-        if (item.section == DNSM_AUTHORITY && item.type == DNSM_TYPE_SOA && item.data_len >= 20) {
-            uint32_t minimum;
+        if (dnsm_check_data(reply, len, &item) != DNSM_OK)
+            return false;
+        size_t index = SOA_MINIMUM;
+        if (item.section == DNSM_AUTHORITY && item.type == DNSM_TYPE_SOA &&
+            dnsm_next_field(reply, len, &item, &index, &minimum) == DNSM_OK) {
             has_soa = true;
-            memcpy(&minimum, reply + item.data + item.data_len - 4, 4);
-            ttl = ntohl(minimum) < ttl ? ntohl(minimum) : ttl;
+            ttl = minimum.number < ttl ? (uint32_t)minimum.number : ttl;
         }
         *lifetime = ttl < *lifetime ? ttl : *lifetime;
     }
@@ -206,7 +210,7 @@ static dnsm_status put_records(dnsm_draft *draft, uint8_t *out, const entry *fro
     while (status == DNSM_OK && (status = dnsm_next(from->reply, from->len, &cursor, &item)) == DNSM_OK) {
         if (item.section == DNSM_QUESTION || item.type == DNSM_TYPE_OPT)
             continue;
-        item.ttl = item.ttl > age ? item.ttl - age : 0;
+        item.ttl = item.ttl > INT32_MAX || item.ttl < age ? 0 : item.ttl - age;
         status = dnsm_put_from(draft, out, UDP_MOST, from->reply, from->len, &item);
     }
     return status == DNSM_END ? DNSM_OK : status;

@@ -15,12 +15,13 @@
 #include <stdlib.h>
 #include <string.h>
 #include <sys/socket.h>
+#include <sys/time.h>
 #include <unistd.h>
 
 /* The octets of an OPT record without options; of a UDP message for a client without EDNS, and at most; of a TCP message. */
 enum { OPT_OCTETS = 11, PLAIN = 512, UDP_MOST = 1232, TCP_MOST = 65535 };
-/* How many CNAME records are followed. How long a TCP connection may be idle, in seconds. */
-enum { CHAIN = 8, IDLE = 5 };
+/* How many CNAME records are followed. How long a TCP connection may be idle, in seconds. The index of the field MINIMUM of SOA. */
+enum { CHAIN = 8, IDLE = 5, SOA_MINIMUM = 6 };
 
 /* The key of a name. Keys compare as RFC 4034 section 6.1 orders names, and begin with the keys of all names above. */
 typedef struct key {
@@ -125,22 +126,22 @@ static void read_zone(const char *path)
     free(line);
 }
 
-static dnsm_status put(dnsm_draft *draft, const record *from, uint8_t section)
+static dnsm_status put(dnsm_draft *draft, const record *from, uint8_t section, uint32_t ttl)
 {
     dnsm_item item = from->item;
     item.section = section;
+    item.ttl = ttl;
     return dnsm_put_from(draft, out, TCP_MOST, from->octets, from->len, &item);
 }
 
 /* Puts the SOA record. Its TTL says how long a client may keep that there is no such record: RFC 2308 section 3. */
 static dnsm_status put_negative(dnsm_draft *draft, uint16_t rcode)
 {
-    record it = *soa;
-    const uint8_t *last = it.octets + it.item.data + it.item.data_len - 4;
-    const uint32_t minimum = (uint32_t)last[0] << 24 | (uint32_t)last[1] << 16 | (uint32_t)last[2] << 8 | last[3];
-    it.item.ttl = minimum < it.item.ttl ? minimum : it.item.ttl;
+    dnsm_data_field minimum = {.number = UINT32_MAX};
+    size_t index = SOA_MINIMUM;
+    dnsm_next_field(soa->octets, soa->len, &soa->item, &index, &minimum);
     draft->flags |= rcode;
-    return put(draft, &it, DNSM_AUTHORITY);
+    return put(draft, soa, DNSM_AUTHORITY, minimum.number < soa->item.ttl ? (uint32_t)minimum.number : soa->item.ttl);
 }
 
 /* Puts what the zone has of a name and type. If that is a CNAME record alone, sets `*alias` to it, else to NULL. */
@@ -157,7 +158,7 @@ static dnsm_status put_records(dnsm_draft *draft, const key *name, uint16_t type
             continue;
         *alias = is_asked ? NULL : &zone[at];
         found = true;
-        const dnsm_status status = put(draft, &zone[at], DNSM_ANSWER);
+        const dnsm_status status = put(draft, &zone[at], DNSM_ANSWER, zone[at].item.ttl);
         if (status != DNSM_OK)
             return status;
     }
@@ -267,7 +268,7 @@ static int serve_tcp(int client)
 static int open_socket(int type, const char *address, const char *port)
 {
     struct sockaddr_in at = {.sin_family = AF_INET, .sin_port = htons((uint16_t)strtoul(port, NULL, 10))};
-    const int on = 1, made = socket(AF_INET, type, 0);
+    const int on = 1, made = socket(AF_INET, type | SOCK_NONBLOCK, 0);
     errno = EINVAL;
     if (inet_pton(AF_INET, address, &at.sin_addr) != 1 || setsockopt(made, SOL_SOCKET, SO_REUSEADDR, &on, sizeof on) != 0 ||
         bind(made, (struct sockaddr *)&at, sizeof at) != 0 || (type == SOCK_STREAM && listen(made, 64) != 0))

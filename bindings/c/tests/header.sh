@@ -1,9 +1,9 @@
 #!/usr/bin/env bash
 # Compares dnsm.h with the crates: each call and each struct by its C types and the names of its parameters and fields, the
 # numbers of the errors, of IANA's registry and of the kinds of fields, the lengths that are always enough, and the names of the
-# calls in the archive that `library` has built. Looks whether edge.c or servers.c, and also campaigns/hostile.c, make each
-# call. Compiles the header alone. Prints the differences, and fails if there are any, or if there is no C compiler, no `nm` or
-# no archive.
+# calls in the archive that `library` has built. Looks whether an example of dnsm.h, edge.c or servers.c, and also
+# campaigns/hostile.c, make each call. Compiles the header alone. Prints the differences, and fails if there are any, or if there
+# is no C compiler, no `nm` or no archive.
 set -eu
 here=$(cd "$(dirname "$0")" && pwd)
 header=$here/../dnsm.h
@@ -92,20 +92,37 @@ sed -nE 's/^Shows b field \(([A-Za-z0-9]+) .*field\.kind ≡ ([0-9]+).*/DNSM_FIE
   sed 's/RECORDTYPE/TYPE/' >"$folder/kinds"
 [ -s "$folder/kinds" ] && diff "$folder/kinds" <(enumerated FIELD)
 
-# the lengths that are always enough, as the clauses `short` have them
+# the length that is always enough for a call, as its clause `short` has it
+bound_of() {
+  cat "$crates"/dnsm/src/*.rt | sed -n "/fn $1(/,/^{/p" | tr '\n' ' ' | sed -nE 's/.*ensures short \{[^}]*length out\.old < ([^}]*) \}.*/\1/p'
+}
+
+# the comment before a call, in one line
+comment_of() {
+  awk -v call="dnsm_status $1(" '/^\/\*/ { text = "" } index($0, call) == 1 { print text } { sub(/^ \*/, ""); text = text $0 }' "$header"
+}
+
 while read -r call constant; do
-  bound=$(cat "$crates"/dnsm/src/*.rt | sed -n "/fn dnsm_$call(/,/^{/p" | sed -nE 's/.*ensures short .*length out\.old < ([0-9]+) \}$/\1/p')
-  grep -qE "\bDNSM_$constant = $bound\b" "$header" || { echo "dnsm_$call: a clause says $bound"; exit 1; }
+  bound=$(bound_of "$call")
+  grep -qE "\bDNSM_$constant = $bound\b" "$header" || { echo "$call: a clause says $bound"; exit 1; }
+  echo "$call" >>"$folder/bounded"
 done <<'BOUNDS'
-name_text NAME_TEXT
-data_name_text NAME_TEXT
-name_octets NAME_OCTETS
-name_from_text NAME_OCTETS
-data_name_octets NAME_OCTETS
-name_key NAME_KEY
-query MADE
-respond_a MADE
+dnsm_name_text NAME_TEXT
+dnsm_data_name_text NAME_TEXT
+dnsm_name_octets NAME_OCTETS
+dnsm_name_from_text NAME_OCTETS
+dnsm_data_name_octets NAME_OCTETS
+dnsm_name_key NAME_KEY
+dnsm_query MADE
+dnsm_respond_a MADE
 BOUNDS
+
+# the other calls with such a clause say its length in their comments
+sed -E 's/^[a-z0-9_]+ ([a-z_]+)\(.*/\1/' "$folder/prototypes" | sort >"$folder/declared"
+while read -r call; do
+  bound=$(bound_of "$call" | sed -E 's/^length options\.now \+ (.*)/\1 octets more than its options/; t; s/([0-9])([0-9]{3})$/\1,\2/; s/$/ octets/')
+  comment_of "$call" | grep -q "[^0-9,]$bound are always enough\." || { echo "$call: a clause says $bound"; exit 1; }
+done < <(while read -r call; do [ "$(bound_of "$call")" ] && echo "$call"; done <"$folder/declared" | grep -vxFf "$folder/bounded")
 
 # each status has a sentence
 awk '{ print $2 }' "$folder/numbers" >"$folder/statuses"
@@ -116,8 +133,9 @@ awk -F'[". ]' '/^#define DNSM_VERSION "/ { text = 10000 * $4 + 100 * $5 + $6 } /
   END { exit !(text == number && number > 0) }' "$header"
 
 # what the archive defines, and what the tests call
-sed -E 's/^[a-z0-9_]+ ([a-z_]+)\(.*/\1/' "$folder/prototypes" | sort >"$folder/declared"
+"$here/quoted" >"$folder/quoted.c"
 while read -r name; do
+  grep -q "\b$name(" "$folder/quoted.c" || { echo "no example of dnsm.h calls $name"; exit 1; }
   grep -q "\b$name[(,]" "$here/edge.c" "$here/servers.c" || { echo "the tests call no $name"; exit 1; }
   grep -q "\b$name[(,]" "$top/campaigns/hostile.c" || { echo "hostile.c calls no $name"; exit 1; }
 done <"$folder/declared"

@@ -1,10 +1,11 @@
 #!/usr/bin/env bash
-# Builds the static library of crates/dnsm (library), compares dnsm.h with its exports (header.sh), and compiles and runs these
-# tests, the examples of bindings/c, and those of dnsm.h (quoted), in C and C++. Each compiler of gcc and clang, and of g++ and
-# clang++, that is installed compiles them, with all warnings as errors, and with the address and undefined behaviour sanitizers if
-# it has them, which it says. The sanitizers check the programs and what they pass to the library, but not the reads and writes of
-# libdnsm.a itself, which are proved; show.c has a page after each message that can't be read. The packages of Debian are gcc, g++
-# and clang.
+# Builds the static library of crates/dnsm (library), compares dnsm.h with its exports (header.sh), and its page with the contracts
+# (page), and compiles and runs these tests, the examples of bindings/c, and those of dnsm.h (quoted), in C and C++. Each compiler of
+# gcc and clang, and of g++ and clang++, that is installed compiles them, with all warnings as errors, and with the address and
+# undefined behaviour sanitizers if it has them, which it says. The sanitizers check the programs and what they pass to the library,
+# but not the reads and writes of libdnsm.a itself, which are proved; show.c has a page after each message that can't be read. The
+# packages of Debian are gcc, g++ and clang.
+# serve and forward also run under valgrind, and are asked by dig, kdig and dnspython (clients), if these are installed.
 # Prints 'test c::NAME ... ok' or 'test c::NAME ... FAILED' for each step, and fails if one does, or if there is no compiler for
 # C or for C++.
 set -u
@@ -154,6 +155,11 @@ examples() {
     "$build/show" prefixes <"$build/messages" && "$build/show" changes <"$build/messages"
 }
 
+# serve and forward are short.
+are_short() {
+  wc -l "$here"/../examples/{serve,forward}.c | awk '$2 != "total" && $1 >= 300 { print $2 ": " $1 " lines"; long = 1 } END { exit long }'
+}
+
 # serve and forward, asked over UDP and TCP of this machine. With --valgrind both run under it.
 serves() {
   "$here/serving" "$@" "$build/serve" "$build/forward" "$build/show_simply" | diff "$here/serving.txt" -
@@ -166,6 +172,28 @@ checked() {
     "$1" -std=c11 -O1 -g "-I$header" "$here/../examples/$program.c" "$archive" "$kit/c/liblibc_c.a" -o "$build/$program" || return
   done
   serves --valgrind
+}
+
+# asked CLIENT PYTHON: serve and forward, asked by another program.
+asked() {
+  "$2" "$here/clients" "$1" "$build/serve" "$build/forward" | diff "$here/clients.txt" -
+}
+
+# A Python that has dnspython, if there is one.
+python_with_dns() {
+  local python
+  for python in python3 /usr/bin/python3; do
+    "$python" -c 'import dns' 2>/dev/null && echo "$python" && return
+  done
+}
+
+# ask_by CLIENT PYTHON: the outcome of that. Without a PYTHON the client isn't installed.
+ask_by() {
+  if [ "$2" ]; then
+    outcome "$1" asked "$1" "$2"
+  else
+    echo "$1 is not installed: serve and forward are not asked by it"
+  fi
 }
 
 # The examples of dnsm.h.
@@ -190,11 +218,16 @@ each_compiler() {
 exec 3>&1
 outcome library "$here/../library"
 outcome header "$here/header.sh"
+outcome page "$here/page"
 each_compiler examples gcc clang
 each_compiler examples_of_cpp g++ clang++
+outcome short are_short
 if command -v valgrind >/dev/null; then
   outcome valgrind checked "$(command -v gcc clang | head -1)"
 else
   echo 'valgrind is not installed: serve and forward run without'
 fi
+ask_by dig "$(command -v dig >/dev/null && echo python3)"
+ask_by kdig "$(command -v kdig >/dev/null && echo python3)"
+ask_by dnspython "$(python_with_dns)"
 exit $failed

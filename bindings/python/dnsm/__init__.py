@@ -27,12 +27,23 @@ from ._errors import (
 )
 from ._items import Field, Question, Record
 from ._message import FoundOpt, Message
-from ._names import name_from_text, name_is_below, name_key, name_to_text, names_are_equal
+from ._names import (
+    compare_names,
+    name_end,
+    name_from_text,
+    name_hash,
+    name_is_below,
+    name_key,
+    name_to_text,
+    names_are_equal,
+)
 from ._numbers import (
     Class,
+    ExtendedErrorCode,
     FieldKind,
     Flag,
     Opcode,
+    OptionCode,
     Rcode,
     Section,
     Type,
@@ -60,6 +71,7 @@ __all__ = [
     "DataError",
     "Edns",
     "Error",
+    "ExtendedErrorCode",
     "Field",
     "FieldKind",
     "Flag",
@@ -73,6 +85,7 @@ __all__ = [
     "NotAnswerable",
     "Opcode",
     "Option",
+    "OptionCode",
     "Question",
     "Rcode",
     "Record",
@@ -83,11 +96,14 @@ __all__ = [
     "build",
     "class_from_text",
     "class_text",
+    "compare_names",
     "data_from_text",
     "extended_error_from_text",
     "extended_error_text",
     "library_version",
+    "name_end",
     "name_from_text",
+    "name_hash",
     "name_is_below",
     "name_key",
     "name_to_text",

@@ -30,8 +30,9 @@ class Builder:
     >>> len(builder.finish())
     45
 
-    `limit` is the most octets that the message may have. `reserved` of them are kept free for later items, as for an OPT record;
-    0, which it is at first, lets the next items have them. `flags` are the third and fourth octets of the header.
+    `limit` is the most octets that the message may have, and can't be raised later. `reserved` of them are kept free for later items,
+    as for an OPT record; 0, which it is at first, lets the next items have them. `flags` are the third and fourth octets of the header.
+    RDATA is checked. If `unchecked` is true, that of other types than those with names of RFC 1035 is copied as it is.
     """
 
     __slots__ = ("_draft", "_limit", "_out")
@@ -55,7 +56,17 @@ class Builder:
         return builder
 
     @property
+    def id(self) -> int:
+        """The ID. It may be set."""
+        return int(self._draft.id)
+
+    @id.setter
+    def id(self, id: int) -> None:
+        self._draft.id = _calls.number(id, 16, "id")
+
+    @property
     def flags(self) -> int:
+        """The third and fourth octets of the header. They may be set."""
         return int(self._draft.flags)
 
     @flags.setter
@@ -63,12 +74,31 @@ class Builder:
         self._draft.flags = _calls.number(flags, 16, "flags")
 
     @property
+    def limit(self) -> int:
+        """The most octets that the message may have. It may be set to fewer than at first."""
+        return min(int(self._draft.limit), self._limit)
+
+    @limit.setter
+    def limit(self, octets: int) -> None:
+        self._draft.limit = _calls.number(octets, 32, "limit")
+
+    @property
     def reserved(self) -> int:
+        """How many octets of the limit are kept free. It may be set."""
         return int(self._draft.reserved)
 
     @reserved.setter
     def reserved(self, octets: int) -> None:
         self._draft.reserved = _calls.number(octets, 32, "reserved")
+
+    @property
+    def unchecked(self) -> bool:
+        """Whether RDATA isn't checked where it needn't be. It may be set."""
+        return bool(self._draft.unchecked)
+
+    @unchecked.setter
+    def unchecked(self, unchecked: bool) -> None:
+        self._draft.unchecked = bool(unchecked)
 
     def __len__(self) -> int:
         """The octets so far. A message without items has 12."""
@@ -115,7 +145,7 @@ class Builder:
         return Mark(bytes(self._draft))
 
     def rewind(self, mark: Mark) -> None:
-        """Removes the items since a mark of this builder, and restores `flags` and `reserved`.
+        """Removes the items since a mark of this builder, and restores what was set before it, as `flags` and `reserved`.
 
         Marks that were made after it mean nothing from then on: with one of them, the octets needn't be a message.
         """

@@ -26,7 +26,13 @@ class Header(ctypes.Structure):
 
 
 class Cursor(ctypes.Structure):
-    _fields_ = [("place", c_size_t), ("left", c_uint16), ("section", c_uint8), ("status", c_uint32)]
+    _fields_ = [
+        ("place", c_size_t),
+        ("left", c_uint16),
+        ("section", c_uint8),
+        ("status", c_uint32),
+        ("owner", c_uint16),
+    ]
 
 
 class Item(ctypes.Structure):
@@ -127,6 +133,7 @@ _CALLS = {
     "dnsm_next_option": [*_OCTETS, POINTER(Item), POINTER(c_size_t), POINTER(OptOption)],
     "dnsm_option_octets": [c_uint16, *_OCTETS, *_OUT],
     "dnsm_query": [c_uint16, c_bool, *_OCTETS, c_uint16, c_uint16, *_OUT],
+    "dnsm_query_opt": [c_uint16, c_bool, *_OCTETS, c_uint16, c_uint16, POINTER(OptFields), *_OCTETS, *_OUT],
     "dnsm_respond_a": [*_OCTETS, c_bool, c_uint32, c_char_p, *_OUT],
     "dnsm_answers": [*_OCTETS, *_OCTETS],
     "dnsm_build": [c_uint16, c_uint16, POINTER(NewItem), c_size_t, *_OUT],

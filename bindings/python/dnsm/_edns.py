@@ -2,7 +2,7 @@
 
 from ctypes import byref, c_size_t
 from dataclasses import dataclass
-from typing import Tuple
+from typing import Iterator, Optional, Tuple
 
 from . import _calls
 
@@ -11,12 +11,13 @@ DO = 0x8000
 
 @dataclass(frozen=True)
 class Option:
-    """An option of an OPT record."""
+    """An option of an OPT record. The code may be one of `OptionCode`."""
 
     code: int
     data: bytes = b""
 
     def to_wire(self) -> bytes:
+        """Its code, the length of its data, and its data. Raises `TooLong` for more than 65,535 octets of data."""
         code = _calls.number(self.code, 16, "the code of an option")
         data = _calls.octets_of(self.data)
         return _calls.written(_calls.library.dnsm_option_octets, code, data, len(data))
@@ -37,19 +38,13 @@ class Edns:
     rcode_high: int = 0
     flags: int = 0
 
-    def option(self, code: int) -> "Option | None":
+    def option(self, code: int) -> Optional[Option]:
         """The first option with a code."""
         return next((option for option in self.options if option.code == code), None)
 
     def ttl(self) -> int:
         """The TTL of the record, which has most of the fields."""
-        fields = _calls.OptFields(
-            _calls.number(self.udp_size, 16, "udp_size"),
-            _calls.number(self.flags, 15, "flags") | (DO if self.dnssec_ok else 0),
-            _calls.number(self.rcode_high, 8, "rcode_high"),
-            _calls.number(self.version, 8, "version"),
-        )
-        return int(_calls.library.dnsm_opt_ttl(byref(fields)))
+        return int(_calls.library.dnsm_opt_ttl(byref(edns_fields(self))))
 
     def data(self) -> bytes:
         """The RDATA of the record."""
@@ -61,18 +56,33 @@ class Edns:
         return 1 + 2 + 2 + 4 + 2 + len(self.data())
 
 
+def edns_fields(edns: Edns) -> _calls.OptFields:
+    """The fields of an OPT record for the calls."""
+    return _calls.OptFields(
+        _calls.number(edns.udp_size, 16, "udp_size"),
+        _calls.number(edns.flags, 15, "flags") | (DO if edns.dnssec_ok else 0),
+        _calls.number(edns.rcode_high, 8, "rcode_high"),
+        _calls.number(edns.version, 8, "version"),
+    )
+
+
 def read_edns(octets: bytes, item: _calls.Item) -> Edns:
     """The fields and options of an OPT record."""
-    fields, offset, found, options = _calls.OptFields(), c_size_t(item.data), _calls.OptOption(), []
+    fields = _calls.OptFields()
     _calls.check(_calls.library.dnsm_opt_fields(byref(item), byref(fields)))
-    next_option = _calls.library.dnsm_next_option
-    while _calls.check(next_option(octets, len(octets), byref(item), byref(offset), byref(found))):
-        options.append(Option(found.code, octets[found.data : found.data + found.data_len]))
     return Edns(
         fields.udp_size,
         bool(fields.flags & DO),
-        tuple(options),
+        tuple(read_options(octets, item)),
         fields.version,
         fields.rcode_high,
         fields.flags & ~DO,
     )
+
+
+def read_options(octets: bytes, item: _calls.Item) -> Iterator[Option]:
+    """The options of an OPT record."""
+    offset, found = c_size_t(item.data), _calls.OptOption()
+    next_option = _calls.library.dnsm_next_option
+    while _calls.check(next_option(octets, len(octets), byref(item), byref(offset), byref(found))):
+        yield Option(found.code, octets[found.data : found.data + found.data_len])

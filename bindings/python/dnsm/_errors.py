@@ -61,7 +61,7 @@ class NameTextError(Error):
 
 
 class DataError(Error):
-    """Octets that aren't the RDATA of their record type."""
+    """Octets that aren't the RDATA of their record type, or RDATA without the name that was asked for."""
 
 
 class NoRoom(Error):
@@ -73,7 +73,7 @@ class TooLong(Error):
 
 
 class NotAnswerable(Error):
-    """Octets that `respond_a` doesn't answer."""
+    """Octets that `respond_a` or `Builder.response` doesn't answer."""
 
 
 _KINDS: Dict[int, Type[Error]] = {

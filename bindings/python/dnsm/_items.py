@@ -4,7 +4,7 @@ from ctypes import byref, c_size_t
 from typing import Iterator, NamedTuple, Union
 
 from . import _calls
-from ._edns import Edns, read_edns
+from ._edns import Edns, Option, read_edns, read_options
 from ._errors import Status
 from ._numbers import FieldKind, Section, class_text, type_text
 
@@ -27,6 +27,7 @@ class Question:
 
     @property
     def section(self) -> Section:
+        """The section that it is in."""
         return Section(self._item.section)
 
     @property
@@ -41,10 +42,12 @@ class Question:
 
     @property
     def type(self) -> int:
+        """The record type, as `Type.MX`. `type_text` is its name."""
         return int(self._item.type)
 
     @property
     def class_(self) -> int:
+        """The class, as `Class.IN`. `class_text` is its name."""
         return int(self._item.class_)
 
     @property
@@ -53,6 +56,7 @@ class Question:
         return int(self._item.place)
 
     def to_text(self) -> str:
+        """The name, the class and the type."""
         return f"{self.name} {class_text(self.class_)} {type_text(self.type)}"
 
     def __str__(self) -> str:
@@ -79,7 +83,7 @@ class Record(Question):
 
     @property
     def data_offset(self) -> int:
-        """The offset of the RDATA in the message."""
+        """The offset of the RDATA in the message. The TTL is six octets before it, in four octets, big-endian."""
         return int(self._item.data)
 
     def data_text(self) -> str:
@@ -104,6 +108,11 @@ class Record(Question):
         index = _calls.number(index, 64, "an index")
         return _calls.text(_calls.library.dnsm_data_name_text, self._octets, len(self._octets), byref(self._item), index)
 
+    def data_name_octets(self, index: int = 0) -> bytes:
+        """The octets of such a name, without compression pointers. Raises what `data_name` raises."""
+        index = _calls.number(index, 64, "an index")
+        return _calls.written(_calls.library.dnsm_data_name_octets, self._octets, len(self._octets), byref(self._item), index)
+
     def fields(self) -> Iterator[Field]:
         """The fields of the RDATA. Raises `DataError` if it isn't that of its type."""
         octets, index, field = self._octets, c_size_t(), _calls.DataField()
@@ -118,8 +127,12 @@ class Record(Question):
                 yield Field(kind, octets[field.place : field.place + field.len])
 
     def edns(self) -> Edns:
-        """The fields and options of an OPT record."""
+        """The fields and options of an OPT record. Raises `MalformedMessage` if an option isn't whole, and `Error` for other records."""
         return read_edns(self._octets, self._item)
+
+    def options(self) -> Iterator[Option]:
+        """The options of an OPT record, up to the first that isn't whole: then the iterator raises `MalformedMessage`."""
+        return read_options(self._octets, self._item)
 
     def to_text(self) -> str:
         """The record as a line of a zone file."""

@@ -41,10 +41,19 @@ class Message:
         return cls(octets)
 
     def to_wire(self) -> bytes:
+        """The octets, with those after the last item."""
         return self._octets
+
+    def trailing(self) -> bytes:
+        """The octets after the last item, which are no part of the message. Raises `MalformedMessage` if an item can't be read."""
+        octets, cursor, item = self._octets, _calls.Cursor.from_buffer_copy(self._cursor), _calls.Item()
+        while _calls.check(_calls.library.dnsm_next(octets, len(octets), byref(cursor), byref(item))):
+            pass
+        return octets[cursor.place :]
 
     @property
     def id(self) -> int:
+        """The ID, which a response has of its query."""
         return int(self._header.id)
 
     @property
@@ -59,6 +68,7 @@ class Message:
 
     @property
     def opcode(self) -> int:
+        """The opcode, as `Opcode.UPDATE`. `opcode_text` is its name."""
         return int(self._header.opcode)
 
     @property
@@ -82,6 +92,7 @@ class Message:
 
     @property
     def questions(self) -> Iterator[Question]:
+        """The questions."""
         return islice(self, self.counts[0])
 
     @property
@@ -91,14 +102,17 @@ class Message:
 
     @property
     def answer(self) -> Iterator[Record]:
+        """The records of the answer section."""
         return self._section(Section.ANSWER)
 
     @property
     def authority(self) -> Iterator[Record]:
+        """The records of the authority section."""
         return self._section(Section.AUTHORITY)
 
     @property
     def additional(self) -> Iterator[Record]:
+        """The records of the additional section."""
         return self._section(Section.ADDITIONAL)
 
     def _section(self, section: Section) -> Iterator[Record]:

@@ -1,6 +1,6 @@
 """Names as text and as octets."""
 
-from ctypes import byref, c_uint8
+from ctypes import byref, c_size_t, c_uint8, c_uint32
 from typing import Any, Union
 
 from . import _calls
@@ -24,14 +24,27 @@ def name_to_text(octets: Octets, offset: int = 0) -> str:
     return _calls.text(_calls.library.dnsm_name_text, octets, len(octets), offset)
 
 
+def name_end(octets: Octets, offset: int = 0) -> int:
+    """The offset after the name at an offset. A compression pointer ends a name."""
+    octets, end = _calls.octets_of(octets), c_size_t()
+    offset = _calls.number(offset, 64, "an offset")
+    _calls.check(_calls.library.dnsm_name_end(octets, len(octets), offset, byref(end)))
+    return int(end.value)
+
+
 def names_are_equal(one: Name, other: Name) -> bool:
     """Whether two names are equal, ignoring ASCII case."""
-    return _compared(_calls.library.dnsm_name_equal, one, other)
+    return _compared(_calls.library.dnsm_name_equal, one, other) != 0
 
 
 def name_is_below(name: Name, above: Name) -> bool:
     """Whether the first name is the second or a subdomain of it."""
-    return _compared(_calls.library.dnsm_name_below, name, above)
+    return _compared(_calls.library.dnsm_name_below, name, above) != 0
+
+
+def compare_names(one: Name, other: Name) -> int:
+    """-1, 0 or 1: the first name is before, equal to, or after the second as RFC 4034 section 6.1 orders names."""
+    return _compared(_calls.library.dnsm_name_order, one, other) - 1
 
 
 def name_key(name: Name) -> bytes:
@@ -40,10 +53,20 @@ def name_key(name: Name) -> bytes:
     return _calls.written(_calls.library.dnsm_name_key, octets, len(octets), 0)
 
 
-def _compared(call: Any, one: Name, other: Name) -> bool:
+def name_hash(name: Name, seed: Octets) -> int:
+    """A hash of 32 bits, which ignores ASCII case.
+
+    If others choose the names, the seed has to be secret and random, of 16 octets: else they can choose names with the same hash.
+    """
+    octets, seed, found = name_octets(name), _calls.octets_of(seed), c_uint32()
+    _calls.check(_calls.library.dnsm_name_hash(octets, len(octets), 0, seed, len(seed), byref(found)))
+    return int(found.value)
+
+
+def _compared(call: Any, one: Name, other: Name) -> int:
     first, second, found = name_octets(one), name_octets(other), c_uint8()
     _calls.check(call(first, len(first), 0, second, len(second), 0, byref(found)))
-    return found.value != 0
+    return int(found.value)
 
 
 def name_octets(name: Name) -> bytes:

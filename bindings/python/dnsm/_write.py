@@ -6,7 +6,7 @@ from typing import Any, Iterable, List, Optional, Tuple, Union
 
 from . import _calls
 from ._calls import Octets
-from ._edns import Edns
+from ._edns import Edns, edns_fields
 from ._items import Record
 from ._names import Name, name_text
 from ._numbers import Class, Flag, Section, Type
@@ -93,8 +93,19 @@ def query(
     recursion: bool = True,
     edns: Optional[Edns] = None,
 ) -> bytes:
-    """A query with one question. If it goes over UDP, choose the ID at random, as by `secrets.randbelow(65536)`."""
-    return build(id, Flag.RD if recursion else 0, questions=[(name, type, class_)], edns=edns)
+    """A query with one question, and with `edns` an OPT record. `recursion` sets RD.
+
+    If it goes over UDP, choose the ID at random, as by `secrets.randbelow(65536)`. Raises `NameTextError` if the name is none, and
+    `TooLong` for more than 65,535 octets of options.
+    """
+    text, type, class_ = name_text(name), _calls.number(type, 16, "a type"), _calls.number(class_, 16, "a class")
+    asked = (_calls.number(id, 16, "id"), recursion, text, len(text), type, class_)
+    if edns is None:
+        return _calls.written(_calls.library.dnsm_query, *asked)
+    fields, options = edns_fields(edns), edns.data()
+    # Enough for each query with these options.
+    capacity = 282 + len(options)
+    return _calls.written(_calls.library.dnsm_query_opt, *asked, byref(fields), options, len(options), capacity=capacity)
 
 
 def respond_a(octets: Octets, address: Octets, ttl: int, *, authoritative: bool = False) -> bytes:

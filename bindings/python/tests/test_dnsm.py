@@ -3,6 +3,7 @@
 import copy
 import doctest
 import pickle
+import re
 import threading
 import unittest
 
@@ -195,12 +196,22 @@ def type_map(number):
 
 class Other(unittest.TestCase):
     def test_types_have_the_numbers_of_the_library(self):
-        for type_ in Type:
+        for type_ in (Type.A, Type.SOA, Type.AAAA, Type.RRSIG, Type.NSEC3PARAM, Type.HTTPS, Type.SPF, Type.ANY, Type.CAA, Type.WALLET):
             message = Message.from_wire(build(1, answer=[NewRecord(".", Type.NSEC, b"\0" + type_map(type_))]))
             self.assertEqual(next(message.answer).data_text(), f". {type_.name}")
-            self.assertEqual(dnsm.type_text(type_), type_.name)
-        for class_ in (Class.IN, Class.CH, Class.HS, Class.NONE, Class.ANY):
-            self.assertEqual(dnsm.class_text(class_), class_.name)
+
+    def test_numbers_have_the_names_of_the_library(self):
+        for text, read, enum in (
+            (dnsm.type_text, dnsm.type_from_text, Type),
+            (dnsm.class_text, dnsm.class_from_text, Class),
+            (dnsm.opcode_text, dnsm.opcode_from_text, dnsm.Opcode),
+            (dnsm.rcode_text, dnsm.rcode_from_text, Rcode),
+            (dnsm.option_text, dnsm.option_from_text, dnsm.OptionCode),
+            (dnsm.extended_error_text, dnsm.extended_error_from_text, dnsm.ExtendedErrorCode),
+        ):
+            for number in enum:
+                self.assertEqual(re.sub("[^A-Z0-9]", "_", text(number).upper()), number.name)
+                self.assertEqual(read(text(number)), number)
 
     def test_names(self):
         octets = dnsm.name_from_text("a\\.b.c")

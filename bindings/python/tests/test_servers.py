@@ -11,13 +11,19 @@ from dnsm import (
     MalformedMessage,
     Message,
     NameTextError,
+    NoRoom,
     NotAnswerable,
+    Option,
+    OptionCode,
     Section,
     Type,
     build,
+    compare_names,
     data_from_text,
     library_version,
+    name_end,
     name_from_text,
+    name_hash,
     name_is_below,
     name_key,
     names_are_equal,
@@ -54,6 +60,12 @@ class Records(unittest.TestCase):
         self.assertEqual(self.mx.data_name(), "mail.example.org.")
         self.assertEqual([self.minfo.data_name(index) for index in (0, 1)], ["a.example.org.", "mail.example.org."])
         self.assertRaises(DataError, self.minfo.data_name, 2)
+        self.assertEqual(self.minfo.data_name_octets(), name_from_text("a.example.org"))
+        self.assertEqual(self.minfo.data_name_octets(1), name_from_text("mail.example.org"))
+        self.assertRaises(DataError, self.minfo.data_name_octets, 2)
+        self.assertEqual(name_end(RESPONSE, self.mx.offset), self.mx.offset + 2)
+        self.assertEqual(name_end(RESPONSE, self.mx.data_offset + 2), self.mx.data_offset + 9)
+        self.assertRaises(MalformedMessage, name_end, RESPONSE, len(RESPONSE))
 
     def test_fields(self) -> None:
         numbers = [Field(FieldKind.NUMBER, number) for number in (1, 2, 3)]
@@ -75,10 +87,74 @@ class Names(unittest.TestCase):
         self.assertFalse(name_is_below("b.example", "a.b.example"))
         self.assertRaises(NameTextError, names_are_equal, "a..b", "a")
 
+    def test_hashes(self) -> None:
+        seed = bytes(range(16))
+        self.assertEqual(name_hash("www.Example", seed), name_hash(b"\3WWW\7example\0", memoryview(seed)))
+        self.assertNotEqual(name_hash("www.example", seed), name_hash("www.example", seed[:15] + b"\0"))
+        self.assertNotEqual(name_hash("www.example", seed), name_hash("wwv.example", seed))
+
+    def test_orders(self) -> None:
+        """RFC 4034 section 6.1."""
+        names = ["example", "a.example", "yljkjljk.a.example", "Z.a.example", "zABC.a.EXAMPLE", "z.example", "\\001.z.example"]
+        for first, second in zip(names, names[1:]):
+            self.assertEqual((compare_names(first, second), compare_names(second, first)), (-1, 1))
+        self.assertEqual(compare_names("a.Example", "A.example."), 0)
+
     def test_keys(self) -> None:
         """RFC 4034 section 6.1."""
         names = ["example", "a.example", "yljkjljk.a.example", "Z.a.example", "zABC.a.EXAMPLE", "z.example", "\\001.z.example"]
         self.assertEqual(sorted(names, key=name_key), names)
+
+
+class Settings(unittest.TestCase):
+    def test_unchecked(self) -> None:
+        """SRV isn't of RFC 1035, and MX is."""
+        builder = Builder(1)
+        self.assertFalse(builder.unchecked)
+        self.assertRaises(DataError, builder.put, Section.ANSWER, "a", Type.SRV, data=b"\0")
+        builder.unchecked = True
+        builder.put(Section.ANSWER, "a", Type.SRV, data=b"\0")
+        self.assertTrue(builder.unchecked)
+        self.assertRaises(DataError, builder.put, Section.ANSWER, "a", Type.MX, data=b"\0")
+        builder.unchecked = False
+        self.assertFalse(builder.unchecked)
+        self.assertRaises(DataError, builder.put, Section.ANSWER, "a", Type.SRV, data=b"\0")
+
+    def test_id(self) -> None:
+        builder = Builder(1)
+        builder.id = 0x1234
+        self.assertEqual((builder.id, builder.finish()[:2]), (0x1234, b"\x12\x34"))
+        with self.assertRaises(ValueError):
+            builder.id = 65536
+
+    def test_limit(self) -> None:
+        builder = Builder(1, limit=100)
+        self.assertEqual(builder.limit, 100)
+        builder.limit = 16
+        self.assertEqual(builder.limit, 16)
+        self.assertRaises(NoRoom, builder.put, Section.QUESTION, ".", Type.A)
+        builder.limit = 17
+        builder.put(Section.QUESTION, ".", Type.A)
+        builder.limit = 1000
+        self.assertEqual(builder.limit, 100)
+        self.assertRaises(NoRoom, builder.put, Section.ANSWER, ".", 65280, data=bytes(73))
+        builder.put(Section.ANSWER, ".", 65280, data=bytes(72))
+        self.assertEqual(len(builder), 100)
+
+
+class Endings(unittest.TestCase):
+    def test_trailing(self) -> None:
+        self.assertEqual(Message(RESPONSE + b"more").trailing(), b"more")
+        self.assertEqual((Message(RESPONSE).trailing(), Message(bytes(12)).trailing()), (b"", b""))
+        self.assertRaises(MalformedMessage, Message(RESPONSE[:-1]).trailing)
+
+    def test_options_before_an_error(self) -> None:
+        octets = bytes.fromhex("000000000000000000000001 000029 04d0 00000000 0009 0003 0001 6e 000a0008")
+        (record,) = Message(octets).additional
+        options = record.options()
+        self.assertEqual(next(options), Option(OptionCode.NSID, b"n"))
+        self.assertRaises(MalformedMessage, next, options)
+        self.assertRaises(MalformedMessage, record.edns)
 
 
 class Responses(unittest.TestCase):

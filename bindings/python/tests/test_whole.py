@@ -142,6 +142,10 @@ class Writing(unittest.TestCase):
         self.assertEqual(dnsm.query("a.b", id=0x102), asked + b"\0\1")
         with_edns = dnsm.query("a.b", id=0x102, edns=Edns(512, True))
         self.assertEqual(with_edns, asked[:11] + b"\1" + asked[12:] + bytes.fromhex("0001000029020000008000" "0000"))
+        with_edns = dnsm.query("a.b", Type.MX, Class.CH, id=0x102, recursion=False, edns=EDNS)
+        question = bytes.fromhex("016101620000" "0f0003")
+        self.assertEqual(with_edns, bytes.fromhex("01020000" "0001000000000001") + question + WHOLE[104:])
+        self.assertRaises(dnsm.TooLong, dnsm.query, "a.b", id=1, edns=Edns(options=(Option(1, bytes(65532)),)))
         self.assertEqual(build(0x102, Flag.RD, questions=["a.b"]), asked + b"\0\1")
         self.assertEqual(build(0x102, Flag.RD, questions=[("a.b", Type.A)]), asked + b"\0\1")
         for authoritative, flags in ((True, "8500"), (False, "8100")):
@@ -173,6 +177,7 @@ class Writing(unittest.TestCase):
     def test_the_empty_text_is_no_name(self):
         for call in (
             lambda: dnsm.query("", id=1),
+            lambda: dnsm.query("", id=1, edns=EDNS),
             lambda: build(1, questions=[""]),
             lambda: build(1, answer=[NewRecord("", Type.A, ADDRESS)]),
             lambda: Builder(1).put(Section.QUESTION, "", Type.A),
@@ -263,8 +268,8 @@ class Errors(unittest.TestCase):
 
 class Numbers(unittest.TestCase):
     def test_they_are_registered(self):
-        """As IANA has them in the registry of DNS parameters, of the opcodes and rcodes that have a name here."""
-        opcodes = {"QUERY": 0, "IQUERY": 1, "STATUS": 2, "NOTIFY": 4, "UPDATE": 5}
+        """As IANA has them in the registry of DNS parameters."""
+        opcodes = {"QUERY": 0, "IQUERY": 1, "STATUS": 2, "NOTIFY": 4, "UPDATE": 5, "DSO": 6}
         self.assertEqual({it.name: it.value for it in Opcode}, opcodes)
         rcodes = {
             "NOERROR": 0,
@@ -278,7 +283,15 @@ class Numbers(unittest.TestCase):
             "NXRRSET": 8,
             "NOTAUTH": 9,
             "NOTZONE": 10,
+            "DSOTYPENI": 11,
             "BADVERS": 16,
+            "BADKEY": 17,
+            "BADTIME": 18,
+            "BADMODE": 19,
+            "BADNAME": 20,
+            "BADALG": 21,
+            "BADTRUNC": 22,
+            "BADCOOKIE": 23,
         }
         self.assertEqual({it.name: it.value for it in Rcode}, rcodes)
 

@@ -265,6 +265,7 @@ pub struct dnsm_cursor {
     pub left: u16,
     pub section: u8,
     pub status: dnsm_status,
+    pub owner: u16,
 }
 
 #[repr(C)]
@@ -525,6 +526,20 @@ extern "C" {
         name_len: usize,
         type_: u16,
         class_: u16,
+        out: *mut u8,
+        out_len: usize,
+        len: *mut usize,
+    ) -> dnsm_status;
+    pub fn dnsm_query_opt(
+        id: u16,
+        recursion: bool,
+        name: *const c_char,
+        name_len: usize,
+        type_: u16,
+        class_: u16,
+        opt: *const dnsm_opt,
+        options: *const u8,
+        options_len: usize,
         out: *mut u8,
         out_len: usize,
         len: *mut usize,

@@ -76,6 +76,17 @@ impl<'a> Builder<'a> {
         self.draft.reserved = octets;
     }
 
+    /// Copies RDATA of other types than those with names of RFC 1035 as it is, if it is known to be well-formed. Before, all is
+    /// checked.
+    pub fn set_unchecked(&mut self, unchecked: bool) {
+        self.draft.unchecked = u8::from(unchecked);
+    }
+
+    /// Sets the ID.
+    pub fn set_id(&mut self, id: u16) {
+        self.draft.id = id;
+    }
+
     /// The third and fourth octets of the header.
     pub fn flags(&self) -> u16 {
         self.draft.flags
@@ -136,7 +147,7 @@ impl<'a> Builder<'a> {
         Mark(self.draft)
     }
 
-    /// Removes the items since the mark, and restores flags, limit and reserved octets. The mark has to be one of this builder.
+    /// Removes the items since the mark, and restores all that was set before it, as flags and limit. The mark has to be one of this builder.
     /// Marks that were made after it mean nothing from then on: with one of them, the octets needn't be a message.
     pub fn rewind(&mut self, mark: &Mark) {
         self.draft = mark.0;

@@ -86,8 +86,8 @@ impl<'a> From<&'a Vec<u8>> for NewName<'a> {
 /// An OPT record to write.
 #[derive(Debug, Clone)]
 pub struct NewOpt {
-    fields: dnsm_opt,
-    data: Vec<u8>,
+    pub(crate) fields: dnsm_opt,
+    pub(crate) data: Vec<u8>,
 }
 
 impl NewOpt {

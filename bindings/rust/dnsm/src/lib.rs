@@ -23,6 +23,11 @@ mod opt;
 mod out;
 mod write;
 
+/// The programs of the page.
+#[cfg(doctest)]
+#[doc = include_str!("../README.md")]
+struct Page;
+
 pub use builder::{Builder, Mark};
 pub use error::Error;
 pub use item::{NewItem, NewName, NewOpt};
@@ -30,4 +35,4 @@ pub use message::{DataText, Field, Fields, Header, Item, Items, Message, Name};
 pub use number::{library_version, Class, ExtendedErrorCode, Opcode, OptionCode, Rcode, Rtype, Section};
 pub use number::{AA, AD, CD, QR, RA, RD, TC};
 pub use opt::{EdnsOption, Opt, Options};
-pub use write::{build, data_from_text, name_from_text, query, record_from_text, respond_a, TextRecord};
+pub use write::{build, data_from_text, name_from_text, query, query_opt, record_from_text, respond_a, TextRecord};

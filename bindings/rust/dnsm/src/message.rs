@@ -3,6 +3,7 @@ use crate::{out, Class, Error, Opt, Rtype, Section};
 use dnsm_sys::*;
 use std::cmp::Ordering;
 use std::fmt;
+use std::hash::{Hash, Hasher};
 use std::iter::FusedIterator;
 
 /// A message over octets that are borrowed. Its header has been read.
@@ -67,6 +68,17 @@ impl<'a> Message<'a> {
         Items { octets: self.octets, cursor: self.start, ended: false }
     }
 
+    /// The octets after the last item, which are no part of the message.
+    ///
+    /// # Errors
+    ///
+    /// The error of the first item that can't be read.
+    pub fn trailing(&self) -> Result<&'a [u8], Error> {
+        let mut items = self.items();
+        items.try_for_each(|item| item.map(drop))?;
+        Ok(&self.octets[items.offset()..])
+    }
+
     /// The items of a section. What can't be read after the section makes no error.
     pub fn section(&self, section: Section) -> impl Iterator<Item = Result<Item<'a>, Error>> {
         let before = self.header.counts[..=section as usize].iter().map(|&count| usize::from(count)).sum();
@@ -110,6 +122,13 @@ pub struct Items<'a> {
     octets: &'a [u8],
     cursor: dnsm_cursor,
     ended: bool,
+}
+
+impl Items<'_> {
+    /// The offset at which the next item begins; after the last one, where the message ends.
+    pub fn offset(&self) -> usize {
+        self.cursor.place
+    }
 }
 
 impl<'a> Iterator for Items<'a> {
@@ -176,7 +195,7 @@ impl<'a> Item<'a> {
         &self.octets[self.item.data..][..usize::from(self.item.data_len)]
     }
 
-    /// The offset of its RDATA in the message.
+    /// The offset of its RDATA in the message. The TTL of a record is six octets before it, in four octets, big-endian.
     pub fn data_offset(&self) -> usize {
         self.item.data
     }
@@ -326,11 +345,29 @@ impl Name<'_> {
 
     /// Octets that compare as RFC 4034 section 6.1 orders names. The keys of subdomains begin with that of the name.
     pub fn key(&self) -> Vec<u8> {
+        self.key_in(&mut [0; DNSM_NAME_KEY]).to_vec()
+    }
+
+    /// The key, in a buffer.
+    fn key_in<'b>(&self, buffer: &'b mut [u8; DNSM_NAME_KEY]) -> &'b [u8] {
+        let mut len = 0;
         // SAFETY: the pointers and the lengths are those of the octets and of a buffer.
-        let write = |out, out_len, len: &mut usize| unsafe {
-            dnsm_name_key(self.octets.as_ptr(), self.octets.len(), self.offset, out, out_len, len)
+        let status = unsafe {
+            dnsm_name_key(self.octets.as_ptr(), self.octets.len(), self.offset, buffer.as_mut_ptr(), buffer.len(), &mut len)
         };
-        out::octets(DNSM_NAME_OCTETS, write).expect("the name was read before")
+        assert_eq!(status, DNSM_OK, "the name was read before");
+        &buffer[..len]
+    }
+
+    /// A hash of the name, ignoring ASCII case. If others choose the names, the seed has to be secret and random, of 16 octets: else
+    /// they can choose names with the same hash.
+    pub fn seeded_hash(&self, seed: &[u8]) -> u32 {
+        let mut hash = 0;
+        // SAFETY: the pointers and the lengths are those of the octets and of the seed, and the reference is to a live value.
+        let status =
+            unsafe { dnsm_name_hash(self.octets.as_ptr(), self.octets.len(), self.offset, seed.as_ptr(), seed.len(), &mut hash) };
+        assert_eq!(status, DNSM_OK, "the name was read before");
+        hash
     }
 
     /// Whether the name is the other or a subdomain of it, ignoring ASCII case.
@@ -347,6 +384,15 @@ impl Name<'_> {
     pub fn offset(&self) -> usize {
         self.offset
     }
+
+    /// The offset after the name. A compression pointer ends it.
+    pub fn end(&self) -> usize {
+        let mut end = 0;
+        // SAFETY: the pointer and the length are those of the octets, and the reference is to a live value.
+        let status = unsafe { dnsm_name_end(self.octets.as_ptr(), self.octets.len(), self.offset, &mut end) };
+        assert_eq!(status, DNSM_OK, "the name was read before");
+        end
+    }
 }
 
 /// Names are equal if they are but for ASCII case, also if they are of different messages.
@@ -362,6 +408,13 @@ impl PartialEq for Name<'_> {
 }
 
 impl Eq for Name<'_> {}
+
+/// Equal names have equal hashes.
+impl Hash for Name<'_> {
+    fn hash<H: Hasher>(&self, state: &mut H) {
+        self.key_in(&mut [0; DNSM_NAME_KEY]).hash(state);
+    }
+}
 
 /// Names are ordered by RFC 4034 section 6.1.
 impl Ord for Name<'_> {

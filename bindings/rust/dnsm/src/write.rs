@@ -1,5 +1,5 @@
 //! Messages that are written by one call.
-use crate::{out, Class, Error, Item, NewItem, Rtype};
+use crate::{out, Class, Error, Item, NewItem, NewOpt, Rtype};
 use dnsm_sys::*;
 use std::cell::Cell;
 
@@ -42,6 +42,31 @@ pub fn query(id: u16, recursion: bool, name: &str, rtype: Rtype, class: Class) -
     // SAFETY: the pointers and the lengths are those of the text and of a buffer.
     out::octets(DNSM_MADE, |out, out_len, len| unsafe {
         dnsm_query(id, recursion, name.as_ptr().cast(), name.len(), rtype.0, class.0, out, out_len, len)
+    })
+}
+
+/// A query like that of [`query`], with an OPT record.
+///
+/// ```
+/// use dnsm::{query_opt, Class, EdnsOption, Message, NewOpt, Rtype};
+///
+/// let opt = NewOpt::new(1232, true, 0, &[EdnsOption { code: 3, data: &[] }])?;
+/// let octets = query_opt(4660, true, "www.example.com", Rtype::A, Class::IN, &opt)?;
+/// assert_eq!(octets.len(), 33 + 11 + 4);
+/// # Ok::<(), dnsm::Error>(())
+/// ```
+///
+/// # Errors
+///
+/// `BadText` if the text is no name, and `LongData` for more than 65,535 octets of options.
+pub fn query_opt(id: u16, recursion: bool, name: &str, rtype: Rtype, class: Class, opt: &NewOpt) -> Result<Vec<u8>, Error> {
+    let (fields, options) = (&opt.fields, &opt.data);
+    // Enough for each query with these options.
+    let capacity = 282 + options.len();
+    // SAFETY: the pointers and the lengths are those of the text, of the options and of a buffer, and `fields` is a live value.
+    out::octets(capacity, |out, out_len, len| unsafe {
+        let (name, name_len, options, options_len) = (name.as_ptr().cast(), name.len(), options.as_ptr(), options.len());
+        dnsm_query_opt(id, recursion, name, name_len, rtype.0, class.0, fields, options, options_len, out, out_len, len)
     })
 }
 

@@ -4,6 +4,7 @@ use dnsm::{
     NewItem, Opcode, OptionCode, Rcode, Rtype, Section,
 };
 use std::cmp::Ordering;
+use std::collections::HashSet;
 
 /// A response for example.org: a question, MX with a pointer in its RDATA, SRV, and MINFO with two pointers.
 const RESPONSE: &[u8] = b"\x12\x34\x85\x80\0\x01\0\x03\0\0\0\0\x07example\x03org\0\0\x0f\0\x01\
@@ -54,6 +55,54 @@ fn names_are_compared() {
     assert_eq!(asked.key(), b"org\0example\0mail\0");
     assert_eq!((asked.cmp(&read[0].name()), read[0].name().cmp(&asked)), (Ordering::Greater, Ordering::Less));
     assert_eq!(asked.cmp(&read[1].data_name(0).unwrap()), Ordering::Equal);
+}
+
+/// The name of RFC 4034 section 6.1 with the octet 1 in a label, whose key has 1 2 for it.
+#[test]
+fn equal_names_have_equal_hashes() {
+    let octets = query(1, true, "Mail.Example.ORG", Rtype::A, Class::IN).unwrap();
+    let (asked, read) = (items(&octets)[0].name(), items(RESPONSE));
+    let names: HashSet<_> = [asked, read[0].name(), read[1].data_name(0).unwrap()].into_iter().collect();
+    assert_eq!(names.len(), 2);
+    let seed = [7; 16];
+    assert_eq!(asked.seeded_hash(&seed), read[1].data_name(0).unwrap().seeded_hash(&seed));
+    assert_ne!(asked.seeded_hash(&seed), asked.seeded_hash(&[8; 16]));
+    assert_ne!(asked.seeded_hash(&seed), read[0].name().seeded_hash(&seed));
+    let octets = query(1, true, "\\001.z.Example", Rtype::A, Class::IN).unwrap();
+    assert_eq!(items(&octets)[0].name().key(), b"example\0z\0\x01\x02\0");
+}
+
+#[test]
+fn names_have_an_end() {
+    let read = items(RESPONSE);
+    assert_eq!((read[0].name().end(), read[1].name().end(), read[1].data_name(0).unwrap().end()), (25, 31, 48 + 2));
+}
+
+#[test]
+fn octets_after_the_last_item_trail() {
+    let octets = [RESPONSE, b"more"].concat();
+    let message = Message::new(&octets).unwrap();
+    assert_eq!((message.trailing(), Message::new(RESPONSE).unwrap().trailing()), (Ok(&b"more"[..]), Ok(&b""[..])));
+    assert_eq!(Message::new(&RESPONSE[..RESPONSE.len() - 1]).unwrap().trailing(), Err(Error::ShortInput));
+    let mut items = message.items();
+    let offsets: Vec<_> = std::iter::from_fn(|| Some((items.offset(), items.next()?.unwrap().name().offset()))).collect();
+    assert!(offsets.len() == 4 && offsets.iter().all(|(before, name)| before == name));
+    assert_eq!(items.offset(), RESPONSE.len());
+}
+
+/// SRV isn't of RFC 1035, and MX is.
+#[test]
+fn data_may_be_unchecked() {
+    let mut out = [0; 512];
+    let mut builder = Builder::new(&mut out, 1, 0).unwrap();
+    let record = |rtype| NewItem::record(Section::Answer, "a", rtype, 0, b"\0");
+    assert_eq!(builder.put(&record(Rtype::SRV)), Err(Error::BadData));
+    builder.set_unchecked(true);
+    assert_eq!((builder.put(&record(Rtype::SRV)), builder.put(&record(Rtype::MX))), (Ok(()), Err(Error::BadData)));
+    builder.set_unchecked(false);
+    assert_eq!(builder.put(&record(Rtype::SRV)), Err(Error::BadData));
+    builder.set_id(0x1234);
+    assert_eq!(builder.finish().unwrap()[..8], *b"\x12\x34\0\0\0\0\0\x01");
 }
 
 #[test]

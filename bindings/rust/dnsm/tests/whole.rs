@@ -1,7 +1,7 @@
 //! All fields of a message, and all reasons for an error. The octets are by hand (RFC 1035 section 4.1, RFC 6891 section 6.1).
 use dnsm::{
-    build, name_from_text, query, respond_a, Builder, Class, EdnsOption, Error, Message, Name, NewItem, NewName, NewOpt, Rtype,
-    Section, AA, AD, CD, QR,
+    build, name_from_text, query, query_opt, respond_a, Builder, Class, EdnsOption, Error, Message, Name, NewItem, NewName,
+    NewOpt, Rtype, Section, AA, AD, CD, QR,
 };
 
 /// A message with an item in each section. It has opcode 5, rcode 3 and the flags QR, AA, AD and CD.
@@ -156,6 +156,20 @@ fn queries_and_responses_have_all_fields() {
         let header = [1, 2, flags, 0, 0, 1, 0, 1, 0, 0, 0, 0];
         assert_eq!(response, [&header[..], &asked[12..], b"\xc0\x0c\0\x01\0\x01\x01\x02\x03\x04\0\x04\xc0\0\x02\x09"].concat());
     }
+}
+
+#[test]
+fn a_query_has_an_opt_record() {
+    let options = [EdnsOption { code: 3, data: b"" }, EdnsOption { code: 10, data: b"\xab\xcd" }];
+    let opt = NewOpt::new(4096, true, 1, &options).unwrap();
+    let head = b"\x01\x02\x01\0\0\x01\0\0\0\0\0\x01\x01a\x01b\0\0\x0f\0\x03\0\0\x29\x10\0\x01\0\x80\0\0\x0a";
+    assert_eq!(query_opt(0x0102, true, "a.b", Rtype::MX, Class::CH, &opt).unwrap(), [&head[..], OPTIONS].concat());
+    assert_eq!(query_opt(1, true, "", Rtype::A, Class::IN, &opt), Err(Error::BadText));
+    let opt = NewOpt::new(512, false, 0, &[]).unwrap();
+    let asked = b"\0\x01\0\0\0\x01\0\0\0\0\0\x01\0\0\x01\0\x01\0\0\x29\x02\0\0\0\0\0\0\0";
+    assert_eq!(query_opt(1, false, ".", Rtype::A, Class::IN, &opt).unwrap(), asked);
+    let opt = NewOpt::new(512, false, 0, &[EdnsOption { code: 1, data: &[0; 65532] }]).unwrap();
+    assert_eq!(query_opt(1, false, ".", Rtype::A, Class::IN, &opt), Err(Error::LongData));
 }
 
 #[test]
