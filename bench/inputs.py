@@ -130,6 +130,15 @@ def mail():
     return msg
 
 
+def query():
+    """A query with an OPT record of three options: NSID, a cookie, and padding."""
+    msg = Message(0x0DD5, 0x0100, (1, 0, 0, 1))
+    msg.question("www.example.com", 1)
+    options = b"".join(struct.pack(">HH", code, size) + bytes(size) for code, size in ((3, 0), (10, 8), (12, 24)))
+    msg.octets += ROOT + struct.pack(">HHIH", 41, 1232, 0x8000, len(options)) + options
+    return msg
+
+
 def chain(broken, count=32, tops=1):
     """Owners of 127 labels. Each label but the last two is followed by a pointer.
 
@@ -186,6 +195,7 @@ def main():
     for label, msg in (("w1", response()), ("w2", larger()), ("w3", response()), ("w4", zone(500))):
         line(label, msg.sum, msg.octets)
     line("m40", mail().sum, mail().octets)
+    line("q1", "?", query().octets)
     line("w5a", chain(False).sum, chain(False).octets)
     line("w5b", "-", chain(True).octets)
     for octets in garbage(64):

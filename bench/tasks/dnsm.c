@@ -1,4 +1,4 @@
-/* The tasks with the calls of dnsm.h. */
+/* The tasks of whole messages with the calls of dnsm.h. */
 
 #include "tasks.h"
 
@@ -17,7 +17,7 @@ static struct name www, parent, owners[OWNERS];
 static uint8_t addresses[OWNERS][4];
 static dnsm_new_item texts[1 + OWNERS];
 static uint8_t out[ROOM];
-static struct input w2;
+static struct input w2, m40, q1;
 
 static void set_name(struct name *name, const char *text)
 {
@@ -31,6 +31,8 @@ void prepare(void)
     set_name(&www, "www.example.com.");
     set_name(&parent, "sub.example.com.");
     w2 = load_input("w2");
+    m40 = load_input("m40");
+    q1 = load_input("q1");
     for (int i = 0; i < OWNERS; i++) {
         char text[32];
         snprintf(text, sizeof text, "h%d.sub.example.com.", i);
@@ -53,12 +55,13 @@ static dnsm_put_item address(const struct name *owner, const uint8_t *octets, ui
     return item;
 }
 
-static size_t put_addresses(void)
+static size_t put_20(uint8_t unchecked)
 {
     dnsm_draft draft;
     size_t len;
     dnsm_put_item item = question(&www);
     dnsm_begin(&draft, out, 1232, 1, DNSM_QR);
+    draft.unchecked = unchecked;
     if (dnsm_put(&draft, out, 1232, &item) != DNSM_OK)
         return 0;
     for (int i = 0; i < ADDRESSES; i++) {
@@ -68,6 +71,9 @@ static size_t put_addresses(void)
     }
     return dnsm_finish(&draft, out, 1232, &len) == DNSM_OK ? len : 0;
 }
+
+static size_t put_addresses(void) { return put_20(0); }
+static size_t put_unchecked(void) { return put_20(1); }
 
 static size_t put_owners(void)
 {
@@ -122,41 +128,139 @@ static size_t build_owners(void)
     return build(1 + OWNERS, sizeof out);
 }
 
-/* Reads w2, and what `part` says of each item. Returns the offset after the last. */
-enum part { ITEMS, NAMES, TEXTS };
+/* What is done with an item of a message. Returns 0 on failure. */
+typedef size_t visitor(const struct input *from, const dnsm_item *item);
 
-static size_t texts_of(const dnsm_item *item)
-{
-    char name[DNSM_NAME_TEXT], class_[16], type[16], data[256], line[1400];
-    size_t len;
-    if (dnsm_name_text(w2.octets, w2.len, item->place, name, sizeof name, &len) != DNSM_OK ||
-        dnsm_class_text(item->class_, class_, sizeof class_, &len) != DNSM_OK ||
-        dnsm_type_text(item->type, type, sizeof type, &len) != DNSM_OK ||
-        (item->section != DNSM_QUESTION && dnsm_data_text(w2.octets, w2.len, item, data, sizeof data, &len) != DNSM_OK))
-        return 0;
-    return (size_t)snprintf(line, sizeof line, "%s %u %s %s %s", name, item->ttl, class_, type, data);
-}
-
-static size_t read_message(enum part part)
+/* Reads a message, and does this with each item, or with each record only. Returns the offset after the last item. */
+static size_t read_message(const struct input *from, visitor *visit, bool records_only)
 {
     dnsm_header header;
     dnsm_cursor cursor;
     dnsm_item item;
-    uint8_t name[DNSM_NAME_OCTETS];
-    size_t len;
-    dnsm_status status = dnsm_open(w2.octets, w2.len, &header, &cursor);
-    while (status == DNSM_OK && (status = dnsm_next(w2.octets, w2.len, &cursor, &item)) == DNSM_OK) {
-        if (part == NAMES)
-            status = dnsm_name_octets(w2.octets, w2.len, item.place, name, sizeof name, &len);
-        if (part == TEXTS && texts_of(&item) == 0)
+    dnsm_status status = dnsm_open(from->octets, from->len, &header, &cursor);
+    while (status == DNSM_OK && (status = dnsm_next(from->octets, from->len, &cursor, &item)) == DNSM_OK)
+        if (visit && !(records_only && item.section == DNSM_QUESTION) && visit(from, &item) == 0)
             return 0;
-    }
     return status == DNSM_END ? cursor.place : 0;
 }
 
-static size_t read_items(void) { return read_message(ITEMS); }
-static size_t read_names(void) { return read_message(NAMES); }
-static size_t read_texts(void) { return read_message(TEXTS); }
+static size_t name_of(const struct input *from, const dnsm_item *item)
+{
+    uint8_t name[DNSM_NAME_OCTETS];
+    size_t len;
+    return dnsm_name_octets(from->octets, from->len, item->place, name, sizeof name, &len) == DNSM_OK;
+}
+
+static size_t texts_of(const struct input *from, const dnsm_item *item)
+{
+    char name[DNSM_NAME_TEXT], class_[16], type[16], data[256], line[1400];
+    size_t len;
+    if (dnsm_name_text(from->octets, from->len, item->place, name, sizeof name, &len) != DNSM_OK ||
+        dnsm_class_text(item->class_, class_, sizeof class_, &len) != DNSM_OK ||
+        dnsm_type_text(item->type, type, sizeof type, &len) != DNSM_OK ||
+        (item->section != DNSM_QUESTION && dnsm_data_text(from->octets, from->len, item, data, sizeof data, &len) != DNSM_OK))
+        return 0;
+    return (size_t)snprintf(line, sizeof line, "%s %u %s %s %s", name, item->ttl, class_, type, data);
+}
+
+static size_t address_of(const struct input *from, const dnsm_item *item)
+{
+    if (item->type == DNSM_TYPE_A && item->section == DNSM_ANSWER && item->data_len == 4)
+        memcpy(addresses[0], from->octets + item->data, 4);
+    return 1;
+}
+
+static size_t exchange_of(const struct input *from, const dnsm_item *item)
+{
+    char text[DNSM_NAME_TEXT];
+    dnsm_data_field preference;
+    size_t index = 0, len;
+    return item->type != DNSM_TYPE_MX || (dnsm_next_field(from->octets, from->len, item, &index, &preference) == DNSM_OK &&
+                                          dnsm_data_name_text(from->octets, from->len, item, 0, text, sizeof text, &len) == DNSM_OK);
+}
+
+/* The sum of the fields, where a name or octets count by their length. */
+static size_t fields_of(const struct input *from, const dnsm_item *item)
+{
+    dnsm_data_field field;
+    size_t index = 0, sum = 0;
+    while (dnsm_next_field(from->octets, from->len, item, &index, &field) == DNSM_OK)
+        sum += (size_t)field.number + field.len;
+    return sum + index;
+}
+
+/* Signers and exchanges. */
+static size_t name_in(const struct input *from, const dnsm_item *item)
+{
+    uint8_t name[DNSM_NAME_OCTETS];
+    size_t len;
+    return dnsm_data_name_octets(from->octets, from->len, item, 0, name, sizeof name, &len) == DNSM_OK;
+}
+
+static size_t check_of(const struct input *from, const dnsm_item *item)
+{
+    return dnsm_check_data(from->octets, from->len, item) == DNSM_OK;
+}
+
+static size_t data_of(const struct input *from, const dnsm_item *item)
+{
+    uint8_t data[512];
+    size_t len;
+    return dnsm_data_octets(from->octets, from->len, item, data, sizeof data, &len) == DNSM_OK;
+}
+
+static size_t read_items(void) { return read_message(&w2, NULL, false); }
+static size_t read_names(void) { return read_message(&w2, name_of, false); }
+static size_t read_texts(void) { return read_message(&w2, texts_of, false); }
+static size_t read_addresses(void) { return read_message(&w2, address_of, true); }
+static size_t read_exchanges(void) { return read_message(&m40, exchange_of, true); }
+static size_t read_fields(void) { return read_message(&m40, fields_of, true); }
+static size_t read_names_in(void) { return read_message(&m40, name_in, true); }
+static size_t check_data(void) { return read_message(&m40, check_of, true); }
+static size_t read_data(void) { return read_message(&m40, data_of, true); }
+
+/* Puts all items of w2 into another message. */
+static size_t put_from(void)
+{
+    dnsm_header header;
+    dnsm_cursor cursor;
+    dnsm_item item;
+    dnsm_draft draft;
+    size_t len;
+    if (dnsm_open(w2.octets, w2.len, &header, &cursor) != DNSM_OK)
+        return 0;
+    dnsm_status status = dnsm_begin(&draft, out, sizeof out, header.id, header.flags);
+    while (status == DNSM_OK && (status = dnsm_next(w2.octets, w2.len, &cursor, &item)) == DNSM_OK)
+        status = dnsm_put_from(&draft, out, sizeof out, w2.octets, w2.len, &item);
+    return status == DNSM_END && dnsm_finish(&draft, out, sizeof out, &len) == DNSM_OK ? len : 0;
+}
+
+static const uint8_t localhost[4] = {127, 0, 0, 1};
+
+static size_t respond(void)
+{
+    dnsm_draft draft;
+    size_t len;
+    const dnsm_put_item item = address(&www, localhost, ADDRESS_TTL);
+    return dnsm_begin_response(&draft, out, 1232, q1.octets, q1.len, 0) == DNSM_OK && dnsm_put(&draft, out, 1232, &item) == DNSM_OK &&
+                   dnsm_finish(&draft, out, 1232, &len) == DNSM_OK
+               ? len
+               : 0;
+}
+
+static size_t respond_at_once(void)
+{
+    size_t len;
+    return dnsm_respond_a(q1.octets, q1.len, true, ADDRESS_TTL, localhost, out, 1232, &len) == DNSM_OK ? len : 0;
+}
+
+static size_t answers(void)
+{
+    static size_t len;
+    if (len == 0)
+        len = respond();
+    return dnsm_answers(q1.octets, q1.len, out, len) == DNSM_OK ? len : 0;
+}
 
 static size_t write_query(void)
 {
@@ -164,23 +268,25 @@ static size_t write_query(void)
     return dnsm_query(1, true, www.text, www.text_len, 1, 1, out, sizeof out, &len) == DNSM_OK ? len : 0;
 }
 
-static size_t run_put_addresses(uint64_t times) { return repeat(put_addresses, times); }
-static size_t run_put_owners(uint64_t times) { return repeat(put_owners, times); }
-static size_t run_build_addresses(uint64_t times) { return repeat(build_addresses, times); }
-static size_t run_build_owners(uint64_t times) { return repeat(build_owners, times); }
-static size_t run_items(uint64_t times) { return repeat(read_items, times); }
-static size_t run_names(uint64_t times) { return repeat(read_names, times); }
-static size_t run_texts(uint64_t times) { return repeat(read_texts, times); }
-static size_t run_query(uint64_t times) { return repeat(write_query, times); }
-
 const struct task tasks[] = {
-    {"20 addresses", "dnsm_put", run_put_addresses},
-    {"20 addresses", "dnsm_build", run_build_addresses},
-    {"500 owners", "dnsm_put", run_put_owners},
-    {"500 owners", "dnsm_build", run_build_owners},
-    {"items of w2", "dnsm_next", run_items},
-    {"items of w2", "and dnsm_name_octets", run_names},
-    {"texts of w2", "dnsm_name_text and others", run_texts},
-    {"query", "dnsm_query", run_query},
-    {NULL, NULL, NULL},
+    {"20 addresses", "dnsm_put", .one = put_addresses},
+    {"20 addresses", "dnsm_put, unchecked", .one = put_unchecked},
+    {"20 addresses", "dnsm_build", .one = build_addresses},
+    {"500 owners", "dnsm_put", .one = put_owners},
+    {"500 owners", "dnsm_build", .one = build_owners},
+    {"query", "dnsm_query", .one = write_query},
+    {"response to q1", "dnsm_begin_response, dnsm_put", .one = respond},
+    {"response to q1", "dnsm_respond_a", .one = respond_at_once},
+    {"response checked", "dnsm_answers", .one = answers},
+    {"w2 written again", "dnsm_put_from", .one = put_from},
+    {"items of w2", "dnsm_next", .one = read_items},
+    {"owners of w2", "dnsm_name_octets", .one = read_names},
+    {"addresses of w2", "dnsm_next", .one = read_addresses},
+    {"texts of w2", "dnsm_name_text and others", .one = read_texts},
+    {"fields of m40", "dnsm_next_field", .one = read_fields},
+    {"RDATA of m40", "dnsm_check_data", .one = check_data},
+    {"RDATA of m40", "dnsm_data_octets", .one = read_data},
+    {"names in RDATA of m40", "dnsm_data_name_octets", .one = read_names_in},
+    {"MX of m40 as text", "dnsm_data_name_text", .one = read_exchanges},
+    {.work = NULL},
 };

@@ -1,37 +1,18 @@
-/* The tasks with the packets of libknot. They allocate from a pool that only counts up, instead of the pools of libknot's own
- * server. The hint says where the owner was written: libknot's server knows it for the owner of the question. */
+/* The tasks of whole messages with the packets of libknot. The hint says where the owner was written: libknot's server knows it
+ * for the owner of the question. */
 
+#include "knot_pool.h"
 #include "tasks.h"
 
 #include <libknot/libknot.h>
 #include <stdio.h>
 #include <stdlib.h>
+#include <string.h>
 
-enum { POOL = 1 << 20 };
-
-static _Alignas(16) uint8_t pool[POOL];
-static size_t pool_used;
 static uint8_t out[ROOM];
-static knot_rrset_t addresses[ADDRESSES], owners[OWNERS];
+static knot_rrset_t addresses[ADDRESSES], all_addresses, owners[OWNERS];
 static knot_dname_t *www, *parent;
-static struct input w2;
-
-static void *take(void *context, size_t len)
-{
-    (void)context;
-    len = (len + 15) & ~(size_t)15;
-    if (len > POOL - pool_used)
-        return NULL;
-    pool_used += len;
-    return pool + pool_used - len;
-}
-
-static void give_back(void *block)
-{
-    (void)block;
-}
-
-static knot_mm_t memory = {NULL, take, give_back};
+static struct input w2, m40, q1;
 
 static void set_address(knot_rrset_t *record, const char *owner, uint32_t ttl, const uint8_t *octets)
 {
@@ -45,8 +26,15 @@ void prepare(void)
     www = knot_dname_from_str_alloc("www.example.com.");
     parent = knot_dname_from_str_alloc("sub.example.com.");
     w2 = load_input("w2");
-    for (int i = 0; i < ADDRESSES; i++)
+    m40 = load_input("m40");
+    q1 = load_input("q1");
+    for (int i = 0; i < ADDRESSES; i++) {
         set_address(&addresses[i], "www.example.com.", ADDRESS_TTL, (const uint8_t[]){192, 0, 2, (uint8_t)i});
+        if (i == 0)
+            set_address(&all_addresses, "www.example.com.", ADDRESS_TTL, (const uint8_t[]){192, 0, 2, 0});
+        else if (knot_rrset_add_rdata(&all_addresses, (const uint8_t[]){192, 0, 2, (uint8_t)i}, 4, NULL) != KNOT_EOK)
+            abort();
+    }
     for (int i = 0; i < OWNERS; i++) {
         char owner[32];
         snprintf(owner, sizeof owner, "h%d.sub.example.com.", i);
@@ -74,6 +62,7 @@ static size_t write_packet(const knot_dname_t *asked, const knot_rrset_t *record
 
 static size_t write_hinted(void) { return write_packet(www, addresses, ADDRESSES, KNOT_COMPR_HINT_QNAME, 1232); }
 static size_t write_addresses(void) { return write_packet(www, addresses, ADDRESSES, KNOT_COMPR_HINT_NONE, 1232); }
+static size_t write_set(void) { return write_packet(www, &all_addresses, 1, KNOT_COMPR_HINT_QNAME, 1232); }
 static size_t write_owners(void) { return write_packet(parent, owners, OWNERS, KNOT_COMPR_HINT_NONE, ROOM); }
 
 static size_t write_query(void)
@@ -86,17 +75,25 @@ static size_t write_query(void)
     return knot_pkt_put_question(packet, www, KNOT_CLASS_IN, KNOT_RRTYPE_A) == KNOT_EOK ? packet->size : 0;
 }
 
-/* Reads w2. Its packet is in the pool. */
-static knot_pkt_t *read_packet(void)
+static size_t read_message(const struct input *from)
 {
     pool_used = 0;
-    knot_pkt_t *packet = knot_pkt_new((uint8_t *)w2.octets, (uint16_t)w2.len, &memory);
-    return knot_pkt_parse(packet, KNOT_PF_NOCANON) == KNOT_EOK ? packet : NULL;
+    const knot_pkt_t *packet = read_packet(from->octets, from->len);
+    return packet ? packet->size : 0;
 }
 
-static size_t read_items(void)
+static size_t read_items(void) { return read_message(&w2); }
+static size_t read_data(void) { return read_message(&m40); }
+
+static size_t read_addresses(void)
 {
-    const knot_pkt_t *packet = read_packet();
+    static uint8_t address[4];
+    pool_used = 0;
+    const knot_pkt_t *packet = read_packet(w2.octets, w2.len);
+    const knot_pktsection_t *answers = packet ? knot_pkt_section(packet, KNOT_ANSWER) : NULL;
+    for (uint16_t i = 0; answers && i < answers->count; i++)
+        if (knot_pkt_rr(answers, i)->type == KNOT_RRTYPE_A)
+            memcpy(address, knot_pkt_rr(answers, i)->rrs.rdata->data, 4);
     return packet ? packet->size : 0;
 }
 
@@ -104,7 +101,8 @@ static size_t read_texts(void)
 {
     static size_t size = 4096;
     static char *line;
-    const knot_pkt_t *packet = read_packet();
+    pool_used = 0;
+    const knot_pkt_t *packet = read_packet(w2.octets, w2.len);
     if (!line)
         line = malloc(size);
     for (uint16_t i = 0; packet && i < packet->rrset_count; i++)
@@ -113,19 +111,96 @@ static size_t read_texts(void)
     return packet ? packet->size : 0;
 }
 
-static size_t run_hinted(uint64_t times) { return repeat(write_hinted, times); }
-static size_t run_addresses(uint64_t times) { return repeat(write_addresses, times); }
-static size_t run_owners(uint64_t times) { return repeat(write_owners, times); }
-static size_t run_items(uint64_t times) { return repeat(read_items, times); }
-static size_t run_texts(uint64_t times) { return repeat(read_texts, times); }
-static size_t run_query(uint64_t times) { return repeat(write_query, times); }
+/* The sum of the fields of MX and RRSIG, where a name or octets count by their length. */
+static size_t fields_of(const knot_rdata_t *data, uint16_t type)
+{
+    if (type == KNOT_RRTYPE_MX)
+        return knot_wire_read_u16(data->data) + knot_dname_size(knot_mx_name(data));
+    return knot_rrsig_type_covered(data) + knot_rrsig_alg(data) + knot_rrsig_labels(data) + knot_rrsig_original_ttl(data) +
+           knot_rrsig_sig_expiration(data) + knot_rrsig_sig_inception(data) + knot_rrsig_key_tag(data) +
+           knot_dname_size(knot_rrsig_signer_name(data)) + knot_rrsig_signature_len(data);
+}
+
+static size_t read_fields(void)
+{
+    pool_used = 0;
+    const knot_pkt_t *packet = read_packet(m40.octets, m40.len);
+    for (uint16_t i = 0; packet && i < packet->rrset_count; i++)
+        if (fields_of(packet->rr[i].rrs.rdata, packet->rr[i].type) == 0)
+            return 0;
+    return packet ? packet->size : 0;
+}
+
+static size_t read_names_in(void)
+{
+    size_t sum = 0;
+    pool_used = 0;
+    const knot_pkt_t *packet = read_packet(m40.octets, m40.len);
+    for (uint16_t i = 0; packet && i < packet->rrset_count; i++) {
+        const knot_rdata_t *data = packet->rr[i].rrs.rdata;
+        sum += *(packet->rr[i].type == KNOT_RRTYPE_MX ? knot_mx_name(data) : knot_rrsig_signer_name(data));
+    }
+    return packet && sum > 0 ? packet->size : 0;
+}
+
+static size_t read_exchanges(void)
+{
+    knot_dname_txt_storage_t text;
+    pool_used = 0;
+    const knot_pkt_t *packet = read_packet(m40.octets, m40.len);
+    for (uint16_t i = 0; packet && i < packet->rrset_count; i++)
+        if (packet->rr[i].type == KNOT_RRTYPE_MX && !knot_dname_to_str(text, knot_mx_name(packet->rr[i].rrs.rdata), sizeof text))
+            return 0;
+    return packet ? packet->size : 0;
+}
+
+/* Puts all items of w2 into another message. */
+static size_t put_from(void)
+{
+    pool_used = 0;
+    const knot_pkt_t *from = read_packet(w2.octets, w2.len);
+    knot_pkt_t *to = knot_pkt_new(out, ROOM, &memory);
+    knot_pkt_clear(to);
+    memcpy(to->wire, from->wire, 4);
+    if (knot_pkt_put_question(to, knot_pkt_qname(from), knot_pkt_qclass(from), knot_pkt_qtype(from)) != KNOT_EOK)
+        return 0;
+    for (knot_section_t id = KNOT_ANSWER; id <= KNOT_ADDITIONAL; id++) {
+        const knot_pktsection_t *section = knot_pkt_section(from, id);
+        if (knot_pkt_begin(to, id) != KNOT_EOK)
+            return 0;
+        for (uint16_t i = 0; i < section->count; i++)
+            if (knot_pkt_put(to, KNOT_COMPR_HINT_NONE, knot_pkt_rr(section, i), 0) != KNOT_EOK)
+                return 0;
+    }
+    return to->size;
+}
+
+static size_t respond(void)
+{
+    pool_used = 0;
+    const knot_pkt_t *query = read_packet(q1.octets, q1.len);
+    knot_pkt_t *response = knot_pkt_new(out, 1232, &memory);
+    return query && knot_pkt_init_response(response, query) == KNOT_EOK && knot_pkt_begin(response, KNOT_ANSWER) == KNOT_EOK &&
+                   knot_pkt_put(response, KNOT_COMPR_HINT_QNAME, &addresses[0], 0) == KNOT_EOK
+               ? response->size
+               : 0;
+}
 
 const struct task tasks[] = {
-    {"20 addresses", "knot_pkt_put, QNAME hint", run_hinted},
-    {"20 addresses", "knot_pkt_put, no hint", run_addresses},
-    {"500 owners", "knot_pkt_put, no hint", run_owners},
-    {"items of w2", "knot_pkt_parse", run_items},
-    {"texts of w2", "knot_rrset_txt_dump", run_texts},
-    {"query", "knot_pkt_put_question", run_query},
-    {NULL, NULL, NULL},
+    {"20 addresses", "knot_pkt_put, QNAME hint", .one = write_hinted},
+    {"20 addresses", "knot_pkt_put, no hint", .one = write_addresses},
+    {"20 addresses", "knot_pkt_put of one RRset, QNAME hint", .one = write_set},
+    {"500 owners", "knot_pkt_put, no hint", .one = write_owners},
+    {"query", "knot_pkt_put_question", .one = write_query},
+    {"response to q1", "knot_pkt_init_response, knot_pkt_put", .one = respond},
+    {"w2 written again", "knot_pkt_put, no hint", .one = put_from},
+    {"items of w2", "knot_pkt_parse", .one = read_items},
+    {"owners of w2", "knot_pkt_parse", .one = read_items},
+    {"addresses of w2", "knot_pkt_parse", .one = read_addresses},
+    {"texts of w2", "knot_rrset_txt_dump", .one = read_texts},
+    {"fields of m40", "knot_mx_name, knot_rrsig_alg and others", .one = read_fields},
+    {"RDATA of m40", "knot_pkt_parse", .one = read_data},
+    {"names in RDATA of m40", "knot_mx_name, knot_rrsig_signer_name", .one = read_names_in},
+    {"MX of m40 as text", "knot_mx_name, knot_dname_to_str", .one = read_exchanges},
+    {.work = NULL},
 };

@@ -1,14 +1,15 @@
-/* The tasks with the packets of ldns, which allocates each of their parts. Packets that are written are made before. */
+/* The tasks of whole messages with the packets of ldns, which allocates each of their parts. Packets that are written are made before. */
 
 #include "tasks.h"
 
 #include <ldns/ldns.h>
 #include <stdio.h>
 #include <stdlib.h>
+#include <string.h>
 
 static ldns_pkt *addresses, *owners;
 static ldns_buffer *buffer;
-static struct input w2;
+static struct input w2, m40;
 
 static ldns_rdf *name_of(const char *text)
 {
@@ -51,6 +52,7 @@ void prepare(void)
     }
     buffer = ldns_buffer_new(ROOM);
     w2 = load_input("w2");
+    m40 = load_input("m40");
 }
 
 static size_t write_packet(const ldns_pkt *packet)
@@ -71,48 +73,96 @@ static size_t write_query(void)
     return len;
 }
 
-static ldns_pkt *read_packet(void)
+/* Does something with each record of a packet. Returns 0 on failure. */
+typedef size_t visitor(const ldns_rr *record);
+
+static size_t visit_all(const ldns_rr_list *records, visitor *visit)
+{
+    size_t done = 1;
+    for (size_t i = 0; i < ldns_rr_list_rr_count(records) && done; i++)
+        done = visit(ldns_rr_list_rr(records, i));
+    return done;
+}
+
+/* Reads a message, and does this with each record. */
+static size_t read_message(const struct input *from, visitor *visit)
 {
     ldns_pkt *packet;
-    return ldns_wire2pkt(&packet, w2.octets, w2.len) == LDNS_STATUS_OK ? packet : NULL;
-}
-
-static size_t read_items(void)
-{
-    ldns_pkt *packet = read_packet();
-    ldns_pkt_free(packet);
-    return packet ? w2.len : 0;
-}
-
-static void write_texts(const ldns_rr_list *records)
-{
-    for (size_t i = 0; i < ldns_rr_list_rr_count(records); i++)
-        free(ldns_rr2str(ldns_rr_list_rr(records, i)));
-}
-
-static size_t read_texts(void)
-{
-    ldns_pkt *packet = read_packet();
-    if (!packet)
+    if (ldns_wire2pkt(&packet, from->octets, from->len) != LDNS_STATUS_OK)
         return 0;
-    write_texts(ldns_pkt_answer(packet));
-    write_texts(ldns_pkt_authority(packet));
-    write_texts(ldns_pkt_additional(packet));
+    const size_t done = !visit || (visit_all(ldns_pkt_answer(packet), visit) && visit_all(ldns_pkt_authority(packet), visit) &&
+                                   visit_all(ldns_pkt_additional(packet), visit));
     ldns_pkt_free(packet);
-    return w2.len;
+    return done ? from->len : 0;
 }
 
-static size_t run_addresses(uint64_t times) { return repeat(write_addresses, times); }
-static size_t run_owners(uint64_t times) { return repeat(write_owners, times); }
-static size_t run_items(uint64_t times) { return repeat(read_items, times); }
-static size_t run_texts(uint64_t times) { return repeat(read_texts, times); }
-static size_t run_query(uint64_t times) { return repeat(write_query, times); }
+static size_t text_of(const ldns_rr *record)
+{
+    char *text = ldns_rr2str(record);
+    free(text);
+    return text != NULL;
+}
+
+static size_t address_of(const ldns_rr *record)
+{
+    static uint8_t address[4];
+    if (ldns_rr_get_type(record) == LDNS_RR_TYPE_A)
+        memcpy(address, ldns_rdf_data(ldns_rr_rdf(record, 0)), 4);
+    return 1;
+}
+
+/* The sum of the lengths of the fields. */
+static size_t fields_of(const ldns_rr *record)
+{
+    size_t sum = 0;
+    for (size_t i = 0; i < ldns_rr_rd_count(record); i++)
+        sum += ldns_rdf_size(ldns_rr_rdf(record, i));
+    return sum;
+}
+
+static size_t name_in(const ldns_rr *record)
+{
+    return ldns_rdf_size(ldns_rr_rdf(record, ldns_rr_get_type(record) == LDNS_RR_TYPE_MX ? 1 : 7));
+}
+
+static size_t exchange_of(const ldns_rr *record)
+{
+    if (ldns_rr_get_type(record) != LDNS_RR_TYPE_MX)
+        return 1;
+    ldns_buffer_clear(buffer);
+    return ldns_rdf2buffer_str(buffer, ldns_rr_rdf(record, 1)) == LDNS_STATUS_OK;
+}
+
+static size_t read_items(void) { return read_message(&w2, NULL); }
+static size_t read_addresses(void) { return read_message(&w2, address_of); }
+static size_t read_texts(void) { return read_message(&w2, text_of); }
+static size_t read_fields(void) { return read_message(&m40, fields_of); }
+static size_t read_data(void) { return read_message(&m40, NULL); }
+static size_t read_names_in(void) { return read_message(&m40, name_in); }
+static size_t read_exchanges(void) { return read_message(&m40, exchange_of); }
+
+static size_t write_again(void)
+{
+    ldns_pkt *packet;
+    if (ldns_wire2pkt(&packet, w2.octets, w2.len) != LDNS_STATUS_OK)
+        return 0;
+    const size_t len = write_packet(packet);
+    ldns_pkt_free(packet);
+    return len;
+}
 
 const struct task tasks[] = {
-    {"20 addresses", "ldns_pkt2buffer_wire", run_addresses},
-    {"500 owners", "ldns_pkt2buffer_wire", run_owners},
-    {"items of w2", "ldns_wire2pkt", run_items},
-    {"texts of w2", "ldns_rr2str", run_texts},
-    {"query", "ldns_pkt_query_new", run_query},
-    {NULL, NULL, NULL},
+    {"20 addresses", "ldns_pkt2buffer_wire", .one = write_addresses},
+    {"500 owners", "ldns_pkt2buffer_wire", .one = write_owners},
+    {"query", "ldns_pkt_query_new", .one = write_query},
+    {"w2 written again", "ldns_wire2pkt, ldns_pkt2buffer_wire", .one = write_again},
+    {"items of w2", "ldns_wire2pkt", .one = read_items},
+    {"owners of w2", "ldns_wire2pkt", .one = read_items},
+    {"addresses of w2", "ldns_wire2pkt", .one = read_addresses},
+    {"texts of w2", "ldns_rr2str", .one = read_texts},
+    {"fields of m40", "ldns_rr_rdf", .one = read_fields},
+    {"RDATA of m40", "ldns_wire2pkt", .one = read_data},
+    {"names in RDATA of m40", "ldns_rr_rdf", .one = read_names_in},
+    {"MX of m40 as text", "ldns_rdf2buffer_str", .one = read_exchanges},
+    {.work = NULL},
 };

@@ -32,9 +32,9 @@ static size_t run_mx_text(uint64_t times)
 }
 
 const struct task tasks[] = {
-    {"TTLs of w2", "age_ttls", run_age_w2},
-    {"TTLs of 64 KiB", "age_ttls", run_age_f64},
-    {"RDATA of MX", "mx", run_mx},
-    {"RDATA of MX", "from_text", run_mx_text},
-    {NULL, NULL, NULL},
+    {"TTLs of w2", "age_ttls", .often = run_age_w2},
+    {"TTLs of 64 KiB", "age_ttls", .often = run_age_f64},
+    {"RDATA of MX", "mx", .often = run_mx},
+    {"RDATA of MX", "from_text", .often = run_mx_text},
+    {.work = NULL},
 };

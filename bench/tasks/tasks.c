@@ -11,8 +11,6 @@
 #include <string.h>
 #include <time.h>
 
-enum { RUNS = 50 };
-
 static unsigned digit(char c)
 {
     return c <= '9' ? (unsigned)(c - '0') : (unsigned)(c - 'a' + 10);
@@ -36,11 +34,14 @@ struct input load_input(const char *workload)
     exit(1);
 }
 
-size_t repeat(size_t (*one)(void), uint64_t times)
+/* Does a task `times` times. Returns what it returns the last time. */
+static size_t run(const struct task *task, uint64_t times)
 {
     size_t len = 0;
+    if (task->often)
+        return task->often(times);
     for (uint64_t n = 0; n < times; n++)
-        len = one();
+        len = task->one();
     return len;
 }
 
@@ -49,7 +50,7 @@ static double now(void)
 {
     struct timespec t;
     clock_gettime(CLOCK_PROCESS_CPUTIME_ID, &t);
-    return t.tv_sec * 1e9 + t.tv_nsec;
+    return (double)t.tv_sec * 1e9 + (double)t.tv_nsec;
 }
 
 /* How many times the task has to be done to take some 10 ms. */
@@ -57,20 +58,20 @@ static uint64_t times_for(const struct task *task)
 {
     for (uint64_t times = 1;; times *= 2) {
         double start = now();
-        task->run(times);
+        run(task, times);
         if (now() - start > 10e6)
             return times;
     }
 }
 
-/* The least time of one, of some runs. */
+/* The least time of one, of as many timings as the variable TIMINGS says. */
 static double least(const struct task *task)
 {
     double found = 1e300;
     uint64_t times = times_for(task);
-    for (int i = 0; i < RUNS; i++) {
+    for (int i = getenv("TIMINGS") ? atoi(getenv("TIMINGS")) : 50; i > 0; i--) {
         double start = now();
-        task->run(times);
+        run(task, times);
         double taken = (now() - start) / (double)times;
         if (taken < found)
             found = taken;
@@ -80,12 +81,12 @@ static double least(const struct task *task)
 
 static void report(const char *library, const struct task *task)
 {
-    size_t len = task->run(1);
+    size_t len = run(task, 1);
     if (len == 0) {
         fprintf(stderr, "tasks: %s, %s failed\n", task->work, task->way);
         exit(1);
     }
-    printf("%s|%s|%s|%.0f|%zu\n", library, task->work, task->way, least(task), len);
+    printf("%s|%s|%s|%.1f|%zu\n", library, task->work, task->way, least(task), len);
     fflush(stdout);
 }
 
@@ -97,8 +98,8 @@ int main(int argc, char **argv)
     }
     prepare();
     if (argc == 5)
-        return tasks[atoi(argv[4])].run(strtoull(argv[3], NULL, 10)) == 0;
-    for (const struct task *task = tasks; task->run; task++)
+        return run(&tasks[atoi(argv[4])], strtoull(argv[3], NULL, 10)) == 0;
+    for (const struct task *task = tasks; task->work; task++)
         report(argv[1], task);
     return 0;
 }

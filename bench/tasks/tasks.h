@@ -6,11 +6,12 @@
 #include <stddef.h>
 #include <stdint.h>
 
-/* A task: what is done, the way in which this library does it, and a call that does it `times` times. The call returns
- * the length in octets of what the task makes, or 0 on failure. */
+/* A task: what is done, the way in which this library does it, and a call that does it once, or one that does it `times` times.
+ * The call returns the length in octets of what the task makes or reads, or another number that isn't 0; or 0 on failure. */
 struct task {
     const char *work, *way;
-    size_t (*run)(uint64_t times);
+    size_t (*one)(void);
+    size_t (*often)(uint64_t times);
 };
 
 /* The tasks of a library, up to one without a call. */
@@ -28,8 +29,8 @@ struct input {
 /* The message of a workload, from the lines of inputs.py in the file that the variable INPUTS names. */
 struct input load_input(const char *workload);
 
-/* Does a task `times` times. Returns what it returns the last time. */
-size_t repeat(size_t (*one)(void), uint64_t times);
+/* The client cookie of a query (RFC 7873 section 4). */
+enum { COOKIE = 8 };
 
 /* The messages that are written: a question and 20 addresses of one owner, and a question and 500 addresses of different
  * owners, as dig would show them:
