@@ -1,7 +1,7 @@
 #!/usr/bin/env bash
-# Runs the programs that `./test` leaves in crates/*/out, with bad input, with wrong arguments, and with their output to a full disk.
-# Each has to end with the exit status of its page, and to print no more than that; an example says why on standard error, and ends
-# with 1. dnsmsg prints its reasons. `rt ci` compares only one run of each program.
+# Runs the programs that `./test` leaves in crates/*/out, with bad or long input, with wrong arguments, and with their output to a full
+# disk. Each has to end with the exit status of its page, and to print no more than that; an example says why on standard error, and
+# ends with 1. dnsmsg prints its reasons. `rt ci` compares only one run of each program.
 # Prints 'test programs::NAME ... ok' or 'test programs::NAME ... FAILED' for each run, and fails if one does.
 set -u
 cd "$(dirname "$0")/.." || exit 1
@@ -93,6 +93,20 @@ refuses resolve_other_type example_resolve 'no query for addresses' < <(resolvin
 refuses resolve_unreadable example_resolve 'unreadable: ' < <(resolving 0001 8180 0001)
 full resolve_full_disk 1 "$disk" example_resolve <crates/example_resolve/stdin
 full resolve_query_full_disk 1 "$disk" example_resolve <<<www.example.com
+
+# The time to read a text grows as its words do: a million types (RFC 4034 section 4.2), and service parameters in reverse order
+# (RFC 9460 section 2.1), of which 64,535 take more octets than RDATA has.
+run types_a_million 0 '1 cases, 1 checks, 0 failed' '' cases_rdata < <(
+    printf 'case NSEC\n type NSEC\n octets 016100 000140\n reads-octets 612e 2041*1000000\n'
+)
+run parameters_in_reverse_order 0 '1 cases, 2 checks, 0 failed' '' cases_rdata < <(
+    printf 'case SVCB\n type SVCB\n octets 000100'
+    printf '%04x0000' {1000..16000}
+    printf '\n reads 1 .'
+    printf ' key%d' {16000..1000}
+    printf '\n refuses 1 .'
+    printf ' key%d' {65534..1000}
+)
 
 usage='usage: dnsmsg build TARGET | dnsmsg show'
 run dnsmsg_build 0 $'ok 12\nok 29\n000000000001000000000000076578616d706c6503636f6d0000010001' '' dnsmsg build plain <examples/first-run.txt
