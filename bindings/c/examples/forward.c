@@ -1,17 +1,21 @@
-/* A forwarder over UDP with a cache.
+/* A forwarder over UDP and TCP with a cache.
  *
  *     forward PORT UPSTREAM [UPSTREAM_PORT]        UPSTREAM is the IPv4 address of a resolver
  *
- * It listens on 127.0.0.1, and asks one question at a time: from a new port, with a random ID and letters of random case, which the
- * reply has to repeat ("0x20"). It asks again over TCP if the reply is truncated. A reply is kept until its first record expires;
- * one without an answer, as long as its SOA record says (RFC 2308 section 5). */
+ * It listens on 127.0.0.1. It asks over UDP, from a new port, with a random ID and letters of random case, which the reply has to
+ * repeat ("0x20"), and again over TCP if the reply is truncated. A reply is kept until its first record expires; one without an
+ * answer, as long as its SOA record says (RFC 2308 section 5).
+ *
+ * Left out: several questions at a time (a client over UDP waits while another one's is asked), a second try, a bound on TCP
+ * connections, EDNS options, zone transfers. A connection has a process with a copy of the cache; what it adds there is lost. */
 #define _DEFAULT_SOURCE
 #include <dnsm.h>
 
 #include <arpa/inet.h>
-#include <errno.h>
+#include <ctype.h>
+#include <err.h>
 #include <poll.h>
-#include <stdio.h>
+#include <signal.h>
 #include <stdlib.h>
 #include <string.h>
 #include <sys/random.h>
@@ -20,159 +24,115 @@
 #include <time.h>
 #include <unistd.h>
 
-/* The octets of an OPT record without options; of a message for a client without EDNS, of one for others, and of a reply. */
+/* The octets of an OPT record without options; of a UDP message for a client without EDNS, and at most; of any message. */
 enum { OPT_OCTETS = 11, PLAIN = 512, UDP_MOST = 1232, MOST = 65535 };
-/* Entries of the cache; seconds that one is kept at most, and that a reply is waited for. The index of the field MINIMUM of SOA. */
-enum { ENTRIES = 4096, LONGEST = 86400, PATIENCE = 2, SOA_MINIMUM = 6 };
+/* Entries of the cache. Seconds, at most, that one is kept, a reply takes, a connection idles. The index of MINIMUM in SOA. */
+enum { ENTRIES = 4096, LONGEST = 86400, PATIENCE = 2, IDLE = 5, SOA_MINIMUM = 6 };
 
-/* What is asked: a name in lower case, and flags of the query that change the reply. */
+/* What is asked upstream: a query with ID 0, the place where its name ends, and its flags, with DO of EDNS. */
 typedef struct question {
-    uint8_t name[DNSM_NAME_OCTETS];
-    size_t name_len;
-    uint16_t type, class_, flags;
-    bool is_signed; /* DO is set */
+    uint8_t octets[PLAIN];
+    size_t len, name_end;
+    uint16_t flags;
 } question;
 
-/* A reply, and when it was asked for. Its question is in lower case. */
+/* A reply with ID 0 and a question in lower case, when it was asked for, its lifetime in seconds, and the flags of the question. */
 typedef struct entry {
-    question question;
     uint8_t *reply;
     size_t len;
     time_t since;
-    uint32_t lifetime; /* in seconds */
+    uint32_t lifetime;
+    uint16_t flags;
 } entry;
 
 static entry cache[ENTRIES];
 static struct sockaddr_in upstream = {.sin_family = AF_INET};
-static uint8_t seed[16];
+/* For the hash of names. A client's query, the response to it, and the reply from upstream. */
+static uint8_t seed[16], query[MOST], out[MOST], reply[MOST];
 
-/* Says why the forwarder ends, and ends it. */
-static void stop(const char *what, const char *why)
+/* Puts an OPT record without options. */
+static dnsm_status put_opt(dnsm_draft *draft, uint8_t *to, size_t room, uint16_t flags, uint16_t rcode)
 {
-    fprintf(stderr, "forward: %s: %s\n", what, why);
-    exit(1);
+    const dnsm_opt opt = {UDP_MOST, flags & DNSM_DO, (uint8_t)(rcode >> 4), 0};
+    const dnsm_put_item item = {(const uint8_t *)"", 1, NULL, 0, dnsm_opt_ttl(&opt), DNSM_TYPE_OPT, UDP_MOST, DNSM_ADDITIONAL};
+    return dnsm_put(draft, to, room, &item);
 }
 
-/* Letters to lower case. No length octet of a name is one. */
-static void lower(uint8_t *name, size_t len)
+/* Sets the ID at random, and the case of each letter. Returns false if there are no random octets. */
+static bool vary(question *asked)
 {
-    for (size_t i = 0; i < len; i++)
-        if (name[i] >= 'A' && name[i] <= 'Z')
-            name[i] |= 0x20;
+    uint8_t cases[PLAIN];
+    if (getrandom(asked->octets, 2, 0) != 2 || getrandom(cases, sizeof cases, 0) != sizeof cases)
+        return false;
+    for (size_t i = 12; i < asked->name_end; i++)
+        if (isalpha(asked->octets[i]))
+            asked->octets[i] = (uint8_t)(asked->octets[i] ^ (cases[i] & 0x20));
+    return true;
 }
 
-static bool is_same(const question *one, const question *other)
+static void set_patience(int socket, time_t seconds)
 {
-    return one->name_len == other->name_len && memcmp(one->name, other->name, one->name_len) == 0 && one->type == other->type &&
-           one->class_ == other->class_ && one->flags == other->flags && one->is_signed == other->is_signed;
+    const struct timeval patience = {seconds, 0};
+    setsockopt(socket, SOL_SOCKET, SO_RCVTIMEO, &patience, sizeof patience);
+    setsockopt(socket, SOL_SOCKET, SO_SNDTIMEO, &patience, sizeof patience);
 }
 
-/* The entry for a question, which may have another one. */
-static entry *find(const question *asked)
+/* Sends a message. Over TCP two octets with the length precede it (RFC 1035 section 4.2.2). */
+static bool send_message(int socket, int type, const uint8_t *message, size_t len)
 {
-    uint32_t hash = 0;
-    dnsm_name_hash(asked->name, asked->name_len, 0, seed, sizeof seed, &hash);
-    return &cache[(hash ^ asked->type) % ENTRIES];
+    const uint8_t size[] = {(uint8_t)(len >> 8), (uint8_t)len};
+    return (type == SOCK_DGRAM || send(socket, size, 2, MSG_NOSIGNAL | MSG_MORE) == 2) &&
+           send(socket, message, len, MSG_NOSIGNAL) == (ssize_t)len;
 }
 
-/* Writes a query with letters of random case. Returns its length, or 0. */
-static size_t write_query(const question *asked, uint8_t *out, size_t room)
+/* Receives a message of at most MOST octets. Returns its length, or -1. */
+static ssize_t receive_message(int socket, int type, uint8_t *to)
 {
-    const dnsm_opt opt = {UDP_MOST, asked->is_signed ? DNSM_DO : 0, 0, 0};
-    const dnsm_put_item last = {(const uint8_t *)"", 1, NULL, 0, dnsm_opt_ttl(&opt), DNSM_TYPE_OPT, UDP_MOST, DNSM_ADDITIONAL};
-    uint8_t name[DNSM_NAME_OCTETS], cases[DNSM_NAME_OCTETS];
-    uint16_t id;
-    size_t len;
-    dnsm_draft draft;
-    if (getrandom(&id, sizeof id, 0) != sizeof id || getrandom(cases, sizeof cases, 0) != sizeof cases)
-        return 0;
-    for (size_t i = 0; i < asked->name_len; i++)
-        name[i] = asked->name[i] >= 'a' && asked->name[i] <= 'z' ? (uint8_t)(asked->name[i] ^ (cases[i] & 0x20)) : asked->name[i];
-    const dnsm_put_item first = {name, asked->name_len, NULL, 0, 0, asked->type, asked->class_, DNSM_QUESTION};
-    if (dnsm_begin(&draft, out, room, id, (uint16_t)(DNSM_RD | asked->flags)) != DNSM_OK ||
-        dnsm_put(&draft, out, room, &first) != DNSM_OK || dnsm_put(&draft, out, room, &last) != DNSM_OK ||
-        dnsm_finish(&draft, out, room, &len) != DNSM_OK)
-        return 0;
-    return len;
-}
-
-/* Whether the octets are the reply to a query: ID, QR, opcode and question are as they have to be, and the name octet for octet. */
-static bool is_reply(const uint8_t *query, size_t query_len, const uint8_t *reply, size_t len, size_t name_len)
-{
-    return dnsm_answers(query, query_len, reply, len) == DNSM_OK && memcmp(query + 12, reply + 12, name_len) == 0;
-}
-
-/* A socket that is connected to the upstream resolver, or -1. */
-static int open_upstream(int type)
-{
-    const struct timeval patience = {PATIENCE, 0};
-    const int made = socket(AF_INET, type, 0);
-    if (made < 0)
+    uint8_t size[] = {MOST >> 8, MOST & 255};
+    if (type == SOCK_STREAM && recv(socket, size, 2, MSG_WAITALL) != 2)
         return -1;
-    setsockopt(made, SOL_SOCKET, SO_RCVTIMEO, &patience, sizeof patience);
-    setsockopt(made, SOL_SOCKET, SO_SNDTIMEO, &patience, sizeof patience);
-    if (connect(made, (struct sockaddr *)&upstream, sizeof upstream) == 0)
-        return made;
-    close(made);
-    return -1;
+    const ssize_t len = size[0] << 8 | size[1], got = recv(socket, to, (size_t)len, MSG_WAITALL);
+    return type == SOCK_DGRAM || got == len ? got : -1;
 }
 
-/* Reads the reply over UDP. Others are ignored, until the time is over. Returns its length, or 0. */
-static size_t ask_udp(const uint8_t *query, size_t query_len, size_t name_len, uint8_t *reply)
+/* Asks for the reply, which repeats the name octet for octet; others are ignored for PATIENCE seconds. Returns its length, or 0. */
+static size_t exchange(int type, const question *asked)
 {
-    const int made = open_upstream(SOCK_DGRAM);
     const time_t end = time(NULL) + PATIENCE;
-    ssize_t got = -1;
-    if (made < 0)
-        return 0;
-    if (send(made, query, query_len, 0) == (ssize_t)query_len)
-        do
-            got = recv(made, reply, MOST, 0);
-        while (got >= 0 && !is_reply(query, query_len, reply, (size_t)got, name_len) && time(NULL) <= end);
-    close(made);
-    return got > 0 && is_reply(query, query_len, reply, (size_t)got, name_len) ? (size_t)got : 0;
-}
-
-/* Reads the reply over TCP, where messages have their length before them. Returns its length, or 0. */
-static size_t ask_tcp(const uint8_t *query, size_t query_len, size_t name_len, uint8_t *reply)
-{
-    const int made = open_upstream(SOCK_STREAM);
-    uint8_t size[2] = {(uint8_t)(query_len >> 8), (uint8_t)query_len};
+    const int made = socket(AF_INET, type, 0);
+    ssize_t got;
     size_t len = 0;
-    if (made < 0)
-        return 0;
-    if (send(made, size, 2, MSG_NOSIGNAL | MSG_MORE) == 2 && send(made, query, query_len, MSG_NOSIGNAL) == (ssize_t)query_len &&
-        recv(made, size, 2, MSG_WAITALL) == 2)
-        len = (size_t)size[0] << 8 | size[1];
-    if (recv(made, reply, len, MSG_WAITALL) != (ssize_t)len || !is_reply(query, query_len, reply, len, name_len))
-        len = 0;
+    set_patience(made, PATIENCE);
+    if (connect(made, (struct sockaddr *)&upstream, sizeof upstream) == 0 && send_message(made, type, asked->octets, asked->len))
+        while (len == 0 && time(NULL) <= end && (got = receive_message(made, type, reply)) >= 0)
+            if (dnsm_answers(asked->octets, asked->len, reply, (size_t)got) == DNSM_OK &&
+                memcmp(asked->octets + 12, reply + 12, asked->name_end - 12) == 0)
+                len = (size_t)got;
     close(made);
     return len;
 }
 
-/* Sets how long a reply may be kept. Returns false if it can't be read to its end, or has malformed RDATA. */
-static bool read_lifetime(const uint8_t *reply, size_t len, uint32_t *lifetime)
+/* Sets how many seconds the reply may be kept. Returns false if it can't be read to its end, or has malformed RDATA. */
+static bool read_lifetime(size_t len, uint32_t *lifetime)
 {
     dnsm_header header;
     dnsm_cursor cursor;
     dnsm_item item;
-    dnsm_data_field minimum;
     bool has_soa = false;
     dnsm_status status = dnsm_open(reply, len, &header, &cursor);
     *lifetime = LONGEST;
     while (status == DNSM_OK && (status = dnsm_next(reply, len, &cursor, &item)) == DNSM_OK) {
-        uint32_t ttl = item.ttl > INT32_MAX ? 0 : item.ttl; /* RFC 2181 section 8 */
+        uint64_t ttl = item.ttl > INT32_MAX ? 0 : item.ttl; /* RFC 2181 section 8 */
+        dnsm_data_field minimum = {.number = ttl};
+        size_t index = SOA_MINIMUM;
         if (item.section == DNSM_QUESTION || item.type == DNSM_TYPE_OPT)
             continue;
         if (dnsm_check_data(reply, len, &item) != DNSM_OK)
             return false;
-        size_t index = SOA_MINIMUM;
-        if (item.section == DNSM_AUTHORITY && item.type == DNSM_TYPE_SOA &&
-            dnsm_next_field(reply, len, &item, &index, &minimum) == DNSM_OK) {
-            has_soa = true;
-            ttl = minimum.number < ttl ? (uint32_t)minimum.number : ttl;
-        }
-        *lifetime = ttl < *lifetime ? ttl : *lifetime;
+        if (item.section == DNSM_AUTHORITY && item.type == DNSM_TYPE_SOA)
+            has_soa = dnsm_next_field(reply, len, &item, &index, &minimum) == DNSM_OK;
+        ttl = minimum.number < ttl ? minimum.number : ttl;
+        *lifetime = ttl < *lifetime ? (uint32_t)ttl : *lifetime;
     }
     if ((header.rcode != 0 && header.rcode != DNSM_RCODE_NXDOMAIN) || header.flags & DNSM_TC ||
         ((header.rcode == DNSM_RCODE_NXDOMAIN || header.counts[DNSM_ANSWER] == 0) && !has_soa))
@@ -183,72 +143,85 @@ static bool read_lifetime(const uint8_t *reply, size_t len, uint32_t *lifetime)
 /* Asks the upstream resolver, and puts the reply into the entry. Returns false if there is none. */
 static bool ask(const question *asked, entry *to)
 {
-    static uint8_t reply[MOST];
-    uint8_t query[PLAIN];
-    const size_t query_len = write_query(asked, query, sizeof query);
     const time_t since = time(NULL);
-    size_t len = query_len == 0 ? 0 : ask_udp(query, query_len, asked->name_len, reply);
+    question varied = *asked;
+    size_t len = vary(&varied) ? exchange(SOCK_DGRAM, &varied) : 0;
     uint32_t lifetime;
     if (len > 0 && reply[2] & DNSM_TC >> 8)
-        len = ask_tcp(query, query_len, asked->name_len, reply);
-    if (len == 0 || !read_lifetime(reply, len, &lifetime))
+        len = exchange(SOCK_STREAM, &varied);
+    if (len == 0 || !read_lifetime(len, &lifetime))
         return false;
-    memcpy(reply + 12, asked->name, asked->name_len);
+    reply[0] = reply[1] = 0;
+    for (size_t i = 12; i < asked->name_end; i++) /* a length octet isn't a letter */
+        reply[i] = (uint8_t)tolower(reply[i]);
     free(to->reply);
-    *to = (entry){*asked, malloc(len), len, since, lifetime};
+    *to = (entry){malloc(len), len, since, lifetime, asked->flags};
     return to->reply && memcpy(to->reply, reply, len);
 }
 
-/* Puts the records of a reply that is `age` seconds old, but for its OPT record. */
-static dnsm_status put_records(dnsm_draft *draft, uint8_t *out, const entry *from, uint32_t age)
+/* The entry with the reply to a question, from the cache or upstream. Returns NULL if there is none. */
+static const entry *find(const question *asked)
+{
+    uint32_t hash = 0;
+    dnsm_name_hash(asked->octets, asked->len, 12, seed, sizeof seed, &hash);
+    entry *it = &cache[(hash ^ asked->octets[asked->name_end + 1]) % ENTRIES]; /* by name and type */
+    const bool is_kept = it->reply && it->flags == asked->flags && time(NULL) - it->since < it->lifetime &&
+                         dnsm_answers(asked->octets, asked->len, it->reply, it->len) == DNSM_OK;
+    return is_kept || ask(asked, it) ? it : NULL;
+}
+
+/* Puts the records of a reply but for its OPT record, with TTLs that are lower by its age. */
+static dnsm_status put_records(dnsm_draft *draft, const entry *from)
 {
     dnsm_header header;
     dnsm_cursor cursor;
     dnsm_item item;
+    const uint32_t age = (uint32_t)(time(NULL) - from->since);
     dnsm_status status = dnsm_open(from->reply, from->len, &header, &cursor);
     draft->flags |= (uint16_t)(header.rcode | (header.flags & DNSM_AD));
     while (status == DNSM_OK && (status = dnsm_next(from->reply, from->len, &cursor, &item)) == DNSM_OK) {
         if (item.section == DNSM_QUESTION || item.type == DNSM_TYPE_OPT)
             continue;
         item.ttl = item.ttl > INT32_MAX || item.ttl < age ? 0 : item.ttl - age;
-        status = dnsm_put_from(draft, out, UDP_MOST, from->reply, from->len, &item);
+        status = dnsm_put_from(draft, out, MOST, from->reply, from->len, &item);
     }
     return status == DNSM_END ? DNSM_OK : status;
 }
 
-/* Puts the answer to the question of a query. If it doesn't fit, TC is set instead; without one the rcode is SERVFAIL. */
-static void put_answer(dnsm_draft *draft, uint8_t *out, const question *asked)
+/* Puts the answer to a question. If it doesn't fit, TC is set instead; without one the rcode is SERVFAIL. */
+static void put_answer(dnsm_draft *draft, const question *asked)
 {
-    entry *found = find(asked);
     const dnsm_draft mark = *draft;
-    dnsm_status status = DNSM_BAD_DATA;
-    if ((found->reply && is_same(&found->question, asked) && time(NULL) - found->since < found->lifetime) || ask(asked, found))
-        status = put_records(draft, out, found, (uint32_t)(time(NULL) - found->since));
+    const entry *found = find(asked);
+    const dnsm_status status = found ? put_records(draft, found) : DNSM_BAD_DATA;
     if (status == DNSM_OK)
         return;
     *draft = mark;
     draft->flags |= status == DNSM_NO_ROOM ? DNSM_TC : DNSM_RCODE_SERVFAIL;
 }
 
-/* Reads the question of a query. Returns the rcode if it gets no answer, else 0. */
-static uint16_t read_question(const uint8_t *query, size_t len, bool is_signed, question *to)
+/* Puts the question of a query, and writes what is asked upstream. Returns the rcode if it gets no answer, else 0. */
+static uint16_t read_question(size_t len, const dnsm_opt *opt, dnsm_draft *draft, question *to)
 {
     dnsm_header header;
     dnsm_cursor cursor;
     dnsm_item item;
+    dnsm_draft up;
     if (dnsm_open(query, len, &header, &cursor) != DNSM_OK || dnsm_next(query, len, &cursor, &item) != DNSM_OK ||
-        dnsm_name_octets(query, len, item.place, to->name, sizeof to->name, &to->name_len) != DNSM_OK || header.counts[0] != 1)
+        header.counts[DNSM_QUESTION] != 1 || dnsm_put_from(draft, out, MOST, query, len, &item) != DNSM_OK ||
+        dnsm_begin(&up, to->octets, PLAIN, 0, DNSM_RD | (header.flags & (DNSM_AD | DNSM_CD))) != DNSM_OK ||
+        dnsm_put_from(&up, to->octets, PLAIN, query, len, &item) != DNSM_OK ||
+        put_opt(&up, to->octets, PLAIN, opt->flags, 0) != DNSM_OK || dnsm_finish(&up, to->octets, PLAIN, &to->len) != DNSM_OK)
         return DNSM_RCODE_FORMERR;
-    lower(to->name, to->name_len);
-    to->type = item.type;
-    to->class_ = item.class_;
-    to->flags = header.flags & (DNSM_AD | DNSM_CD);
-    to->is_signed = is_signed;
-    return header.opcode == DNSM_OPCODE_QUERY ? 0 : DNSM_RCODE_NOTIMP;
+    to->name_end = to->len - 4 - OPT_OCTETS;
+    to->flags = up.flags | (opt->flags & DNSM_DO);
+    if (opt->version != 0)
+        return DNSM_RCODE_BADVERS;
+    return header.opcode != DNSM_OPCODE_QUERY || item.type == DNSM_TYPE_AXFR || item.type == DNSM_TYPE_IXFR ? DNSM_RCODE_NOTIMP : 0;
 }
 
-/* Writes the response to a query. Returns its length, or 0 if there is none. */
-static size_t respond(const uint8_t *query, size_t len, uint8_t *out)
+/* Writes the response to a query of this length. Returns its length, or 0 if there is none. */
+static size_t respond(size_t len, bool is_udp)
 {
     dnsm_draft draft;
     dnsm_opt opt = {.udp_size = PLAIN};
@@ -256,44 +229,71 @@ static size_t respond(const uint8_t *query, size_t len, uint8_t *out)
     question asked;
     uint16_t rcode;
     const dnsm_status has_opt = dnsm_find_opt(query, len, &opt, &item, &rcode);
-    dnsm_status status = dnsm_begin_response(&draft, out, UDP_MOST, query, len, 0);
-    if (status == DNSM_IS_RESPONSE || len < 12)
+    const uint16_t id = (uint16_t)(query[0] << 8 | query[1]), flags = (uint16_t)(query[2] << 8 | query[3]);
+    if (len < 12 || flags & DNSM_QR ||
+        dnsm_begin(&draft, out, MOST, id, DNSM_QR | DNSM_RA | (flags & (0x7800 | DNSM_RD | DNSM_CD))) != DNSM_OK)
         return 0;
-    if (status != DNSM_OK) /* there is no question: the response has ID, opcode and RD alone */
-        status = dnsm_begin(&draft, out, UDP_MOST, (uint16_t)(query[0] << 8 | query[1]),
-                            (uint16_t)(DNSM_QR | (query[2] << 8 & (0x7800 | DNSM_RD))));
-    rcode = has_opt != DNSM_OK && has_opt != DNSM_NO_OPT ? DNSM_RCODE_FORMERR
-                                                         : read_question(query, len, opt.flags & DNSM_DO, &asked);
-    draft.flags |= (uint16_t)(DNSM_RA | rcode);
-    draft.limit = opt.udp_size < PLAIN ? PLAIN : opt.udp_size;
+    draft.limit = !is_udp ? MOST : opt.udp_size < PLAIN ? PLAIN : opt.udp_size < UDP_MOST ? opt.udp_size : UDP_MOST;
     draft.reserved = has_opt == DNSM_OK ? OPT_OCTETS : 0;
-    if (status == DNSM_OK && rcode == 0)
-        put_answer(&draft, out, &asked);
+    rcode = has_opt == DNSM_OK || has_opt == DNSM_NO_OPT ? read_question(len, &opt, &draft, &asked) : DNSM_RCODE_FORMERR;
+    draft.flags |= rcode & 15;
+    if (rcode == 0)
+        put_answer(&draft, &asked);
     draft.reserved = 0;
-    if (status == DNSM_OK && has_opt == DNSM_OK) {
-        const dnsm_opt ours = {UDP_MOST, opt.flags & DNSM_DO, 0, 0};
-        const dnsm_put_item last = {(const uint8_t *)"", 1, NULL, 0, dnsm_opt_ttl(&ours), DNSM_TYPE_OPT, UDP_MOST, DNSM_ADDITIONAL};
-        status = dnsm_put(&draft, out, UDP_MOST, &last);
-    }
-    return status == DNSM_OK && dnsm_finish(&draft, out, UDP_MOST, &len) == DNSM_OK ? len : 0;
+    if (has_opt == DNSM_OK)
+        put_opt(&draft, out, MOST, opt.flags, rcode);
+    return dnsm_finish(&draft, out, MOST, &len) == DNSM_OK ? len : 0;
+}
+
+static void serve_udp(int udp)
+{
+    struct sockaddr_in client;
+    socklen_t client_len = sizeof client;
+    const ssize_t got = recvfrom(udp, query, sizeof query, 0, (struct sockaddr *)&client, &client_len);
+    const size_t len = got < 0 ? 0 : respond((size_t)got, true);
+    if (len > 0)
+        sendto(udp, out, len, 0, (struct sockaddr *)&client, client_len);
+}
+
+/* Answers the queries of a TCP connection until it is idle. */
+static int serve_tcp(int client)
+{
+    ssize_t got;
+    size_t len;
+    set_patience(client, IDLE);
+    while ((got = receive_message(client, SOCK_STREAM, query)) >= 0 && (len = respond((size_t)got, false)) > 0 &&
+           send_message(client, SOCK_STREAM, out, len))
+        continue;
+    return 0;
+}
+
+static int open_socket(int type, const char *port)
+{
+    struct sockaddr_in at = {AF_INET, htons((uint16_t)strtoul(port, NULL, 10)), {htonl(INADDR_LOOPBACK)}, {0}};
+    const int on = 1, made = socket(AF_INET, type | SOCK_NONBLOCK, 0);
+    if (setsockopt(made, SOL_SOCKET, SO_REUSEADDR, &on, sizeof on) != 0 || bind(made, (struct sockaddr *)&at, sizeof at) != 0 ||
+        (type == SOCK_STREAM && listen(made, 64) != 0))
+        err(1, "%s", port);
+    return made;
 }
 
 int main(int argc, char **argv)
 {
-    struct sockaddr_in at = {.sin_family = AF_INET, .sin_addr.s_addr = htonl(INADDR_LOOPBACK)}, client;
-    static uint8_t query[MOST], out[UDP_MOST];
     if (argc < 3 || inet_pton(AF_INET, argv[2], &upstream.sin_addr) != 1)
-        stop("usage", "forward PORT UPSTREAM [UPSTREAM_PORT]");
-    at.sin_port = htons((uint16_t)strtoul(argv[1], NULL, 10));
+        errx(1, "usage: forward PORT UPSTREAM [UPSTREAM_PORT]");
     upstream.sin_port = htons((uint16_t)(argc > 3 ? strtoul(argv[3], NULL, 10) : 53));
-    const int made = socket(AF_INET, SOCK_DGRAM, 0);
-    if (getrandom(seed, sizeof seed, 0) != sizeof seed || made < 0 || bind(made, (struct sockaddr *)&at, sizeof at) != 0)
-        stop(argv[1], strerror(errno));
-    for (;;) {
-        socklen_t client_len = sizeof client;
-        const ssize_t got = recvfrom(made, query, sizeof query, 0, (struct sockaddr *)&client, &client_len);
-        const size_t len = got < 0 ? 0 : respond(query, (size_t)got, out);
-        if (len > 0)
-            sendto(made, out, len, 0, (struct sockaddr *)&client, client_len);
+    struct pollfd sockets[] = {{open_socket(SOCK_DGRAM, argv[1]), POLLIN, 0}, {open_socket(SOCK_STREAM, argv[1]), POLLIN, 0}};
+    if (getrandom(seed, sizeof seed, 0) != sizeof seed)
+        err(1, "getrandom");
+    signal(SIGCHLD, SIG_IGN);
+    while (poll(sockets, 2, -1) >= 0) {
+        if (sockets[0].revents)
+            serve_udp(sockets[0].fd);
+        const int client = sockets[1].revents ? accept(sockets[1].fd, NULL, NULL) : -1;
+        if (client >= 0 && fork() == 0)
+            return serve_tcp(client);
+        if (client >= 0)
+            close(client);
     }
+    err(1, "poll");
 }
