@@ -2,7 +2,6 @@
 use Rattle.std.proofs.Common.{◌≡◌, ◌∙◌, ℕ, List, [], ◌∷◌, ap, true, false, append_assoc, drop, codes, None}
 use Rattle.std.specs.Fmt.{◌++?◌, decimal}
 use Rattle.std.specs.Prelude.{if◌then◌else◌, Some}
-use Rattle.dns_iana.specs.Classes.{class_text}
 use Rattle.dns_data.specs.Printing.{opaque_text}
 use Rattle.dns_name.specs.ParsedName.{labels}
 use Rattle.dns_name.specs.declared.parsed_name.ParsedName.{ParsedName}
@@ -17,7 +16,7 @@ use Rattle.fields_octets.specs.Table.{definitions_of}
 use Rattle.fields_octets.specs.declared.field_data.FieldData.{FieldData}
 use Rattle.fields_print.specs.DataTexts.{data_text}
 use Rattle.fields_print.specs.RecordLines.{record_text}
-use Rattle.fields_print.specs.TypeNames.{type_word}
+use Rattle.fields_print.specs.TypeNames.{class_word, type_word}
 use Rattle.fields_print.specs.ZoneNames.{zone_name_text}
 use Rattle.dns_lines.specs.Show.{data_parts, line}
 use Rattle.fields_print.specs.RdataTexts.{rdata_text}
@@ -43,7 +42,7 @@ module _ (x : EncodedRecord) where
       → octets ≡ drop x.entry.rdata_start (up_to_rdata_end x.octets x.entry)
       → Some owner ++? (Some (codes " ") ++?
       (Some (decimal ttl) ++?
-      (Some (codes " ") ++? (Some (class_text class) ++? (Some (codes " ") ++? (Some (type_word rtype) ++? (Some (codes " ") ++? (Some (opaque_text octets) ++? Some (10 ∷ [])))))))))
+      (Some (codes " ") ++? (Some (class_word class) ++? (Some (codes " ") ++? (Some (type_word rtype) ++? (Some (codes " ") ++? (Some (opaque_text octets) ++? Some (10 ∷ [])))))))))
       ≡ Some (line_with x None)
   opaque_printed owner ttl class rtype octets o t c y d =
       ap Some (simp append_assoc) ∙ λ i. Some (line (record_text (o i) (t i) (c i) (y i) (opaque_text (d i))))

@@ -1,4 +1,4 @@
--- RDATA of the types whose fields the program knows: its type, its parts, its layout and its text. RFC 1035 sections 3.3 and 3.4.1.
+-- RDATA of A, NS, CNAME and SOA, which prints by its fields: its type, its parts, its layout and its text. RFC 1035 sections 3.3 and 3.4.1.
 --
 -- `name` maps a name to its labels, and `text` maps it to its text.
 use Rattle.std.specs.Prelude.{ℕ, ◌==◌, ◌||◌, if◌then◌else◌, List, [], ◌∷◌, Option, Some, None, IsSomeAnd, refl}

@@ -1,4 +1,4 @@
-//! RDATA of the types whose fields the program knows: A, NS, CNAME and SOA.
+//! RDATA of A, NS, CNAME and SOA, which prints by its fields.
 ghost use Rattle.dns_name.specs.ParsedName.{labels};
 ghost use Rattle.dns_lines.specs.KnownData.{rtype_of, parts_of, known_layout, known_laid_out, known_text};
 

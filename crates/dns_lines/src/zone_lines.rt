@@ -13,7 +13,7 @@ use dns_item::ParsedRecord;
 use dns_octets::ParseError;
 use dns_read::{Message, Section};
 use fields_octets::FieldData;
-use fields_print::{RecordText, TypeName, ZoneName};
+use fields_print::{ClassName, RecordText, TypeName, ZoneName};
 use std::io;
 use std::io::Write;
 
@@ -115,7 +115,7 @@ fn print_opaque<W: Write>(writer: &mut W, parsed: &ParsedRecord<'_>) -> io::Resu
     let found = parsed.to_any_record::<UnknownRecordData<&[u8]>>().unwrap();
     let owner = ZoneName(*found.owner());
     let ttl = found.ttl().as_secs();
-    let class = found.class();
+    let class = ClassName(found.class());
     let rtype = TypeName(found.rtype());
     let octets = found.data();
     writeln!(writer, "{owner} {ttl} {class} {rtype} {octets}")

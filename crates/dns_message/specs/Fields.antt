@@ -22,8 +22,7 @@ pub use Rattle.fields_print.specs.DataTexts.{data_fields, data_text, data_line}
 pub use Rattle.fields_print.specs.FieldTexts.{field_text, fields_octets, fields_text, value_text}
 pub use Rattle.fields_print.specs.RecordLines.{record_text, record_line}
 pub use Rattle.fields_print.specs.ZoneNames.{zone_name_text}
-unfoldable pub use Rattle.fields_print.specs.TypeNames.{mnemonic}
-pub use Rattle.fields_print.specs.TypeNames.{type_word}
+pub use Rattle.fields_print.specs.TypeNames.{class_word, type_word}
 pub use Rattle.fields_read_words.specs.LineWords.{AreWordsOf, SplitsWords}
 pub use Rattle.fields_read_records.specs.DataWords.{IsDataText, MayBeData, ReadsData}
 pub use Rattle.fields_read_records.specs.RecordWords.{IsRecordText, MayBeRecord, ReadsRecord}

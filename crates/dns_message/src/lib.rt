@@ -252,8 +252,8 @@ pub mod fields {
         Shape, TABLE, Value, fields_of, laws, layout_type,
     };
     pub use fields_print::{
-        AddressPrefix, AddressPrefixes, DataText, Parameter, Parameters, RecordText, Strings,
-        TypeMap, TypeName, Types, ZoneName,
+        AddressPrefix, AddressPrefixes, ClassName, DataText, Parameter, Parameters, RecordText,
+        Strings, TypeMap, TypeName, Types, ZoneName,
     };
     pub use fields_read_records::{from_text, read_record};
     pub use fields_read_words::split_words;

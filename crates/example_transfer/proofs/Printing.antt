@@ -9,9 +9,8 @@ use Rattle.std.proofs.lemmas.List.{map-append, take_more}
 use Rattle.std.proofs.lemmas.Bool.{cases_lt}
 use Rattle.std.proofs.lemmas.List.Folds.{concat-append}
 use Rattle.dns_message.specs.Names.{fault_of, labels}
-use Rattle.dns_message.specs.Codes.{class_text}
 use Rattle.dns_message.specs.Data.{Part, Octets, Layout, opaque_layout, opaque_text}
-use Rattle.dns_message.specs.Fields.{data_text, definitions_of, named_parts, parts_of, record_line, record_text, rtype_of, type_layout, type_word, zone_name_text}
+use Rattle.dns_message.specs.Fields.{class_word, data_text, definitions_of, named_parts, parts_of, record_line, record_text, rtype_of, type_layout, type_word, zone_name_text}
 use Rattle.dns_message.specs.declared.fields.FieldData.{FieldData}
 use Rattle.dns_message.specs.Records.{EncodedRecord, owner_of, class_of, ttl_of, data_of, IsThere, ReturnsLaidOut, up_to_rdata_end}
 use Rattle.dns_message.specs.Sections.RecordSection.{record_result}
@@ -162,7 +161,7 @@ pub octets_printed : {D : Type 0} (type_of : D → ℕ) (octets_of : D → List 
     → owner ≡ zone_name_text (labels (owner_of r)) → ttl ≡ ttl_of r → class ≡ class_of r → rtype ≡ type_of (data_of r) → octets ≡ octets_of (data_of r)
     → Some owner ++? (Some (codes " ") ++?
     (Some (decimal ttl) ++?
-    (Some (codes " ") ++? (Some (class_text class) ++? (Some (codes " ") ++? (Some (type_word rtype) ++? (Some (codes " ") ++? (Some (opaque_text octets) ++? Some (10 ∷ [])))))))))
+    (Some (codes " ") ++? (Some (class_word class) ++? (Some (codes " ") ++? (Some (type_word rtype) ++? (Some (codes " ") ++? (Some (opaque_text octets) ++? Some (10 ∷ [])))))))))
     ≡ Some (octets_line type_of octets_of r)
 octets_printed type_of octets_of r owner ttl class rtype octets o t c y d =
     ap Some (simp append_assoc) ∙ λ i. Some (line (record_text (o i) (t i) (c i) (y i) (opaque_text (d i))))

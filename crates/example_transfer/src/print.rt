@@ -10,7 +10,7 @@ ghost use Rattle.example_transfer.specs.Transfer.{is_whole};
 
 use crate::transfer::{Item, items, messages};
 use dns_message::data::UnknownRecordData;
-use dns_message::fields::{FieldData, RecordText, TypeName, ZoneName};
+use dns_message::fields::{ClassName, FieldData, RecordText, TypeName, ZoneName};
 use dns_message::name::ParsedName;
 use dns_message::record::{ParsedRecord, Record};
 use std::alloc::Global;
@@ -81,7 +81,7 @@ fn print_octets<W: Write>(
 {
     let owner = ZoneName(*record.owner());
     let ttl = record.ttl().as_secs();
-    let class = record.class();
+    let class = ClassName(record.class());
     let rtype = TypeName(record.rtype());
     let octets = record.data();
     writeln!(writer, "{owner} {ttl} {class} {rtype} {octets}")

@@ -1,12 +1,11 @@
 -- The types of bit maps.
-use Rattle.std.proofs.Common.{◌≡◌, ◌∙◌, ℕ, zero, suc, ◌+◌, ◌-◌, ◌*◌, ◌%◌, ◌<◌, ◌≤◌, ◌++◌, true, false, List, [], ◌∷◌, length, get_or, take, drop, ap, refl, sym, arith, leb, eqb, Some, None}
+use Rattle.std.proofs.Common.{◌≡◌, ◌∙◌, ℕ, zero, suc, ◌+◌, ◌-◌, ◌*◌, ◌%◌, ◌<◌, ◌≤◌, ◌++◌, true, false, List, [], ◌∷◌, length, get_or, take, drop, ap, sym, arith, leb, Some}
 use Rattle.std.proofs.lemmas.Grind.{flat_map-append}
 use Rattle.std.proofs.lemmas.List.{take_rest}
 use Rattle.std.specs.List.{flat_map}
-use Rattle.std.specs.Prelude.{not}
 use Rattle.fields_print.proofs.theory.BlockLemmas.{block_shrinks}
-use Rattle.fields_print.proofs.theory.ItemLemmas.{items_of_first, items_of_none}
-use Rattle.fields_print.specs.TypeMaps.{Block, bit_types, block_at, ends_nonzero, map_types, octet_types, types_text}
+use Rattle.fields_print.proofs.theory.ItemLemmas.{items_of_first}
+use Rattle.fields_print.specs.TypeMaps.{Block, bit_types, block_at, map_types, octet_types, types_text}
 use Rattle.fields_print.specs.TypeNames.{type_word}
 
 -- the text of types, and then of others

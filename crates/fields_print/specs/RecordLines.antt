@@ -5,15 +5,14 @@ use Rattle.fields_octets.specs.Data.{rtype_of}
 use Rattle.fields_octets.specs.declared.field_data.FieldData.{FieldData}
 use Rattle.dns_item.specs.Record.{owner_of, class_of, ttl_of, data_of}
 use Rattle.dns_item.specs.declared.record.Record.{Record}
-use Rattle.dns_iana.specs.Classes.{class_text}
 use Rattle.fields_print.specs.DataTexts.{data_line}
-use Rattle.fields_print.specs.TypeNames.{type_word}
+use Rattle.fields_print.specs.TypeNames.{class_word, type_word}
 use Rattle.fields_print.specs.ZoneNames.{zone_name_text}
 
 -- a record whose owner and RDATA have these texts: the owner, the TTL in seconds, the class, the type and the RDATA, separated by spaces
 abbrev pub record_text : List ℕ → ℕ → ℕ → ℕ → List ℕ → List ℕ
 record_text owner ttl class rtype value =
-    owner ++ codes " " ++ decimal ttl ++ codes " " ++ class_text class ++ codes " " ++ type_word rtype ++ codes " " ++ value
+    owner ++ codes " " ++ decimal ttl ++ codes " " ++ class_word class ++ codes " " ++ type_word rtype ++ codes " " ++ value
 
 -- the line of a record, whose owner `name` maps to its labels
 abbrev pub record_line : {N : Type 0} → (N → Labels) → Record N FieldData → List ℕ

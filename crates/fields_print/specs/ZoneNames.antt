@@ -2,7 +2,8 @@
 use Rattle.std.specs.Prelude.{ℕ, ◌==◌, ◌||◌, Bool, if◌then◌else◌, List, [], ◌∷◌, ◌++◌, codes}
 use Rattle.std.specs.List.{flat_map}
 use Rattle.dns_name.specs.Names.{Labels, with_root}
-use Rattle.dns_name.specs.NameTexts.{backslash, decimal_text, is_graphic, is_special}
+use Rattle.dns_name.specs.NameTexts.{backslash, is_graphic, is_special}
+use Rattle.fields_text.specs.String.{decimal_text}
 
 -- A character that means something in a zone file: a quotation mark, a dollar sign, a parenthesis, a semicolon, an at sign, a dot or a backslash.
 abbrev pub means_something : ℕ → Bool

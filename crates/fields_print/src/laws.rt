@@ -4,6 +4,7 @@ ghost use Rattle.std.specs.Prelude.{◌≡◌, ◌↔◌, IsTrue};
 ghost use Rattle.fields_print.specs.ItemEquality.{parameters_equal, prefixes_equal};
 ghost use Rattle.fields_print.specs.Laws.{FieldsAreAll};
 
+use crate::class_name::ClassName;
 use crate::data_text::DataText;
 use crate::parameter::ParameterText;
 use crate::parameters::{Parameter, Parameters};
@@ -26,6 +27,7 @@ pub fn item_equality()
     ensures parameter { ⟦<Parameter<'static> as PartialEq>⟧.eq ≡ parameters_equal }
     ensures prefix { ⟦<AddressPrefix<'static> as PartialEq>⟧.eq ≡ prefixes_equal }
     ensures name { (a b : _) → IsTrue (⟦<TypeName as PartialEq>⟧.eq a b) ↔ (a ≡ b) }
+    ensures class { (a b : _) → IsTrue (⟦<ClassName as PartialEq>⟧.eq a b) ↔ (a ≡ b) }
 {}
 
 /// A clone is the same value. So a clone of an iterator yields the same items.
@@ -37,6 +39,7 @@ pub fn item_clones<N: Copy + 'static>()
     ensures prefixes { (a b : _) → ⟦<AddressPrefixes<'static> as Clone>⟧.is_clone a b → b ≡ a }
     ensures prefix { (a b : _) → ⟦<AddressPrefix<'static> as Clone>⟧.is_clone a b → b ≡ a }
     ensures name { (a b : _) → ⟦<TypeName as Clone>⟧.is_clone a b → b ≡ a }
+    ensures class { (a b : _) → ⟦<ClassName as Clone>⟧.is_clone a b → b ≡ a }
     ensures parameter_text { (a b : _) → ⟦<ParameterText<'static> as Clone>⟧.is_clone a b → b ≡ a }
     ensures prefix_text { (a b : _) → ⟦<PrefixText<'static> as Clone>⟧.is_clone a b → b ≡ a }
     ensures zone_name { (a b : _) → ⟦<ZoneName<'static> as Clone>⟧.is_clone a b → b ≡ a }
@@ -56,6 +59,7 @@ pub fn item_clones_never_fail<N: Copy + 'static>()
     ensures prefixes { (a : _) → ⟦<AddressPrefixes<'static> as Clone>⟧.is_infallible a }
     ensures prefix { (a : _) → ⟦<AddressPrefix<'static> as Clone>⟧.is_infallible a }
     ensures name { (a : _) → ⟦<TypeName as Clone>⟧.is_infallible a }
+    ensures class { (a : _) → ⟦<ClassName as Clone>⟧.is_infallible a }
     ensures parameter_text { (a : _) → ⟦<ParameterText<'static> as Clone>⟧.is_infallible a }
     ensures prefix_text { (a : _) → ⟦<PrefixText<'static> as Clone>⟧.is_infallible a }
     ensures zone_name { (a : _) → ⟦<ZoneName<'static> as Clone>⟧.is_infallible a }

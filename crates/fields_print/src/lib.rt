@@ -9,6 +9,7 @@
 
 mod address;
 mod base64_text;
+mod class_name;
 mod data_text;
 mod field;
 mod gateway;
@@ -26,6 +27,7 @@ mod types;
 mod unknown;
 mod zone_name;
 
+pub use class_name::{ClassName, write_class_name};
 pub use data_text::{DataText, write_data_text};
 pub use parameter::{ParameterText, write_parameter};
 pub use parameters::{Parameter, Parameters};

@@ -1,15 +1,15 @@
 //! Records as lines (RFC 1035 section 5.1).
 ghost use Rattle.std.specs.Prelude.{OnErr, Some, ◌++◌, codes, decimal};
-ghost use Rattle.dns_iana.specs.Classes.{class_text};
 ghost use Rattle.dns_print.specs.Printing.{PrintsOnOk};
 ghost use Rattle.fields_print.specs.DataTexts.{data_line};
 ghost use Rattle.fields_print.specs.RecordLines.{record_line};
-ghost use Rattle.fields_print.specs.TypeNames.{type_word};
+ghost use Rattle.fields_print.specs.TypeNames.{class_word, type_word};
 
+use crate::class_name::write_class_name;
 use crate::data_text::write_data_text;
 use crate::type_name::write_type_name;
 use crate::zone_name::write_zone_name;
-use dns_iana::{Class, Rtype, write_class};
+use dns_iana::{Class, Rtype};
 use dns_item::Record;
 use dns_name::ToName;
 use dns_print::{TextWriter, write_number};
@@ -25,12 +25,12 @@ pub struct RecordText<'r, 'a, N>(pub &'r Record<N, FieldData<'a>>);
 #[tactic(auto, using(dns_print::proofs::theory::Prints::prints, std::proofs::lemmas::Grind::common_steps))]
 fn write_ttl_and_class<W: TextWriter>(f: &mut W, ttl: u32, class: Class) -> fmt::Result
     ensures text { PrintsOnOk W.takes f.old result
-        (decimal ttl ++ codes " " ++ class_text class ++ codes " ") f.new }
+        (decimal ttl ++ codes " " ++ class_word class ++ codes " ") f.new }
     ensures err { OnErr result W.MayFail }
 {
     write_number(f, u64::from(ttl))?;
     f.write_text(" ")?;
-    write_class(f, class)?;
+    write_class_name(f, class)?;
     f.write_text(" ")
 }
 

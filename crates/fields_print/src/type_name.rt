@@ -1,48 +1,36 @@
-//! Record types as words (RFC 3597 section 5).
-ghost use Rattle.std.specs.Prelude.{OnErr, Some, ◌≡◌, option_map};
+//! Record types as words, by the names that IANA has registered (RFC 3597 section 5).
+ghost use Rattle.std.specs.Prelude.{OnErr, Some, ◌++◌, decimal};
 ghost use Rattle.dns_print.specs.Printing.{PrintsOnOk};
-ghost use Rattle.fields_print.specs.TypeNames.{mnemonic, mnemonic_in, mnemonics, type_word};
+ghost use Rattle.fields_print.specs.TypeNames.{type_word};
 
-use dns_iana::{Rtype, write_rtype};
-use dns_print::TextWriter;
-use fields_octets::{Kind, TABLE};
+use dns_iana::Rtype;
+use dns_print::{TextWriter, write_number};
 use std::fmt;
 
-/// A record type that prints as its mnemonic in the table of `fields_octets`, else as `Rtype` does.
+/// A record type that prints as the name that IANA has registered for it, else as `TYPE` and its
+/// number.
 #[derive(Clone, Copy, Debug, PartialEq, Eq)]
 pub struct TypeName(pub Rtype);
 
-/// A record type of the table: its number, its mnemonic and its fields.
-type Row = (u16, &'static str, &'static [(&'static str, Kind)]);
-
-/// The mnemonic of a record type in rows of the table.
-fn mnemonic_in(rows: &[Row], rtype: u16) -> Option<&'static str>
-    ensures { option_map (λ text. text.now) result ≡ mnemonic_in (mnemonics rows.now) rtype }
+/// Prints a word and a decimal number.
+#[tactic(auto, using(dns_print::proofs::theory::Prints::prints))]
+pub(crate) fn write_numbered<W: TextWriter>(f: &mut W, word: &str, number: u16) -> fmt::Result
+    ensures text { PrintsOnOk W.takes f.old result (word.now ++ decimal number) f.new }
+    ensures err { OnErr result W.MayFail }
 {
-    for (known, mnemonic, _) in rows {
-        if *known == rtype {
-            return Some(mnemonic);
-        }
-    }
-    None
+    f.write_text(word)?;
+    write_number(f, u64::from(number))
 }
 
-/// The mnemonic of a record type of the table.
-fn mnemonic_of(rtype: u16) -> Option<&'static str>
-    ensures { option_map (λ text. text.now) result ≡ mnemonic rtype }
-{
-    mnemonic_in(TABLE, rtype)
-}
-
-/// Prints a record type as its mnemonic in the table of `fields_octets`, else as `Rtype` does (RFC 3597
-/// section 5).
+/// Prints a record type as the name that IANA has registered for it, else as `TYPE` and its number
+/// (RFC 3597 section 5).
 pub fn write_type_name<W: TextWriter>(f: &mut W, rtype: Rtype) -> fmt::Result
     ensures text { PrintsOnOk W.takes f.old result (type_word rtype) f.new }
     ensures err { OnErr result W.MayFail }
 {
-    match mnemonic_of(rtype.to_int()) {
-        Some(mnemonic) => f.write_text(mnemonic),
-        None => write_rtype(f, rtype),
+    match rtype.registered_name() {
+        Some(name) => f.write_text(name),
+        None => write_numbered(f, "TYPE", rtype.to_int()),
     }
 }
 

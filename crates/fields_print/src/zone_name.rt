@@ -1,7 +1,6 @@
 //! Names in zone files (RFC 1035 section 5.1).
 ghost use Rattle.std.specs.Prelude.{◌≡◌, OnErr, Some};
 ghost use Rattle.std.specs.List.{flat_map};
-ghost use Rattle.dns_name.specs.NameTexts.{decimal_text};
 ghost use Rattle.dns_name.specs.Names.{with_root};
 ghost use Rattle.dns_name.specs.ParsedName.{label_octets, labels};
 ghost use Rattle.dns_print.specs.Printing.{PrintsOnOk};
@@ -9,6 +8,7 @@ ghost use Rattle.fields_print.specs.ZoneNames.{dotted_label, means_something, zo
 
 use dns_name::{Label, ParsedName};
 use dns_print::TextWriter;
+use fields_text::write_decimal;
 use std::fmt;
 
 /// A name that prints as in a zone file: a dot follows each label, and the root is a single dot.
@@ -18,18 +18,6 @@ use std::fmt;
 /// decimal digits.
 #[derive(Clone, Copy, Debug)]
 pub struct ZoneName<'a>(pub ParsedName<'a>);
-
-/// Prints a backslash and the three decimal digits of an octet.
-#[tactic(auto, using(dns_print::proofs::theory::Prints::prints, std::proofs::lemmas::Grind::common_steps))]
-fn write_decimal<W: TextWriter>(f: &mut W, octet: u8) -> fmt::Result
-    ensures text { PrintsOnOk W.takes f.old result (decimal_text octet) f.new }
-    ensures err { OnErr result W.MayFail }
-{
-    f.write_char('\\')?;
-    f.write_char(char::from(b'0' + octet / 100))?;
-    f.write_char(char::from(b'0' + octet / 10 % 10))?;
-    f.write_char(char::from(b'0' + octet % 10))
-}
 
 /// Whether a character means something in a zone file.
 fn means_something(octet: u8) -> bool

@@ -10,7 +10,6 @@ use Rattle.base64.specs.GeneralPurpose.{encode_of}
 use Rattle.hex.specs.Hex.{IsBytes}
 use Rattle.dns_data.specs.Printing.{hex_octet, opaque_text}
 use Rattle.dns_name.specs.Names.{IsName, Labels}
-use Rattle.dns_iana.specs.Classes.{class_text}
 use Rattle.fields_text.specs.String.{quoted}
 use Rattle.fields_print.specs.FieldTexts.{prefixes_text, sized_text, strings_text}
 use Rattle.fields_print.specs.GatewayTexts.{gateway_words, key_text, relay_words}
@@ -21,7 +20,7 @@ use Rattle.fields_print.specs.RecordLines.{record_text}
 use Rattle.fields_print.specs.Separated.{spaced_if_all}
 use Rattle.fields_print.specs.Strings.{strings_of}
 use Rattle.fields_print.specs.TypeMaps.{types_text}
-use Rattle.fields_print.specs.TypeNames.{type_word}
+use Rattle.fields_print.specs.TypeNames.{class_word, type_word}
 use Rattle.fields_print.specs.ZoneNames.{zone_name_text}
 use Rattle.fields_read_words.specs.LineWords.{AreWordsOf, EndsWord, IsWord}
 use Rattle.fields_read_words.specs.LineWords.AreWordsWithin.{blank}
@@ -31,7 +30,7 @@ use Rattle.fields_read_words.proofs.SpacedTexts.{AreSpaced, items_are, one_word,
 use Rattle.fields_read_words.proofs.SpacedTexts.AreSpaced.{nothing as no_words, space, word}
 use Rattle.fields_read_words.proofs.WordTexts.{IsBare, glyph_plain, is_word, quoted_word}
 use Rattle.fields_read_words.proofs.WordTexts.IsBare.{nothing, plain, escaped}
-use Rattle.fields_read_words.proofs.Words.{base64_word, class_word, decimal_word, name_word, prefix_is_word, type_is_word}
+use Rattle.fields_read_words.proofs.Words.{base64_word, class_is_word, decimal_word, name_word, prefix_is_word, type_is_word}
 
 -- a word after others and a space
 pub then_word : (first text : List ℕ) (words : List (List ℕ)) → AreSpaced first words → IsWord text → AreSpaced (first ++ codes " " ++ text) (words ++ text ∷ [])
@@ -215,11 +214,11 @@ opaque_split (o ∷ octets) bytes small =
 
 -- records
 pub record_split : (owner : Labels) (ttl class rtype : ℕ) (value : List ℕ) (words : List (List ℕ)) → IsName owner → ttl < 2 ^ 32 → class < 2 ^ 16 → rtype < 2 ^ 16 → AreWordsOf value words
-    → AreWordsOf (record_text (zone_name_text owner) ttl class rtype value) (zone_name_text owner ∷ decimal ttl ∷ class_text class ∷ type_word rtype ∷ words)
+    → AreWordsOf (record_text (zone_name_text owner) ttl class rtype value) (zone_name_text owner ∷ decimal ttl ∷ class_word class ∷ type_word rtype ∷ words)
 record_split owner ttl class rtype value words name t c r h =
     let own = zone_name_text owner in
     let one = one_word own (name_word owner name) in
     let two = then_word own (decimal ttl) (own ∷ []) one (decimal_word ttl (omega arith)) in
-    let three = then_word (own ++ codes " " ++ decimal ttl) (class_text class) (own ∷ decimal ttl ∷ []) two (class_word class c) in
-    let four = then_word (own ++ codes " " ++ decimal ttl ++ codes " " ++ class_text class) (type_word rtype) (own ∷ decimal ttl ∷ class_text class ∷ []) three (type_is_word rtype r) in
-    then_words (own ++ codes " " ++ decimal ttl ++ codes " " ++ class_text class ++ codes " " ++ type_word rtype) value (own ∷ decimal ttl ∷ class_text class ∷ type_word rtype ∷ []) words four h
+    let three = then_word (own ++ codes " " ++ decimal ttl) (class_word class) (own ∷ decimal ttl ∷ []) two (class_is_word class c) in
+    let four = then_word (own ++ codes " " ++ decimal ttl ++ codes " " ++ class_word class) (type_word rtype) (own ∷ decimal ttl ∷ class_word class ∷ []) three (type_is_word rtype r) in
+    then_words (own ++ codes " " ++ decimal ttl ++ codes " " ++ class_word class ++ codes " " ++ type_word rtype) value (own ∷ decimal ttl ∷ class_word class ∷ type_word rtype ∷ []) words four h

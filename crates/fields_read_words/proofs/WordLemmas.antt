@@ -237,10 +237,6 @@ pub string_open : (skips : Bool) (text left : List ℕ) → string_after skips l
 string_open skips text [] same none word after h = let f = string_split_after text word after h in absurd (cc (same, f))
 string_open skips text (c ∷ left) same none word after h = absurd (omega arith)
 
--- a word is the rest of a word from its first character, or a string
-unquoted : (c : ℕ) → c ≡ quote → (c == quote) ≡ false → ⊥
-unquoted c e f = absurd (cc (e, f, ap (λ (x : ℕ). x == quote) e))
-
 append_begins : (word after : List ℕ) → 0 < length word → begins_string (word ++ after) ≡ begins_string word
 append_begins [] after some = absurd (omega arith)
 append_begins (c ∷ word) after some = refl

@@ -1,7 +1,7 @@
 -- Texts that are words.
 use Rattle.std.proofs.Common.{◌≡◌, ℕ, zero, suc, ◌+◌, ◌/◌, ◌%◌, ◌^◌, ◌<◌, ◌==◌, ◌&&◌, Bool, true, false, List, [], ◌∷◌, ◌++◌, length, replicate, decimal, refl}
 use Rattle.std.proofs.Common.{sym, subst, arith, append_assoc, length-append}
-use Rattle.std.specs.Prelude.{not, ◌||◌, if◌then◌else◌, codes, map, find, slice_index, option_map, unwrap_or, Some, Option}
+use Rattle.std.specs.Prelude.{not, ◌||◌, if◌then◌else◌, codes, find, slice_index, option_map, unwrap_or, Some}
 use Rattle.std.specs.Char.{is_ascii_alphanumeric}
 use Rattle.std.specs.Fmt.{digit_glyph}
 use Rattle.std.specs.Int.{is_in_range}
@@ -17,16 +17,14 @@ use Rattle.base64.specs.Rfc4648.{encode_symbols, padding_len}
 use Rattle.hex.specs.Hex.{IsBytes}
 use Rattle.dns_name.specs.Names.{IsLabel, IsName, Labels, with_root}
 use Rattle.dns_name.specs.NameTexts.{is_graphic}
-use Rattle.dns_iana.specs.Classes.{class_text}
-use Rattle.dns_iana.specs.Mnemonics.{Mnemonics, mnemonic, class_mnemonics, type_mnemonics}
-use Rattle.dns_iana.specs.Types.{type_text}
-use Rattle.fields_octets.specs.declared.table.TheConstants.{TABLE}
+use Rattle.dns_iana.specs.Mnemonics.{Mnemonics, mnemonic}
+use Rattle.dns_iana.specs.Registry.{registered_classes, registered_types}
 use Rattle.fields_text.specs.Addresses.{eui_text, hyphen_pair, locator_text}
 use Rattle.fields_text.specs.Hex.{hex_text}
 use Rattle.fields_text.specs.String.{quote, backslash, decimal_text, string_octet, quoted, is_tag}
 use Rattle.fields_text.specs.Time.{DayOf, clock_text, date_text, day_text, month_of, month_sizes, month_text, time_text, two_digits, year_of}
 use Rattle.fields_print.specs.FieldTexts.{salt_text}
-use Rattle.fields_print.specs.TypeNames.{mnemonic as table_mnemonic, type_word}
+use Rattle.fields_print.specs.TypeNames.{class_word, type_word}
 use Rattle.fields_print.specs.ZoneNames.{dotted_label, means_something, zone_label_text, zone_name_text, zone_octet_text}
 use Rattle.fields_read_words.specs.LineWords.{IsRest, IsString, IsWord, begins_string, is_plain}
 use Rattle.fields_read_words.specs.LineWords.IsRest.{nothing as rest_nothing, plain as rest_plain, escaped as rest_escaped, turned as rest_turned}
@@ -350,28 +348,12 @@ mnemonic_word (entry ∷ names) n other all h = by_test (entry.0 == n) parts.0 (
 numbered_word : (n : ℕ) → n < 2 ^ 16 → (word : List ℕ) → IsBareWord word → IsBareWord (word ++ decimal n)
 numbered_word n small word h = word_append word (decimal n) h (decimal_rest n (omega arith))
 
-rtype_word : (n : ℕ) → n < 2 ^ 16 → IsBareWord (type_text n)
-unfolding type_mnemonics
-rtype_word n small = mnemonic_word type_mnemonics n _ refl (numbered_word n small (codes "TYPE") (plain_word (codes "TYPE") refl))
-
--- The text of a class is a bare word.
-pub class_word : (n : ℕ) → n < 2 ^ 16 → IsBareWord (class_text n)
-unfolding class_mnemonics
-class_word n small = mnemonic_word class_mnemonics n _ refl (numbered_word n small (codes "CLASS") (plain_word (codes "CLASS") refl))
-
--- the record types of the table, each with its mnemonic
-unfoldable table_names : Mnemonics
-table_names = map (λ row. (row.0, row.1.now)) TABLE.now
-
-table_plain : list_all (λ entry. is_plain_word entry.1) table_names ≡ true
-unfolding table_names
-table_plain = refl
-
-table_mnemonic_is : (n : ℕ) → mnemonic table_names n ≡ table_mnemonic n
-unfolding table_names table_mnemonic
-table_mnemonic_is n = refl
+-- The word of a class is a bare word.
+pub class_is_word : (n : ℕ) → n < 2 ^ 16 → IsBareWord (class_word n)
+unfolding registered_classes
+class_is_word n small = mnemonic_word registered_classes n _ refl (numbered_word n small (codes "CLASS") (plain_word (codes "CLASS") refl))
 
 -- The word of a type is a bare word.
 pub type_is_word : (n : ℕ) → n < 2 ^ 16 → IsBareWord (type_word n)
-type_is_word n small =
-    subst (λ (name : Option (List ℕ)). IsBareWord (unwrap_or name (type_text n))) (table_mnemonic_is n) (mnemonic_word table_names n (type_text n) table_plain (rtype_word n small))
+unfolding registered_types
+type_is_word n small = mnemonic_word registered_types n _ refl (numbered_word n small (codes "TYPE") (plain_word (codes "TYPE") refl))

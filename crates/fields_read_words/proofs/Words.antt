@@ -6,7 +6,6 @@ use Rattle.base64.specs.Engines.{standard}
 use Rattle.base64.specs.GeneralPurpose.{encode_of}
 use Rattle.hex.specs.Hex.{IsBytes}
 use Rattle.dns_name.specs.Names.{IsName, Labels}
-use Rattle.dns_iana.specs.Classes.{class_text}
 use Rattle.fields_text.specs.Addresses.{eui_text, locator_text}
 use Rattle.fields_text.specs.Base32.{base32_text}
 use Rattle.fields_text.specs.Hex.{hex_text}
@@ -15,7 +14,7 @@ use Rattle.fields_text.specs.Time.{time_text}
 use Rattle.fields_print.specs.FieldTexts.{salt_text}
 use Rattle.fields_print.specs.PrefixItems.{PrefixItem}
 use Rattle.fields_print.specs.Prefixes.{prefix_text}
-use Rattle.fields_print.specs.TypeNames.{type_word}
+use Rattle.fields_print.specs.TypeNames.{class_word, type_word}
 use Rattle.fields_print.specs.ZoneNames.{zone_name_text}
 use Rattle.fields_read_words.specs.LineWords.{IsWord}
 use Rattle.fields_read_words.proofs.Ipv6Texts.{ipv6_word as bare_ipv6_word}
@@ -23,7 +22,7 @@ use Rattle.fields_read_words.proofs.PrefixTexts.{hash_word as bare_hash_word, pr
 use Rattle.fields_read_words.proofs.WordTexts.{BeginsLabel, is_word, decimal_word as bare_decimal_word, tag_word as bare_tag_word, hex_word as bare_hex_word}
 use Rattle.fields_read_words.proofs.WordTexts.{salt_word as bare_salt_word, eui_word as bare_eui_word, locator_word as bare_locator_word}
 use Rattle.fields_read_words.proofs.WordTexts.{time_word as bare_time_word, labels_word as bare_labels_word, name_word as bare_name_word}
-use Rattle.fields_read_words.proofs.WordTexts.{ipv4_word as bare_ipv4_word, base64_word as bare_base64_word, class_word as bare_class_word}
+use Rattle.fields_read_words.proofs.WordTexts.{ipv4_word as bare_ipv4_word, base64_word as bare_base64_word, class_is_word as bare_class_is_word}
 use Rattle.fields_read_words.proofs.WordTexts.{type_is_word as bare_type_is_word}
 
 -- A decimal number is a word.
@@ -70,9 +69,9 @@ ipv4_word octets first = is_word (bare_ipv4_word octets first)
 pub base64_word : (octets : List ℕ) → 0 < length octets → IsWord (encode_of standard octets)
 base64_word octets first = is_word (bare_base64_word octets first)
 
--- The text of a class is a word.
-pub class_word : (n : ℕ) → n < 2 ^ 16 → IsWord (class_text n)
-class_word n first = is_word (bare_class_word n first)
+-- The word of a class is a word.
+pub class_is_word : (n : ℕ) → n < 2 ^ 16 → IsWord (class_word n)
+class_is_word n first = is_word (bare_class_is_word n first)
 
 -- The word of a type is a word.
 pub type_is_word : (n : ℕ) → n < 2 ^ 16 → IsWord (type_word n)

@@ -6,7 +6,6 @@ use Rattle.base64.specs.Engines.{standard}
 use Rattle.base64.specs.GeneralPurpose.{encode_of}
 use Rattle.hex.specs.Hex.{IsBytes}
 use Rattle.dns_name.specs.Names.{IsName, Labels}
-use Rattle.dns_iana.specs.Classes.{class_text}
 use Rattle.fields_text.specs.Addresses.{eui_text, locator_text}
 use Rattle.fields_text.specs.Base32.{base32_text}
 use Rattle.fields_text.specs.Hex.{hex_text}
@@ -15,7 +14,7 @@ use Rattle.fields_text.specs.Time.{time_text}
 use Rattle.fields_print.specs.FieldTexts.{salt_text}
 use Rattle.fields_print.specs.PrefixItems.{PrefixItem}
 use Rattle.fields_print.specs.Prefixes.{prefix_text}
-use Rattle.fields_print.specs.TypeNames.{type_word}
+use Rattle.fields_print.specs.TypeNames.{class_word, type_word}
 use Rattle.fields_print.specs.ZoneNames.{zone_name_text}
 use Rattle.fields_read_words.specs.LineWords.{AreWordsOf, IsWord}
 
@@ -36,7 +35,7 @@ abbrev pub TypesAreWords : Type 0
 TypesAreWords = (n : ℕ) → n < 2 ^ 16 → IsWord (type_word n)
 
 abbrev pub ClassesAreWords : Type 0
-ClassesAreWords = (n : ℕ) → n < 2 ^ 16 → IsWord (class_text n)
+ClassesAreWords = (n : ℕ) → n < 2 ^ 16 → IsWord (class_word n)
 
 -- times
 abbrev pub TimesAreWords : Type 0

@@ -6,7 +6,6 @@ use Rattle.base64.specs.GeneralPurpose.{encode_of}
 use Rattle.hex.specs.Hex.{IsBytes}
 use Rattle.dns_data.specs.Printing.{hex_octet, opaque_text}
 use Rattle.dns_name.specs.Names.{IsName, Labels}
-use Rattle.dns_iana.specs.Classes.{class_text}
 use Rattle.fields_text.specs.Hex.{hex_text}
 use Rattle.fields_text.specs.String.{quoted}
 use Rattle.fields_print.specs.FieldTexts.{parameters_text, prefixes_text, sized_text, strings_text}
@@ -19,7 +18,7 @@ use Rattle.fields_print.specs.Prefixes.{prefix_text}
 use Rattle.fields_print.specs.RecordLines.{record_text}
 use Rattle.fields_print.specs.Strings.{strings_of}
 use Rattle.fields_print.specs.TypeMaps.{types_text}
-use Rattle.fields_print.specs.TypeNames.{type_word}
+use Rattle.fields_print.specs.TypeNames.{class_word, type_word}
 use Rattle.fields_print.specs.ZoneNames.{zone_name_text}
 use Rattle.fields_read_words.specs.LineWords.{AreWordsOf}
 
@@ -86,4 +85,4 @@ OpaqueSplits = (octets : List ℕ) → IsBytes octets → length octets < 2 ^ 64
 -- a record: its owner, TTL, class and type, and the words of its RDATA
 abbrev pub RecordsSplit : Type 0
 RecordsSplit = (owner : Labels) (ttl class rtype : ℕ) (value : List ℕ) (words : List (List ℕ)) → IsName owner → ttl < 2 ^ 32 → class < 2 ^ 16 → rtype < 2 ^ 16 → AreWordsOf value words
-    → AreWordsOf (record_text (zone_name_text owner) ttl class rtype value) (zone_name_text owner ∷ decimal ttl ∷ class_text class ∷ type_word rtype ∷ words)
+    → AreWordsOf (record_text (zone_name_text owner) ttl class rtype value) (zone_name_text owner ∷ decimal ttl ∷ class_word class ∷ type_word rtype ∷ words)

@@ -1,5 +1,5 @@
 -- The steps of reading a string.
-use Rattle.std.proofs.Common.{◌≡◌, ◌∙◌, ◌⊎◌, inl, inr, ℕ, List, [], ◌∷◌, ◌++◌, Some, length, refl, sym, ap, subst, arith, append_assoc, append-nil, length-append}
+use Rattle.std.proofs.Common.{◌≡◌, ◌∙◌, ◌<◌, ◌⊎◌, inl, inr, ℕ, ◌+◌, List, [], ◌∷◌, ◌++◌, Some, None, length, refl, sym, ap, subst, arith, append_assoc, append-nil, length-append}
 use Rattle.fields_text.specs.declared.text_error.TextError.{TextError}
 use Rattle.fields_text.specs.declared.text_error.TextError.TheVariants.{BadWord, OutOfMemory}
 use Rattle.fields_text.specs.Reading.{IsFailure, TakesMemory}
@@ -65,3 +65,45 @@ failed_full whole octets left after octet error r e (inr bad) is = cc (sym bad.0
 pub all_read : (whole octets left : List ℕ) → IsRead whole octets left → length left ≡ 0 → SpellsOctets whole octets
 all_read whole octets [] r h = subst (λ (xs : List ℕ). SpellsOctets whole xs) (append-nil octets) (r.completes [] none)
 all_read whole octets (x ∷ left) r h = absurd (omega arith)
+
+-- What is read is appended to the octets that were there.
+abbrev pub IsAppended : List ℕ → List ℕ → List ℕ → List ℕ → Type 0
+IsAppended whole old new left = (octets : List ℕ) × (new ≡ old ++ octets) × IsRead whole octets left
+
+-- Nothing is appended at first.
+pub nothing_appended : (whole old : List ℕ) → IsAppended whole old old whole
+nothing_appended whole old = ([], sym (append-nil old), nothing_read whole)
+
+module _ (whole old new left after : List ℕ) (octet : ℕ) (before : IsAppended whole old new left) (first : octet_at left ≡ Some (octet, after)) where
+  -- One octet more is appended.
+  pub octet_appended : (pushed : List ℕ) → pushed ≡ new ++ octet ∷ [] → IsAppended whole old pushed after
+  octet_appended pushed is = (
+    before.0 ++ octet ∷ [],
+    is ∙ ap (λ (xs : List ℕ). xs ++ octet ∷ []) before.1 ∙ append_assoc old before.0 (octet ∷ []),
+    octet_read whole before.0 left after octet before.2 first,
+  )
+
+  -- If there is no room for it, what the whole text spells doesn't fit.
+  pub octet_misfits : (size : ℕ) → length new ≡ size → (all : List ℕ) → SpellsOctets whole all → size < length (old ++ all)
+  octet_misfits size full all spelled =
+      let b = before.2.begins all spelled in
+      let f = first_spelled left after b.0 octet first b.2 in
+      let there : length new ≡ length old + length before.0 = ap length before.1 ∙ length-append old before.0 in
+      let others : length all ≡ length before.0 + length b.0 = ap length b.1 ∙ length-append before.0 b.0 in
+      let more : length b.0 ≡ length (octet ∷ f.0) = ap length f.1 in
+      let sum = length-append old all in
+      omega (arith, full, there, others, more, sum)
+
+none_spelled : (left others : List ℕ) → octet_at left ≡ None → 0 < length left → SpellsOctets left others → ⊥
+none_spelled left others first some none = omega arith
+none_spelled left others first some (more e h) = cc (first, e)
+
+-- If the text that is left begins with no octet, the whole text spells nothing.
+pub nothing_spelled : (whole old new left : List ℕ) → IsAppended whole old new left → octet_at left ≡ None → 0 < length left → (all : List ℕ) → ¬ SpellsOctets whole all
+nothing_spelled whole old new left before first some all spelled =
+    let b = before.2.begins all spelled in
+    none_spelled left b.0 first some b.2
+
+-- All is appended.
+pub all_appended : (whole old new left : List ℕ) → IsAppended whole old new left → length left ≡ 0 → (octets : List ℕ) × SpellsOctets whole octets × (new ≡ old ++ octets)
+all_appended whole old new left before empty = (before.0, all_read whole before.0 left before.2 empty, before.1)

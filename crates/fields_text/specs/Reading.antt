@@ -1,5 +1,5 @@
 -- What reading a word returns.
-use Rattle.std.specs.Prelude.{◌≡◌, ◌<◌, ◌⊎◌, ℕ, List, Result, MatchResult, length}
+use Rattle.std.specs.Prelude.{◌≡◌, ◌<◌, ◌⊎◌, ℕ, Bool, List, ◌++◌, Result, MatchBool, MatchResult, length}
 use Rattle.std.specs.Global.{Vec}
 use Rattle.fields_text.specs.declared.text_error.TextError.{TextError}
 use Rattle.fields_text.specs.declared.text_error.TextError.TheVariants.{BadWord, OutOfMemory}
@@ -26,3 +26,8 @@ TakesMemory Represents = (octets : List ℕ) × Represents octets × (0 < length
 abbrev pub IsFailure : (List ℕ → Type 0) → TextError → Type 0
 IsFailure Represents error =
     ((error ≡ OutOfMemory) × ((octets : List ℕ) × Represents octets)) ⊎ ((error ≡ BadWord) × ((octets : List ℕ) → ¬ Represents octets))
+
+-- Octets that the text represents are appended to those of an array of `size` octets; or `false`, if none that it represents fit.
+abbrev pub PushesFitting : (List ℕ → Type 0) → ℕ → List ℕ → List ℕ → Bool → Type 0
+PushesFitting Represents size old new pushed =
+    MatchBool pushed ((octets : List ℕ) × Represents octets × (new ≡ old ++ octets)) ((octets : List ℕ) → Represents octets → size < length (old ++ octets))

@@ -4,7 +4,7 @@ ghost use Rattle.std.specs.Option.{SomeIff};
 ghost use Rattle.std.specs.Str.Parse.{IsNumeral, digits_value};
 
 /// The number of decimal digits, `None` for any other word, and from 2 to the 64th power on.
-fn parse_digits(word: &str) -> Option<u64>
+fn read_digits(word: &str) -> Option<u64>
     ensures { let value = digits_value 10 word.now in
         SomeIff result (IsNumeral 10 word.now × (value < 2 ^ 64)) value }
 {
@@ -19,7 +19,7 @@ pub fn read_number(word: &str, most: u64) -> Option<u64>
     ensures { let value = digits_value 10 word.now in
         SomeIff result (IsNumeral 10 word.now × (value ≤ most)) value }
 {
-    let number = parse_digits(word)?;
+    let number = read_digits(word)?;
     if number > most {
         return None;
     }

@@ -15,7 +15,7 @@ pub struct Quoted<'a>(pub &'a [u8]);
 
 /// Prints a backslash and the three decimal digits of an octet.
 #[tactic(auto, using(dns_print::proofs::theory::Prints::prints, std::proofs::lemmas::Grind::common_steps))]
-fn write_decimal<W: TextWriter>(f: &mut W, octet: u8) -> fmt::Result
+pub fn write_decimal<W: TextWriter>(f: &mut W, octet: u8) -> fmt::Result
     ensures text { PrintsOnOk W.takes f.old result (decimal_text octet) f.new }
     ensures err { OnErr result W.MayFail }
 {

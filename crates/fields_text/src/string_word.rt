@@ -1,10 +1,11 @@
 //! Character strings (RFC 1035 section 5.1).
 ghost use Rattle.std.specs.Char.{is_ascii_digit};
 ghost use Rattle.std.specs.Prelude.{◌≡◌, MatchOption, true};
-ghost use Rattle.fields_text.specs.Reading.{IsFailure, ReadsOctets, TakesMemory};
+ghost use Rattle.fields_text.specs.Reading.{IsFailure, PushesFitting, ReadsOctets, TakesMemory};
 ghost use Rattle.fields_text.specs.Strings.{SpellsOctets, SpellsString, decimal_at, octet_at, unquoted};
 
 use crate::text_error::TextError;
+use arrayvec::ArrayVec;
 use std::alloc::Global;
 
 /// The octet that three decimal digits represent, and the text after them.
@@ -95,4 +96,23 @@ pub fn read_string(alloc: Global, word: &[u8]) -> Result<Vec<u8>, TextError>
         left = after;
     }
     Ok(octets)
+}
+
+/// Appends the octets of a string, in quotes or without, if they fit. Else returns `false`, and some
+/// of them may be appended.
+pub fn push_string<const N: usize>(octets: &mut ArrayVec<u8, N>, word: &[u8]) -> bool
+    ensures { PushesFitting (SpellsString word.now) N octets.old.items octets.new.items result }
+{
+    let mut left = unquoted(word);
+    'octets: while !left.is_empty() {
+        let Some((octet, after)) = split_octet(left) else {
+            return false;
+        };
+        if octets.is_full() {
+            return false;
+        }
+        octets.push(octet);
+        left = after;
+    }
+    true
 }

@@ -27,7 +27,7 @@ returns g c =
     (opaque_printed x _ _ _ _ _
     (ap (λ n. zone_name_text (labels n)) c.owner.ensures ∙ ap (λ i. zone_name_text i.owner) given.0)
     (c.as_secs-ttl.ensures ∙ c.ttl.ensures ∙ ap (λ i. i.ttl) given.0)
-    (c.class-class.ensures ∙ ap (λ i. i.class) given.0)
+    (c.class.ensures ∙ ap (λ i. i.class) given.0)
     (c.rtype.ensures ∙ ap (λ i. i.rtype) given.0)
     (ap unknown_octets c.data-octets.ensures ∙ octets))
     c.writeln.ensures.bytes

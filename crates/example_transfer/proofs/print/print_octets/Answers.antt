@@ -13,7 +13,7 @@ returns g c =
     (octets_printed unknown_rtype_of unknown_octets c.args.record.now _ _ _ _ _
     (ap (λ n. zone_name_text (labels n)) c.owner.ensures)
     (c.as_secs-ttl.ensures ∙ c.ttl.ensures)
-    c.class-class.ensures
+    c.class.ensures
     c.rtype.ensures
     (ap unknown_octets c.data-octets.ensures))
     c.writeln.ensures.bytes

@@ -1,5 +1,5 @@
 use Rattle.fields_read_words.proofs.WordTexts.{quoted_word}
-use Rattle.fields_read_words.proofs.Words.{base64_word, class_word, decimal_word, eui_word, hash_word, hex_word, ipv4_word, ipv6_word, locator_word, name_word}
+use Rattle.fields_read_words.proofs.Words.{base64_word, class_is_word, decimal_word, eui_word, hash_word, hex_word, ipv4_word, ipv6_word, locator_word, name_word}
 use Rattle.fields_read_words.proofs.Words.{prefix_is_word, salt_word, tag_word, time_word, type_is_word}
 use Rattle.fields_read_words.proofs.laws.printed_values_are_words.Goals as goal
 
@@ -10,7 +10,7 @@ pub returns-clause-types : goal.returns-clause-types
 returns-clause-types c = type_is_word
 
 pub returns-clause-classes : goal.returns-clause-classes
-returns-clause-classes c = class_word
+returns-clause-classes c = class_is_word
 
 pub returns-clause-times : goal.returns-clause-times
 returns-clause-times c = time_word
