@@ -81,11 +81,6 @@ read_whole size word (o ∷ octets) read sized = record {
       cc whole);
 }
 
--- A word whose octets are all read is an EUI.
-pub all_read : (size : ℕ) (word octets left : List ℕ) → IsRead size word octets left → size ≤ length octets → length left ≡ 0 → IsEuiWord size word octets
-all_read size word octets [] read sized none = let fits = read.fits in read_whole size word octets read (omega arith)
-all_read size word octets (x ∷ left) read sized none = absurd (omega arith)
-
 -- the text of octets after a hyphen
 pub hyphened : (all : List ℕ) → 0 < length all → 0x2d ∷ eui_text all ≡ flat_map hyphen_pair all
 hyphened [] some = absurd (omega arith)

@@ -10,6 +10,8 @@ mod FoundNames
 mod GatewayLaws
 mod GatewayLemmas
 mod HexDigits
+mod HexPairs
+mod HexTaken
 mod IdentityLaws
 mod IdentityLemmas
 mod LocationLaws
@@ -19,13 +21,12 @@ mod NameLaws
 mod NameLemmas
 mod PrefixFieldLaws
 mod PrefixLaws
-mod RowLemmas
 mod SaltLaws
 mod SaltLemmas
 mod SizedLaws
 mod SizedLemmas
 mod SmallMapLemmas
+mod SmallMarks
 mod SpacedWords
-mod TypeLaws
-mod TypeLemmas
 mod TypeMapLemmas
+mod TypeMapsExist

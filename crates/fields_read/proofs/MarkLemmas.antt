@@ -44,19 +44,6 @@ pub record AreWindows (types : List ℕ) (i : ℕ) (marks : List Bool) : Type 0 
   pub whole : length marks ≡ 256
   pub each : (window : ℕ) → window < 256 → is_marked marks window ≡ has_window (take i types) window
 
--- The window of one type more is marked.
-pub window_marked : (types : List ℕ) (i : ℕ) (old new : List Bool) (at : ℕ) → i < length types → AreWindows types i old → at ≡ get_or types i 0 / 256 → at < 256 → new ≡ slice_set old at true
-    → AreWindows types (i + 1) new
-window_marked types i old new at lt before is small e =
-    let whole = before.whole in
-    record {
-      whole = ap (λ (marks : List Bool). length marks) e ∙ length-set old at true ∙ whole;
-      each = λ window within.
-          let step : is_marked new window ≡ (is_marked old window || (get_or types i 0 / 256 == window)) =
-          ap (λ (marks : List Bool). is_marked marks window) e ∙ grind (arith, nat_tests, common_steps) in
-          step ∙ ap (λ (b : Bool). b || (get_or types i 0 / 256 == window)) (before.each window within) ∙ sym (list_any_more (λ rtype. rtype / 256 == window) types i 0 lt);
-    }
-
 -- The bits by marks are those by types.
 
 module _ (p q : ℕ → Bool) (first : ℕ) (same : (k : ℕ) → k < 256 → p k ≡ q (first + k)) where

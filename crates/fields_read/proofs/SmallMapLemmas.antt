@@ -1,21 +1,18 @@
 -- Type bit maps of types up to 127.
-use Rattle.std.proofs.Common.{◌≡◌, ◌∙◌, ◌↔◌, ℕ, zero, suc, ◌+◌, ◌*◌, ◌%◌, ◌^◌, ◌<◌, ◌≤◌, ◌==◌, Bool, true, false, List, [], ◌∷◌, ◌++◌, length, refl, sym, ap}
-use Rattle.std.proofs.Common.{subst, arith, inl, inr, eq-eqb, ne_eqb, le-leb}
-use Rattle.std.specs.Prelude.{Result, Ok, Err, nat_le, nat_lt, not, ◌&&◌, if◌then◌else◌}
+use Rattle.std.proofs.Common.{◌≡◌, ◌∙◌, ℕ, zero, suc, ◌+◌, ◌*◌, ◌%◌, ◌^◌, ◌<◌, ◌≤◌, ◌==◌, Bool, true, false, List, [], ◌∷◌, ◌++◌, length, refl, sym, ap}
+use Rattle.std.proofs.Common.{arith, inl, inr, eq-eqb, le-leb}
+use Rattle.std.specs.Prelude.{nat_le, nat_lt, ◌&&◌, if◌then◌else◌}
 use Rattle.std.specs.Borrow.{Bor}
-use Rattle.std.specs.Global.{Vec}
-use Rattle.std.specs.List.{list_all}
 use Rattle.std.proofs.Math.Nat.{pow-suc}
-use Rattle.std.proofs.lemmas.Bool.{and_from, and_parts, cases_lt, eqb-true, false≢true, lt-leb, lt-ltb, ltb-true, not_from_false, or_cases, or_left, or_right}
-use Rattle.std.proofs.lemmas.Bool.Decides.{same_from_decides}
+use Rattle.std.proofs.lemmas.Bool.{and_from, and_parts, cases_lt, false≢true, lt-leb, lt-ltb, ltb-true, or_left, or_right}
 use Rattle.std.proofs.lemmas.List.Folds.{list_any-append}
 use Rattle.hex.specs.Hex.{IsBytes}
 use Rattle.fields_print.specs.TypeMaps.{bit_types, ends_nonzero, is_small_map, octet_types}
-use Rattle.fields_read.specs.Reading.{FailsIf, ReadsWords, ReadsWordsIf}
-use Rattle.fields_text.specs.declared.text_error.TextError.{TextError}
-use Rattle.fields_read.specs.TypeBits.{AppendsTypes, FailsAsTypes, IsBits, IsSmallMap, have_small_map, is_small_type, is_within}
+use Rattle.fields_read.specs.TypeBits.{AreSmallTypes, HaveSmallMarks, IsBits, IsSmallType, is_marked, is_small_type, is_within}
 use Rattle.fields_read.specs.TypeMapWords.{AreTypes, HasType, IsSmallTypeMap, has}
 use Rattle.fields_read.proofs.theory.ByteLemmas.{nonzero}
+use Rattle.fields_read.proofs.SmallMarks.{small_range}
+use Rattle.fields_read.proofs.theory.RegisteredLemmas.{one_word}
 use Rattle.fields_read.proofs.TypeMapLemmas.{bit_range, ends_of, octet_cases, octet_range}
 
 -- the highest bit of an octet
@@ -94,103 +91,77 @@ has_some (octet ∷ next ∷ octets) first bytes end =
           ∙ or_right (has (bit_types 8 first octet) later.0) (has (octet_types (first + 8) (next ∷ octets)) later.0) later.1,
     )
 
--- whether types are small
-all_small : (types : List ℕ) → ((n : ℕ) → has types n ≡ true → is_small_type n ≡ true) → list_all is_small_type types ≡ true
-all_small [] each = refl
-all_small (t ∷ types) each =
-    and_from _ _ (each t (or_left (t == t) (has types t) (eq-eqb t t refl)))
-    (all_small types (λ n h. each n (or_right (t == n) (has types n) h)))
-
-small_of : (types : List ℕ) (n : ℕ) → list_all is_small_type types ≡ true → has types n ≡ true → is_small_type n ≡ true
-small_of [] n all h = absurd (false≢true h)
-small_of (t ∷ types) n all h =
-    let parts = and_parts (is_small_type t) (list_all is_small_type types) all in
-    elim (or_cases (t == n) (has types n) h) [
-      | inl e ↦ ap is_small_type (sym (eqb-true t n e)) ∙ parts.0
-      | inr g ↦ small_of types n parts.1 g
-    ]
-
-some_types : (types : List ℕ) (n : ℕ) → has types n ≡ true → not (length types == 0) ≡ true
-some_types [] n h = absurd (false≢true h)
-some_types (t ∷ types) n h = not_from_false _ (ne_eqb (length (t ∷ types)) 0 (λ e. omega arith))
-
--- types that have a map are small
-pub types_small : (types octets : List ℕ) → IsSmallMap types octets → have_small_map types ≡ true
-types_small types octets is =
-    let some = has_some octets 0 is.bytes (ends octets is.small) in
-    and_from _ _ (some_types types some.0 (sym (is.bits some.0) ∙ some.1))
-    (all_small types
-    (λ n h. let bounds = type_is_small octets n is.small (is.bits n ∙ h) in and_from _ _ (lt-ltb 0 n bounds.0) (lt-ltb n 128 bounds.1)))
-
 -- the map of small types
-module _ (types : List ℕ) (small : have_small_map types ≡ true) where
-  all : list_all is_small_type types ≡ true
-  all = (and_parts (not (length types == 0)) (list_all is_small_type types) small).1
-
-  within_small : (n : ℕ) → is_within (has types) 0 128 n ≡ has types n
-  within_small n = by_has (has types n) refl where
-    by_has : (b : Bool) → has types n ≡ b → is_within (has types) 0 128 n ≡ has types n
-    by_has true e =
-        let last = (and_parts (nat_lt 0 n) (nat_lt n 128) (small_of types n all e)).1 in
+module _ (p : ℕ → Bool) (all : (n : ℕ) → p n ≡ true → (0 < n) × (n < 128)) (some : (n : ℕ) × (p n ≡ true)) where
+  within_small : (n : ℕ) → is_within p 0 128 n ≡ p n
+  within_small n = by_mark (p n) refl where
+    by_mark : (b : Bool) → p n ≡ b → is_within p 0 128 n ≡ p n
+    by_mark true e =
+        let last : nat_lt n 128 ≡ true = lt-ltb n 128 (all n e).1 in
         ap (λ (b : Bool). b && (nat_le 0 n && nat_lt n 128)) e ∙ and_from (nat_le 0 n) (nat_lt n 128) (le-leb 0 n (omega arith)) last ∙ sym e
-    by_has false e = ap (λ (b : Bool). b && (nat_le 0 n && nat_lt n 128)) e ∙ sym e
+    by_mark false e = ap (λ (b : Bool). b && (nat_le 0 n && nat_lt n 128)) e ∙ sym e
 
-  same_types : (bits : List ℕ) → IsBits (has types) 0 16 bits → (n : ℕ) → has (octet_types 0 bits) n ≡ has types n
+  same_types : (bits : List ℕ) → IsBits p 0 16 bits → (n : ℕ) → has (octet_types 0 bits) n ≡ p n
   same_types bits is n = is.types n ∙ within_small n
 
-  first_small : (octet : ℕ) (bits : List ℕ) → ((n : ℕ) → has (octet_types 0 (octet ∷ bits)) n ≡ has types n) → octet < 128
+  first_small : (octet : ℕ) (bits : List ℕ) → ((n : ℕ) → has (octet_types 0 (octet ∷ bits)) n ≡ p n) → octet < 128
   first_small octet bits same =
       elim (cases_lt octet 128) [
         | inl low ↦ low
-        | inr high ↦ absurd (false≢true (small_of types 0 all (sym (same 0) ∙ first_set octet bits high)))
+        | inr high ↦ (let zero = (all 0 (sym (same 0) ∙ first_set octet bits high)).0 in absurd (omega arith))
       ]
 
-  one_type : (ts : List ℕ) → not (length ts == 0) ≡ true → (n : ℕ) × (has ts n ≡ true)
-  one_type [] some = absurd (false≢true some)
-  one_type (t ∷ ts) some = (t, or_left (t == t) (has ts t) (eq-eqb t t refl))
-
-  is_small : (bits : List ℕ) → IsBits (has types) 0 16 bits → ((n : ℕ) → has (octet_types 0 bits) n ≡ has types n) → is_small_map bits ≡ true
-  is_small [] is same =
-      let some = one_type types (and_parts (not (length types == 0)) (list_all is_small_type types) small).0 in
-      absurd (false≢true (same some.0 ∙ some.1))
+  is_small : (bits : List ℕ) → IsBits p 0 16 bits → ((n : ℕ) → has (octet_types 0 bits) n ≡ p n) → is_small_map bits ≡ true
+  is_small [] is same = absurd (false≢true (same some.0 ∙ some.1))
   is_small (octet ∷ bits) is same =
       let short = is.short in
       and_from _ _ (and_from _ _ (lt-ltb octet 128 (first_small octet bits same)) (lt-ltb (length bits) 16 (omega arith))) (ends_of octet bits is.trimmed)
 
-  -- If octets are the bits of types below 128, they are the bit map of these types.
-  pub small_map_is : (bits : List ℕ) → IsBits (has types) 0 16 bits → IsSmallMap types bits
-  small_map_is bits is = record { bytes = is.bytes; small = is_small bits is (same_types bits is); bits = same_types bits is }
-
 -- the types of words
-module _ (words : List (Bor (List ℕ))) (types : List ℕ) (are : AreTypes words) (represented : (n : ℕ) → has types n ≡ true ↔ HasType words n) where
-  map_of_words : (octets : List ℕ) → IsSmallMap types octets → IsSmallTypeMap words octets
-  map_of_words octets is = record {
-    types = are;
-    bytes = is.bytes;
-    small = is.small;
-    bits = λ n. (λ h. (represented n).0 (sym (is.bits n) ∙ h), λ h. is.bits n ∙ (represented n).1 h);
-  }
+small_type : (words : List (Bor (List ℕ))) (n : ℕ) → AreSmallTypes words → HasType words n → (0 < n) × (n < 128)
+small_type [] n are h = absurd h
+small_type (word ∷ words) n are (inl w) =
+    let k = are.0.0 in
+    let is : IsSmallType word.now k = are.0.1 in
+    let same : k ≡ n = one_word word.now k n is.0 w in
+    small_range n (ap is_small_type (sym same) ∙ is.1)
+small_type (word ∷ words) n are (inr h) = small_type words n are.1 h
 
-  map_of_types : (octets : List ℕ) → IsSmallTypeMap words octets → IsSmallMap types octets
-  map_of_types octets is = record {
-    bytes = is.bytes;
-    small = is.small;
-    bits = λ n. same_from_decides {P = HasType words n} (has (octet_types 0 octets) n) (has types n) ((is.bits n).0, (is.bits n).1) ((represented n).0, (represented n).1);
-  }
+small_are_types : (words : List (Bor (List ℕ))) → AreSmallTypes words → AreTypes words
+small_are_types [] are = tt
+small_are_types (word ∷ words) are = ((are.0.0, are.0.1.0), small_are_types words are.1)
 
-  words_read : (result : Result (Vec ℕ) TextError) → ReadsWords (IsSmallMap types) result → ReadsWordsIf (AreTypes words) (IsSmallTypeMap words) result
-  words_read (Ok map) is = map_of_words map.items is
-  words_read (Err e) (inl memory) = inl (memory.0, are)
-  words_read (Err e) (inr bad) = inr (bad.0, λ octets is. bad.1 octets (map_of_types octets is))
+some_type_of : (words : List (Bor (List ℕ))) → 0 < length words → AreSmallTypes words → (n : ℕ) × HasType words n
+some_type_of [] some are = absurd (omega arith)
+some_type_of (word ∷ words) some are = (are.0.0, inl are.0.1.0)
 
--- Words of types below 128 are read as the map of their types.
-pub small_map_read : (words : List (Bor (List ℕ))) (start types slice : List ℕ) (u : Unit {0}) (result : Result (Vec ℕ) TextError) → start ≡ [] → slice ≡ types
-    → AppendsTypes words start types (Ok u) → ReadsWords (IsSmallMap slice) result → ReadsWordsIf (AreTypes words) (IsSmallTypeMap words) result
-small_map_read words start types slice u result none same a is =
-    let whole : slice ≡ a.0 = same ∙ a.1 ∙ ap (λ (xs : List ℕ). xs ++ a.0) none in
-    words_read words slice a.2 (subst (λ (ts : List ℕ). (n : ℕ) → has ts n ≡ true ↔ HasType words n) (sym whole) a.3) result is
+-- The bits of the types of words are the small map of these words.
+pub small_map_is : (words : List (Bor (List ℕ))) (marks : List Bool) (bits : List ℕ) → 0 < length words → HaveSmallMarks words marks → IsBits (is_marked marks) 0 16 bits
+    → IsSmallTypeMap words bits
+small_map_is words marks bits some have is =
+    let all : (n : ℕ) → is_marked marks n ≡ true → (0 < n) × (n < 128) = λ n m. small_type words n have.small ((have.each n).0 m) in
+    let one = some_type_of words some have.small in
+    let marked : (n : ℕ) × (is_marked marks n ≡ true) = (one.0, (have.each one.0).1 one.1) in
+    let same = same_types (is_marked marks) all marked bits is in
+    record {
+      types = small_are_types words have.small;
+      bytes = is.bytes;
+      small = is_small (is_marked marks) all marked bits is same;
+      bits = λ n. (λ h. (have.each n).0 (sym (same n) ∙ h), λ h. same n ∙ (have.each n).1 h);
+    }
 
--- why no map is read
-pub small_types_fail : (words : List (Bor (List ℕ))) (e : TextError) → FailsAsTypes words e → FailsIf (AreTypes words) (IsSmallTypeMap words) e
-small_types_fail words e (inl memory) = inl memory
-small_types_fail words e (inr bad) = inr (bad.0, λ octets is. bad.1 is.types)
+types_are_small : (words : List (Bor (List ℕ))) → ((n : ℕ) → HasType words n → (0 < n) × (n < 128)) → AreTypes words → AreSmallTypes words
+types_are_small [] small are = tt
+types_are_small (word ∷ words) small are =
+    let range = small are.0.0 (inl are.0.1) in
+    let is : is_small_type are.0.0 ≡ true = and_from _ _ (lt-ltb 0 are.0.0 range.0) (lt-ltb are.0.0 128 range.1) in
+    ((are.0.0, (are.0.1, is)), types_are_small words (λ n h. small n (inr h)) are.1)
+
+-- Words that have a small map are types from 1 to 127.
+pub small_words : (words : List (Bor (List ℕ))) (octets : List ℕ) → IsSmallTypeMap words octets → AreSmallTypes words
+small_words words octets is = types_are_small words (λ n h. type_is_small octets n is.small ((is.bits n).1 h)) is.types
+
+-- No words have no small map.
+pub no_small_map : (words : List (Bor (List ℕ))) (octets : List ℕ) → length words ≡ 0 → ¬ IsSmallTypeMap words octets
+no_small_map [] octets none is = let some = has_some octets 0 is.bytes (ends octets is.small) in (is.bits some.0).0 some.1
+no_small_map (word ∷ words) octets none is = absurd (omega arith)

@@ -14,7 +14,6 @@ use Rattle.fields_print.specs.Prefixes.{is_trimmed}
 use Rattle.fields_print.specs.TypeMaps.{bit_types, ends_nonzero, map_types, octet_types}
 use Rattle.fields_text.specs.declared.text_error.TextError.{TextError}
 use Rattle.fields_text.specs.declared.text_error.TextError.TheVariants.{BadWord, OutOfMemory}
-use Rattle.fields_read.specs.Reading.{FailsIf}
 use Rattle.fields_read.specs.TypeBits.{AppendsBlock, AppendsBlocks, AppendsTypes, FailsAsTypes, IsBits, IsBlocks, block_of, is_within, octet_bits, octets_bits}
 use Rattle.fields_read.specs.TypeMapWords.{AreTypes, HasType, IsTypeMap, has}
 use Rattle.fields_read.specs.TypeWords.{IsTypeWord}
@@ -257,7 +256,8 @@ module _ (p : ℕ → Bool) where
     sym (append-nil old),
   )
 
-  blocks_more : (window : ℕ) (bits after : List ℕ) → window < 256 → IsBits p (window * 256) 32 bits → IsBlocks p (window + 1) after → IsBlocks p window (block_of window bits ++ after)
+  -- A block, if there are bits, and those of the windows after it are those from this window on.
+  pub blocks_more : (window : ℕ) (bits after : List ℕ) → window < 256 → IsBits p (window * 256) 32 bits → IsBlocks p (window + 1) after → IsBlocks p window (block_of window bits ++ after)
   blocks_more window [] after small is others =
       let next : (window + 1) * 256 ≡ window * 256 + 256 = omega arith in
       record {
@@ -373,11 +373,12 @@ pub why_types : (words : List (Bor (List ℕ))) (b : Bool) (e : TextError) → e
 why_types words true e is all = inl (is, all.0 refl)
 why_types words false e is all = inr (is, λ are. cc (all.1 are))
 
--- the map of types
+-- a type is from 0 to 65,535
 all_small : (n : ℕ) → n < 65536 → (nat_le 0 n && nat_lt n 65536) ≡ true
 all_small n h = grind (arith, nat_tests)
 
-map_is : (words : List (Bor (List ℕ))) (types map : List ℕ) → AreTypes words → ((n : ℕ) → has types n ≡ true ↔ HasType words n) → IsBlocks (has types) 0 map → IsTypeMap words map
+-- If blocks are those of the types of words, they are the bit map of the words.
+pub map_is : (words : List (Bor (List ℕ))) (types map : List ℕ) → AreTypes words → ((n : ℕ) → has types n ≡ true ↔ HasType words n) → IsBlocks (has types) 0 map → IsTypeMap words map
 map_is words types map are represented blocks = record {
   types = are;
   bytes = blocks.bytes;
@@ -397,11 +398,6 @@ map_read words start types slice blank map u v none empty same a b =
     map_is words types map a.2
     (subst (λ (ts : List ℕ). (n : ℕ) → has ts n ≡ true ↔ HasType words n) (sym whole) a.3)
     (subst (IsBlocks (has types) 0) (sym blocks) (subst (λ (ts : List ℕ). IsBlocks (has ts) 0 b.0) same b.1))
-
--- why no map is read
-pub types_fail : (words : List (Bor (List ℕ))) (e : TextError) → FailsAsTypes words e → FailsIf (AreTypes words) (IsTypeMap words) e
-types_fail words e (inl memory) = inl memory
-types_fail words e (inr bad) = inr (bad.0, λ octets is. bad.1 is.types)
 
 -- no octets, and a block of some
 pub empty_is : (xs : List ℕ) → length xs ≡ 0 → xs ≡ []

@@ -9,6 +9,7 @@ pub mod OneFields
 pub mod OneMaps
 pub mod OneWords
 pub mod PrefixLemmas
+pub mod RegisteredLemmas
 pub mod SpaceLemmas
 pub mod StringLaws
 pub mod StringLemmas

@@ -3,6 +3,7 @@ pub mod Base32Words
 pub mod Base64Characters
 pub mod EuiWords
 pub mod GatewayWords
+pub mod HexCharacters
 pub mod IdentityWords
 pub mod JoinedWords
 pub mod Laws

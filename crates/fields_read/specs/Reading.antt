@@ -24,10 +24,6 @@ Fails Represents error = FailsIf (HasValue Represents) Represents error
 abbrev pub ReadsWords : (List ℕ → Type 0) → Result (Vec ℕ) TextError → Type 0
 ReadsWords Represents result = MatchResult result (λ octets. Represents octets.items) (Fails Represents)
 
--- the same, where less is known of words at which an allocation fails
-abbrev pub ReadsWordsIf : Type 0 → (List ℕ → Type 0) → Result (Vec ℕ) TextError → Type 0
-ReadsWordsIf May Represents result = MatchResult result (λ octets. Represents octets.items) (FailsIf May Represents)
-
 -- Why two words aren't read, of which the first isn't: that the second represents no value, if so, else why the first isn't.
 abbrev pub FailsFirst : TextError → Result (Vec ℕ) TextError → TextError → Type 0
 FailsFirst first second error =
@@ -41,8 +37,3 @@ IsStartOf old new = take (length old) new ≡ old
 abbrev pub AppendsOctets : (List ℕ → Type 0) → List ℕ → List ℕ → Result Unit TextError → Type 0
 AppendsOctets Represents old new result =
     MatchResult result (λ _. (octets : List ℕ) × Represents octets × (new ≡ old ++ octets)) (Fails Represents)
-
--- the same, where less is known of words at which an allocation fails
-abbrev pub AppendsOctetsIf : Type 0 → (List ℕ → Type 0) → List ℕ → List ℕ → Result Unit TextError → Type 0
-AppendsOctetsIf May Represents old new result =
-    MatchResult result (λ _. (octets : List ℕ) × Represents octets × (new ≡ old ++ octets)) (FailsIf May Represents)

@@ -1,16 +1,17 @@
 -- What the private functions of type bit maps return. No public contract cites it.
-use Rattle.std.specs.Prelude.{◌≡◌, ◌⊎◌, ◌↔◌, ℕ, zero, suc, ◌+◌, ◌*◌, ◌/◌, ◌<◌, ◌≤◌, ◌==◌, ◌&&◌, not, nat_le, nat_lt, Bool, true, false, if◌then◌else◌, List, [], ◌∷◌}
+use Rattle.std.specs.Prelude.{◌≡◌, ◌⊎◌, ◌↔◌, ℕ, zero, suc, ◌+◌, ◌*◌, ◌/◌, ◌<◌, ◌≤◌, ◌==◌, ◌&&◌, nat_le, nat_lt, Bool, true, false, if◌then◌else◌, List, [], ◌∷◌}
 use Rattle.std.specs.Prelude.{◌++◌, length, get_or, Result, MatchResult}
 use Rattle.std.specs.Borrow.{Bor}
-use Rattle.std.specs.List.{list_all, list_any}
+use Rattle.std.specs.List.{list_any}
 use Rattle.hex.specs.Hex.{IsBytes}
 use Rattle.fields_octets.specs.TypeMaps.{blocks_after}
 use Rattle.fields_print.specs.Prefixes.{is_trimmed}
-use Rattle.fields_print.specs.TypeMaps.{is_small_map, map_types, octet_types}
+use Rattle.fields_print.specs.TypeMaps.{map_types, octet_types}
 use Rattle.fields_text.specs.declared.text_error.TextError.{TextError}
 use Rattle.fields_text.specs.declared.text_error.TextError.TheVariants.{BadWord, OutOfMemory}
 use Rattle.fields_read.specs.Reading.{IsStartOf}
 use Rattle.fields_read.specs.TypeMapWords.{AreTypes, HasType, has}
+use Rattle.fields_read.specs.TypeWords.{IsTypeWord}
 
 -- whether the mark at an index is set
 abbrev pub is_marked : List Bool → ℕ → Bool
@@ -81,12 +82,16 @@ AppendsTypes words old new result =
 abbrev pub is_small_type : ℕ → Bool
 is_small_type rtype = nat_lt 0 rtype && nat_lt rtype 128
 
--- whether there are types, each of which is from 1 to 127
-abbrev pub have_small_map : List ℕ → Bool
-have_small_map types = not (length types == 0) && list_all is_small_type types
+-- the word represents such a type
+abbrev pub IsSmallType : List ℕ → ℕ → Type 0
+IsSmallType word n = IsTypeWord word n × (is_small_type n ≡ true)
 
--- the octets are the bit map of these types
-pub record IsSmallMap (types octets : List ℕ) : Type 0 where
-  pub bytes : IsBytes octets
-  pub small : is_small_map octets ≡ true
-  pub bits : (n : ℕ) → has (octet_types 0 octets) n ≡ has types n
+-- each of the words does
+abbrev pub AreSmallTypes : List (Bor (List ℕ)) → Type 0
+AreSmallTypes [] = Unit {0}
+AreSmallTypes (word ∷ words) = ((n : ℕ) × IsSmallType word.now n) × AreSmallTypes words
+
+-- each of the words represents a type from 1 to 127, and the marks are those of their types
+pub record HaveSmallMarks (words : List (Bor (List ℕ))) (marks : List Bool) : Type 0 where
+  pub small : AreSmallTypes words
+  pub each : (n : ℕ) → is_marked marks n ≡ true ↔ HasType words n

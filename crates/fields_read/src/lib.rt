@@ -27,6 +27,7 @@ pub use address::{read_ipv4, read_ipv6};
 pub use append::{push_last, push_octets};
 pub use eui::{read_eui48, read_eui64};
 pub use gateway::{read_gateway, read_relay};
+pub use hex_words::push_hex_words;
 pub use host_identity::read_host_identity;
 pub use joined::{read_base64_words, read_hex_words};
 pub use location::read_location;

@@ -1,12 +1,12 @@
 //! Type bit maps of types up to 127 (RFC 2535 section 7.3).
-ghost use Rattle.std.specs.Prelude.{◌≡◌};
-ghost use Rattle.std.specs.List.{list_all};
-ghost use Rattle.fields_read.specs.TypeBits.{IsSmallMap, have_small_map, is_small_type};
-ghost use Rattle.fields_read.specs.Reading.{ReadsWords, ReadsWordsIf};
-ghost use Rattle.fields_read.specs.TypeMapWords.{AreTypes, IsSmallTypeMap};
+ghost use Rattle.std.specs.Prelude.{◌≡◌, ◌↔◌, ℕ, MatchOption, Some};
+ghost use Rattle.fields_read.specs.TypeBits.{AreSmallTypes, HaveSmallMarks, IsSmallType, is_small_type};
+ghost use Rattle.fields_read.specs.Reading.{ReadsWords};
+ghost use Rattle.fields_read.specs.TypeMapWords.{IsSmallTypeMap};
 
 use crate::prefix::trimmed;
-use crate::type_map::{push_octets, push_types};
+use crate::type_map::push_marked;
+use crate::type_name::read_type;
 use arrayvec::ArrayVec;
 use fields_text::TextError;
 use std::alloc::Global;
@@ -18,44 +18,49 @@ fn is_small_type(rtype: u16) -> bool
     rtype > 0 && rtype < 128
 }
 
-/// Whether each of the types is from 1 to 127.
-fn are_small(types: &[u16]) -> bool
-    ensures { result ≡ list_all is_small_type types.now }
+/// The type from 1 to 127 that a word represents.
+fn read_small_type(word: &str) -> Option<u8>
+    ensures { (n : ℕ) → IsSmallType word.now n ↔ (result ≡ Some n) }
 {
-    types.iter().all(|rtype| is_small_type(*rtype))
+    let Some(rtype) = read_type(word) else {
+        return None;
+    };
+    let number = rtype.to_int();
+    if !is_small_type(number) {
+        return None;
+    }
+    Some(number as u8)
 }
 
-/// Whether there are types, each of which is from 1 to 127.
-fn have_small_map(types: &[u16]) -> bool
-    ensures { result ≡ have_small_map types.now }
+/// Which types the words represent. `None` if a word represents no type from 1 to 127.
+fn small_marks(words: &[&str]) -> Option<[bool; 256]>
+    ensures { MatchOption result (¬ (AreSmallTypes words.now)) (HaveSmallMarks words.now) }
 {
-    !types.is_empty() && are_small(types)
-}
-
-/// The bit map of types.
-fn small_map(alloc: Global, types: &[u16]) -> Result<Vec<u8>, TextError>
-    ensures { ReadsWords (IsSmallMap types.now) result }
-{
-    if !have_small_map(types) {
-        return Err(TextError::BadWord);
+    let mut marks = [false; 256];
+    for word in words {
+        let Some(rtype) = read_small_type(word) else {
+            return None;
+        };
+        marks[usize::from(rtype)] = true;
     }
-    let mut octets = ArrayVec::new();
-    push_octets(&mut octets, types, 0, 16);
-    let bits = trimmed(octets.as_slice());
-    match Vec::from_slice(alloc, bits) {
-        Ok(map) => Ok(map),
-        Err(_) => Err(TextError::OutOfMemory),
-    }
+    Some(marks)
 }
 
 /// The type bit map of the types of words, as NXT records have it: types from 1 to 127, one at
 /// least.
 pub fn read_small_type_map(alloc: Global, words: &[&str]) -> Result<Vec<u8>, TextError>
-    ensures { ReadsWordsIf (AreTypes words.now) (IsSmallTypeMap words.now) result }
+    ensures { ReadsWords (IsSmallTypeMap words.now) result }
 {
-    let mut types = Vec::new(alloc);
-    if let Err(error) = push_types(&mut types, words) {
-        return Err(error);
+    if words.is_empty() {
+        return Err(TextError::BadWord);
     }
-    small_map(alloc, &types)
+    let Some(marks) = small_marks(words) else {
+        return Err(TextError::BadWord);
+    };
+    let mut octets = ArrayVec::new();
+    push_marked(&mut octets, &marks, 0, 16);
+    match Vec::from_slice(alloc, trimmed(octets.as_slice())) {
+        Ok(map) => Ok(map),
+        Err(_) => Err(TextError::OutOfMemory),
+    }
 }

@@ -1,7 +1,7 @@
 //! Type bit maps (RFC 4034 section 4.2).
 ghost use Rattle.std.specs.Prelude.{◌≡◌, ◌↔◌, ◌≤◌, ◌<◌, ◌+◌, ◌*◌, ◌++◌, ℕ, IsTrue, length};
 ghost use Rattle.fields_read.specs.TypeBits.{AppendsBlock, AppendsBlocks, AppendsTypes, HaveWindows, is_marked, octet_bits, octets_bits};
-ghost use Rattle.fields_read.specs.Reading.{ReadsWordsIf};
+ghost use Rattle.fields_read.specs.Reading.{ReadsWords};
 ghost use Rattle.fields_read.specs.TypeMapWords.{AppendsTypeMap, AreTypes, IsTypeMap, has};
 
 use crate::append::failure;
@@ -41,7 +41,7 @@ fn octet_bits(marks: &[bool; 256], at: usize, count: u8) -> u8
 }
 
 /// Appends `count` octets of the marks from index `at` on.
-fn push_marked(octets: &mut ArrayVec<u8, 32>, marks: &[bool; 256], at: usize, count: u8)
+pub(crate) fn push_marked(octets: &mut ArrayVec<u8, 32>, marks: &[bool; 256], at: usize, count: u8)
     requires room { length octets.old.items + count ≤ 32 }
     requires within { at + 8 * count ≤ 256 }
     ensures { octets.new.items
@@ -55,7 +55,7 @@ fn push_marked(octets: &mut ArrayVec<u8, 32>, marks: &[bool; 256], at: usize, co
 }
 
 /// Appends `count` octets of the types from `first` on.
-pub(crate) fn push_octets(octets: &mut ArrayVec<u8, 32>, types: &[u16], first: u32, count: u8)
+fn push_octets(octets: &mut ArrayVec<u8, 32>, types: &[u16], first: u32, count: u8)
     requires room { length octets.old.items + count ≤ 32 }
     ensures { octets.new.items ≡ octets.old.items ++ octets_bits (has types.now) first count }
 {
@@ -136,7 +136,7 @@ fn are_types(words: &[&str]) -> bool
 }
 
 /// Appends the types of words.
-pub(crate) fn push_types(types: &mut Vec<u16>, words: &[&str]) -> Result<(), TextError>
+fn push_types(types: &mut Vec<u16>, words: &[&str]) -> Result<(), TextError>
     ensures { AppendsTypes words.now types.old.items types.new.items result }
 {
     for word in words {
@@ -165,7 +165,7 @@ pub fn push_type_map(map: &mut Vec<u8>, types: &[u16]) -> Result<(), TextError>
 
 /// The type bit map of the types of words.
 pub fn read_type_map(alloc: Global, words: &[&str]) -> Result<Vec<u8>, TextError>
-    ensures { ReadsWordsIf (AreTypes words.now) (IsTypeMap words.now) result }
+    ensures { ReadsWords (IsTypeMap words.now) result }
 {
     let mut types = Vec::new(alloc);
     if let Err(error) = push_types(&mut types, words) {

@@ -1,11 +1,11 @@
 -- Texts with commas between them.
-use Rattle.std.proofs.Common.{◌≡◌, ◌∙◌, ℕ, suc, ◌<◌, ◌==◌, Bool, true, false, cond, List, [], ◌∷◌, ◌++◌, length, refl, sym, ap, subst, arith, inl, inr, append_assoc, append-nil, ne_eqb}
-use Rattle.std.specs.Prelude.{Result, Ok, Err, ⊤}
+use Rattle.std.proofs.Common.{◌≡◌, ◌∙◌, ℕ, suc, ◌<◌, ◌==◌, Bool, true, false, cond, List, [], ◌∷◌, ◌++◌, length, refl, sym, ap, subst, arith, append-nil, ne_eqb}
 use Rattle.std.proofs.lemmas.Bool.{cond-false}
-use Rattle.fields_text.specs.declared.text_error.TextError.{TextError}
-use Rattle.fields_read.specs.Reading.{AppendsOctets, AppendsOctetsIf}
+use Rattle.fields_read.specs.Laws.{RepresentsOne}
 use Rattle.fields_read.proofs.theory.LastSplits.{Lacks}
 use Rattle.fields_read_parameters.specs.ParameterValues.{AreJoined, comma_texts, with_first}
+use Rattle.fields_read_parameters.specs.PushedValues.{PushesValue}
+use Rattle.fields_read_parameters.proofs.PushLemmas.{both_pushed, exceeds_more, exceeds_with, pushed_as}
 
 -- a text has no comma
 abbrev pub NoComma : List ℕ → Type 0
@@ -53,34 +53,31 @@ last_text text others last whole none =
 -- octets that are joined
 module _ (Is : List ℕ → List ℕ → Type 0) where
   -- If the octets of a text are appended, those of the list of this text alone are.
-  pub joined_one : (text : List ℕ) (texts : List (List ℕ)) (old new : List ℕ) (r : Result Unit TextError) → texts ≡ text ∷ [] → AppendsOctets (Is text) old new r
-      → AppendsOctetsIf ⊤ (AreJoined Is texts) old new r
-  joined_one text texts old new (Ok u) alone (octets, is, e) = (
-    octets,
-    subst (λ (ts : List (List ℕ)). AreJoined Is ts octets) (sym alone) (octets, [], is, sym (append-nil octets), refl),
-    e,
-  )
-  joined_one text texts old new (Err e) alone (inl memory) = inl (memory.0, tt)
-  joined_one text texts old new (Err e) alone (inr bad) =
-      inr (bad.0, λ octets are. bad.1 (are_first octets are).0 (are_first octets are).1) where
-        are_first : (octets : List ℕ) → AreJoined Is texts octets → (first : List ℕ) × Is text first
-        are_first octets are = let parts = subst (λ (ts : List (List ℕ)). AreJoined Is ts octets) alone are in (parts.0, parts.2)
+  pub joined_one : (text : List ℕ) (texts : List (List ℕ)) (old new : List ℕ) (r : Bool) → texts ≡ text ∷ [] → PushesValue (Is text) old new r → PushesValue (AreJoined Is texts) old new r
+  joined_one text texts old new r alone pushed = pushed_as (Is text) (AreJoined Is texts) old new r into back pushed where
+    into : (octets : List ℕ) → Is text octets → AreJoined Is texts octets
+    into octets is = subst (λ (ts : List (List ℕ)). AreJoined Is ts octets) (sym alone) (octets, [], is, sym (append-nil octets), refl)
+
+    back : (octets : List ℕ) → AreJoined Is texts octets → Is text octets
+    back octets are =
+        let parts = subst (λ (ts : List (List ℕ)). AreJoined Is ts octets) alone are in
+        subst (Is text) (sym (parts.3 ∙ ap (λ (xs : List ℕ). parts.0 ++ xs) parts.4 ∙ append-nil parts.0)) parts.2
 
   -- If the octets of the first text are appended and then those of the others, those of all the texts are.
-  pub joined_more : (text : List ℕ) (texts all : List (List ℕ)) (old middle new : List ℕ) (u : Unit {0}) (r : Result Unit TextError) → all ≡ text ∷ texts
-      → AppendsOctets (Is text) old middle (Ok u) → AppendsOctetsIf ⊤ (AreJoined Is texts) middle new r → AppendsOctetsIf ⊤ (AreJoined Is all) old new r
-  joined_more text texts all old middle new u (Ok v) whole (first, is, e) (others, are, f) = (
+  pub joined_more : RepresentsOne Is → (text : List ℕ) (texts all : List (List ℕ)) (old middle new : List ℕ) (r : Bool) → all ≡ text ∷ texts
+      → PushesValue (Is text) old middle true → PushesValue (AreJoined Is texts) middle new r → PushesValue (AreJoined Is all) old new r
+  joined_more one text texts all old middle new true whole (first, is, e) (others, are, f) = (
     first ++ others,
     subst (λ (ts : List (List ℕ)). AreJoined Is ts (first ++ others)) (sym whole) (first, others, is, refl, are),
-    f ∙ ap (λ (xs : List ℕ). xs ++ others) e ∙ append_assoc old first others,
+    both_pushed old middle new first others (first ++ others) e f refl,
   )
-  joined_more text texts all old middle new u (Err e) whole first (inl memory) = inl memory
-  joined_more text texts all old middle new u (Err e) whole first (inr bad) =
-      inr (bad.0, λ octets are. let parts = subst (λ (ts : List (List ℕ)). AreJoined Is ts octets) whole are in bad.1 parts.1 parts.4)
+  joined_more one text texts all old middle new false whole (first, is, e) bad = λ octets are.
+      let parts = subst (λ (ts : List (List ℕ)). AreJoined Is ts octets) whole are in
+      let same = one text parts.0 first parts.2 is in
+      exceeds_with old middle first parts.1 octets e (parts.3 ∙ ap (λ (xs : List ℕ). xs ++ parts.1) same) (bad parts.1 parts.4)
 
   -- If the octets of the first text can't be appended, those of all the texts can't be.
-  pub joined_none : (text : List ℕ) (texts all : List (List ℕ)) (old middle new : List ℕ) (e : TextError) → all ≡ text ∷ texts
-      → AppendsOctets (Is text) old middle (Err e) → AppendsOctetsIf ⊤ (AreJoined Is all) old new (Err e)
-  joined_none text texts all old middle new e whole (inl memory) = inl (memory.0, tt)
-  joined_none text texts all old middle new e whole (inr bad) =
-      inr (bad.0, λ octets are. let parts = subst (λ (ts : List (List ℕ)). AreJoined Is ts octets) whole are in bad.1 parts.0 parts.2)
+  pub joined_none : (text : List ℕ) (texts all : List (List ℕ)) (old middle new : List ℕ) → all ≡ text ∷ texts → PushesValue (Is text) old middle false → PushesValue (AreJoined Is all) old new false
+  joined_none text texts all old middle new whole bad = λ octets are.
+      let parts = subst (λ (ts : List (List ℕ)). AreJoined Is ts octets) whole are in
+      exceeds_more old parts.0 parts.1 octets parts.3 (bad parts.0 parts.2)

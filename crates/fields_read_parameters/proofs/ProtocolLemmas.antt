@@ -1,36 +1,21 @@
 -- Names of a list with commas between them.
-use Rattle.std.proofs.Common.{◌≡◌, ◌∙◌, ◌≢◌, ℕ, ◌-◌, ◌<◌, ◌≤◌, ◌==◌, Bool, true, false, cond, take, drop, length-append, List, [], ◌∷◌, ◌++◌, length, get_or}
-use Rattle.std.proofs.Common.{map, refl, sym, ap, subst, arith, inl, inr, append_assoc, append-nil, Option, Some, None}
-use Rattle.std.specs.Prelude.{Result, Ok, Err, codes, ◌||◌, if◌then◌else◌, ⊤}
-use Rattle.std.specs.Global.{Vec}
+use Rattle.std.proofs.Common.{◌≡◌, ◌∙◌, ◌≢◌, ℕ, ◌≤◌, ◌==◌, Bool, true, false, cond, length-append, List, [], ◌∷◌, ◌++◌, length, get_or}
+use Rattle.std.proofs.Common.{map, refl, sym, ap, subst, arith, append_assoc, append-nil, None}
+use Rattle.std.specs.Prelude.{codes, ◌||◌, if◌then◌else◌}
 use Rattle.std.specs.List.{AllByRecursion, flat_map}
 use Rattle.std.proofs.lemmas.Bool.{cond-false, cond-true, eqb-true}
-use Rattle.std.proofs.lemmas.List.{take_all}
-use Rattle.std.proofs.lemmas.Option.{same_Some}
 use Rattle.fields_print.specs.Separated.{separated}
-use Rattle.fields_text.specs.declared.text_error.TextError.{TextError}
-use Rattle.fields_text.specs.Reading.{ReadsOctets}
-use Rattle.fields_text.specs.Strings.{SpellsString}
-use Rattle.fields_read.specs.Reading.{AppendsOctets, AppendsOctetsIf}
+use Rattle.fields_text.specs.Strings.{SpellsOctets, octet_at as string_at, unquoted}
 use Rattle.fields_read.specs.Salts.{IsCounted}
-use Rattle.fields_read.proofs.theory.StringLemmas.{one_string}
 use Rattle.fields_read_parameters.specs.ParameterValues.{AreProtocols, IsAlpn, escaped}
-use Rattle.fields_read_parameters.specs.ProtocolNames.{IsCountedName, NamesFrom, octet_at}
+use Rattle.fields_read_parameters.specs.ProtocolNames.{BeginsName, BeginsNone, IsCountedName, NamesExceed, NamesFrom, SpellsNames, octet_at}
+use Rattle.fields_read_parameters.specs.PushedValues.{PushesValue}
+use Rattle.fields_read_parameters.proofs.PushLemmas.{both_pushed, exceeds_more, exceeds_with, pushed_as}
+use Rattle.fields_read_parameters.proofs.SpelledLemmas.{spelled_end, spelled_first, spelled_more, spelled_nothing, spelled_shorter, split, split_same}
 
 -- an octet of a name in a list
 abbrev esc : ℕ → List ℕ
 esc o = if (o == 44) || (o == 92) then 92 ∷ o ∷ [] else o ∷ []
-
--- an octet and the text after it
-abbrev split : ℕ → List ℕ → Option (ℕ × List ℕ)
-split octet after = let pair : ℕ × List ℕ = (octet, after) in Some pair
-
-split_same : (o p : ℕ) (x y : List ℕ) → split o x ≡ split p y → (o ≡ p) × (x ≡ y)
-split_same o p x y e =
-    let first : ℕ × List ℕ = (o, x) in
-    let second : ℕ × List ℕ = (p, y) in
-    let same : first ≡ second = same_Some first second e in
-    (ap (λ (q : ℕ × List ℕ). q.0) same, ap (λ (q : ℕ × List ℕ). q.1) same)
 
 -- the octet is read
 module _ (o : ℕ) (after : List ℕ) where
@@ -76,28 +61,6 @@ from_by f o text after false false comma slash e =
 octet_from : (text after : List ℕ) (o : ℕ) → octet_at text ≡ split o after → text ≡ esc o ++ after
 octet_from [] after o e = absurd (cc e)
 octet_from (f ∷ text) after o e = from_by f o text after (f == 44) (f == 92) refl refl e
-
--- the text after an octet, and after a comma, is shorter
-esc_some : (a b : Bool) (o : ℕ) → 0 < length (if a || b then 92 ∷ o ∷ [] else o ∷ [])
-esc_some true b o = omega arith
-esc_some false true o = omega arith
-esc_some false false o = omega arith
-
--- After an octet the text is shorter.
-pub octet_shorter : (text after : List ℕ) (o : ℕ) → octet_at text ≡ split o after → length after < length text
-octet_shorter text after o e =
-    let some = esc_some (o == 44) (o == 92) o in
-    omega (arith, ap length (octet_from text after o e), length-append (esc o) after, some)
-
--- What is after a comma is the rest of the text.
-pub after_comma : (text : List ℕ) → 0 < length text → get_or text 0 0 ≡ 44 → text ≡ 44 ∷ take (length text - 1) (drop 1 text)
-after_comma [] some first = absurd (omega arith)
-after_comma (c ∷ text) some first =
-    ap (λ (x : ℕ). x ∷ text) first ∙ ap (λ (xs : List ℕ). 44 ∷ xs) (sym (take_all (length (c ∷ text) - 1) text (omega arith)))
-
--- After a comma the text is shorter.
-pub comma_shorter : (text : List ℕ) → 0 < length text → get_or text 0 0 ≡ 44 → length (take (length text - 1) (drop 1 text)) < length text
-comma_shorter text some first = omega (arith, ap length (after_comma text some first))
 
 -- the names after the first
 abbrev later : List (List ℕ) → List ℕ
@@ -244,86 +207,122 @@ module _ (name : List ℕ) where
       let read = sym none ∙ ap octet_at (e ∙ append_assoc (esc o) (escaped more) (later others)) ∙ octet_read o (escaped more ++ later others) in
       cc read
 
-  -- what is appended
-  pub at_end : (text old new : List ℕ) (r : Result Unit TextError) → text ≡ [] → AppendsOctets (IsCountedName name) old new r → AppendsOctetsIf ⊤ (NamesFrom name text) old new r
-  at_end text old new (Ok u) empty (octets, is, e) = (octets, subst (λ (t : List ℕ). NamesFrom name t octets) (sym empty) (end_name octets is), e)
-  at_end text old new (Err e) empty (inl memory) = inl (memory.0, tt)
-  at_end text old new (Err e) empty (inr bad) =
-      inr (bad.0, λ octets is. bad.1 octets (name_end octets (subst (λ (t : List ℕ). NamesFrom name t octets) empty is)))
-
-  -- At a comma, if the name before it is appended and then the names after it, the names of the whole text are appended.
-  pub at_comma : (text rest old middle new : List ℕ) (u : Unit {0}) (r : Result Unit TextError) → text ≡ 44 ∷ rest → AppendsOctets (IsCountedName name) old middle (Ok u)
-      → AppendsOctetsIf ⊤ (NamesFrom [] rest) middle new r → AppendsOctetsIf ⊤ (NamesFrom name text) old new r
-  at_comma text rest old middle new u (Ok v) whole (octets, is, e) (after, names, f) = (
-    (length name ∷ name) ++ after,
-    subst (λ (t : List ℕ). NamesFrom name t ((length name ∷ name) ++ after)) (sym whole) (comma_name rest after is.0 names),
-    f ∙ ap (λ (xs : List ℕ). xs ++ after) (e ∙ ap (λ (xs : List ℕ). old ++ xs) is.1) ∙ append_assoc old (length name ∷ name) after,
-  )
-  at_comma text rest old middle new u (Err e) whole first (inl memory) = inl memory
-  at_comma text rest old middle new u (Err e) whole first (inr bad) =
-      inr (
-        bad.0,
-        λ octets is.
-            let split = name_comma rest octets (subst (λ (t : List ℕ). NamesFrom name t octets) whole is) in
-            bad.1 split.0 split.3,
-      )
-
-  -- At a comma, if the name before it can't be appended, the names of the text can't be.
-  pub at_bad_comma : (text rest old middle new : List ℕ) (e : TextError) → text ≡ 44 ∷ rest → AppendsOctets (IsCountedName name) old middle (Err e)
-      → AppendsOctetsIf ⊤ (NamesFrom name text) old new (Err e)
-  at_bad_comma text rest old middle new e whole (inl memory) = inl (memory.0, tt)
-  at_bad_comma text rest old middle new e whole (inr bad) =
-      inr (
-        bad.0,
-        λ octets is.
-            let split = name_comma rest octets (subst (λ (t : List ℕ). NamesFrom name t octets) whole is) in
-            bad.1 (length name ∷ name) (split.1, refl),
-      )
-
-  -- If a text begins with an octet, what appends the names after it, with this octet added to the name, appends those of the text.
-  pub at_octet : (text after longer old new : List ℕ) (o : ℕ) (r : Result Unit TextError) → octet_at text ≡ split o after → longer ≡ name ++ o ∷ []
-      → AppendsOctetsIf ⊤ (NamesFrom longer after) old new r
-      → AppendsOctetsIf ⊤ (NamesFrom name text) old new r
-  at_octet text after longer old new o (Ok u) begins same (octets, names, e) = (
-    octets,
-    octet_name text after octets o begins (subst (λ (n : List ℕ). NamesFrom n after octets) same names),
-    e,
-  )
-  at_octet text after longer old new o (Err e) begins same (inl memory) = inl memory
-  at_octet text after longer old new o (Err e) begins same (inr bad) =
-      inr (bad.0, λ octets is. bad.1 octets (subst (λ (n : List ℕ). NamesFrom n after octets) (sym same) (name_octet text after octets o begins is)))
-
   -- If a text isn't empty and begins with neither a comma nor an octet, it lists no names.
-  pub no_octet : (text : List ℕ) → 1 ≤ length text → get_or text 0 0 ≢ 44 → octet_at text ≡ None → (value : List ℕ) → ¬ (NamesFrom name text value)
+  no_octet : (text : List ℕ) → 1 ≤ length text → get_or text 0 0 ≢ 44 → octet_at text ≡ None → (value : List ℕ) → ¬ (NamesFrom name text value)
   no_octet text some other none value names = none_by text names.more names.others some other none names.listed
 
--- the names of a list are read
-pub list_read : (text empty old new : List ℕ) (u : Unit {0}) → empty ≡ [] → old ≡ [] → AppendsOctetsIf ⊤ (NamesFrom empty text) old new (Ok u) → AreProtocols text new
-list_read text empty old new u none first (octets, names, e) =
-    subst (AreProtocols text) (sym (e ∙ ap (λ (xs : List ℕ). xs ++ octets) first))
-    (protocols_of text octets (subst (λ (n : List ℕ). NamesFrom n text octets) none names))
+  -- At the end of a text the names are the name that was read.
+  pub at_end : (text old new : List ℕ) (r : Bool) → text ≡ [] → PushesValue (IsCountedName name) old new r → PushesValue (SpellsNames name text) old new r
+  at_end text old new r empty pushed = pushed_as (IsCountedName name) (SpellsNames name text) old new r into back pushed where
+    into : (octets : List ℕ) → IsCountedName name octets → SpellsNames name text octets
+    into octets is = ([], subst (λ (t : List ℕ). SpellsOctets t []) (sym empty) spelled_end, end_name octets is)
 
--- If names can't be read, they are no protocols.
-pub no_list : (text empty old new : List ℕ) (e : TextError) → empty ≡ [] → AppendsOctetsIf ⊤ (NamesFrom empty text) old new (Err e) → ReadsOctets (AreProtocols text) (Err e)
-no_list text empty old new e none (inl memory) = inl memory.0
-no_list text empty old new e none (inr bad) =
-    inr (bad.0, λ value are. bad.1 value (subst (λ (n : List ℕ). NamesFrom n text value) (sym none) (names_of text value are)))
+    back : (octets : List ℕ) → SpellsNames name text octets → IsCountedName name octets
+    back octets (listed, spells, names) =
+        let nothing = spelled_nothing [] listed refl (subst (λ (t : List ℕ). SpellsOctets t listed) empty spells) in
+        name_end octets (subst (λ (os : List ℕ). NamesFrom name os octets) nothing names)
 
--- a string of such a list
-pub alpn_read : (text bytes octets slice : List ℕ) (r : Result (Vec ℕ) TextError) → bytes ≡ text → slice ≡ octets → SpellsString bytes octets
-    → ReadsOctets (AreProtocols slice) r → ReadsOctets (IsAlpn text) r
-alpn_read text bytes octets slice (Ok value) same equal spells are =
-    (octets, subst (λ (t : List ℕ). SpellsString t octets) same spells, subst (λ (os : List ℕ). AreProtocols os value.items) equal are)
-alpn_read text bytes octets slice (Err e) same equal spells (inl memory) = inl memory
-alpn_read text bytes octets slice (Err e) same equal spells (inr bad) =
-    inr (
-      bad.0,
-      λ value is.
-          let one = one_string text is.0 octets is.1 (subst (λ (t : List ℕ). SpellsString t octets) same spells) in
-          bad.1 value (subst (λ (os : List ℕ). AreProtocols os value) (one ∙ sym equal) is.2),
+  -- a text that begins with a comma
+  module _ (text after : List ℕ) (begins : string_at text ≡ split 44 after) where
+    split_comma : (octets : List ℕ) → SpellsNames name text octets → (others : List ℕ) × IsCounted name × (octets ≡ (length name ∷ name) ++ others) × SpellsNames [] after others
+    split_comma octets (listed, spells, names) =
+        let first = spelled_first text after listed 44 begins spells in
+        let parts = name_comma first.0 octets (subst (λ (os : List ℕ). NamesFrom name os octets) first.1 names) in
+        (parts.0, parts.1, parts.2, (first.0, first.2, parts.3))
+
+    -- If the name before it is appended and then the names after it, the names of the whole text are appended.
+    pub at_comma : (old middle new : List ℕ) (r : Bool) → PushesValue (IsCountedName name) old middle true → PushesValue (SpellsNames [] after) middle new r
+        → PushesValue (SpellsNames name text) old new r
+    at_comma old middle new true (octets, is, e) (others, (listed, spells, names), f) = (
+      (length name ∷ name) ++ others,
+      (44 ∷ listed, spelled_more text after listed 44 begins spells, comma_name listed others is.0 names),
+      both_pushed old middle new (length name ∷ name) others ((length name ∷ name) ++ others) (e ∙ ap (λ (xs : List ℕ). old ++ xs) is.1) f refl,
     )
+    at_comma old middle new false (octets, is, e) bad = λ all are.
+        let parts = split_comma all are in
+        exceeds_with old middle (length name ∷ name) parts.0 all (e ∙ ap (λ (xs : List ℕ). old ++ xs) is.1) parts.2 (bad parts.0 parts.3)
 
--- If a string can't be read, it is no list of protocols.
-pub not_alpn : (text bytes : List ℕ) (e : TextError) → bytes ≡ text → ReadsOctets (SpellsString bytes) (Err e) → ReadsOctets (IsAlpn text) (Err e)
-not_alpn text bytes e same (inl memory) = inl memory
-not_alpn text bytes e same (inr bad) = inr (bad.0, λ value is. bad.1 is.0 (subst (λ (t : List ℕ). SpellsString t is.0) (sym same) is.1))
+    -- If the name before it can't be appended, the names of the text can't be.
+    pub at_bad_comma : (old middle : List ℕ) → PushesValue (IsCountedName name) old middle false → NamesExceed name text old
+    at_bad_comma old middle bad all are =
+        let parts = split_comma all are in
+        exceeds_more old (length name ∷ name) parts.0 all parts.2 (bad (length name ∷ name) (parts.1, refl))
+
+  -- a text that begins with another octet
+  module _ (text after : List ℕ) (first : ℕ) (begins : string_at text ≡ split first after) where
+    listed_first : (octets : List ℕ) → SpellsNames name text octets → (others : List ℕ) × SpellsOctets after others × NamesFrom name (first ∷ others) octets
+    listed_first octets (listed, spells, names) =
+        let parts = spelled_first text after listed first begins spells in
+        (parts.0, parts.2, subst (λ (os : List ℕ). NamesFrom name os octets) parts.1 names)
+
+    -- If no octet of a name is there, it spells no names.
+    pub no_name : first ≢ 44 → BeginsNone first after → (old : List ℕ) → NamesExceed name text old
+    no_name other nothing old all are =
+        let parts = listed_first all are in
+        absurd (no_octet (first ∷ parts.0) (omega arith) other (nothing parts.0 parts.1) all parts.2)
+
+    module _ (left : List ℕ) (o : ℕ) (is : BeginsName first after o left) where
+      move_octet : (octets : List ℕ) → SpellsNames name text octets → SpellsNames (name ++ o ∷ []) left octets
+      move_octet octets are =
+          let parts = listed_first octets are in
+          let rest = is.begins parts.0 parts.1 in
+          (rest.0, rest.1, name_octet (first ∷ parts.0) rest.0 octets o rest.2 parts.2)
+
+      move_back : (octets : List ℕ) → SpellsNames (name ++ o ∷ []) left octets → SpellsNames name text octets
+      move_back octets (listed, spells, names) =
+          let parts = is.follows listed spells in
+          (first ∷ parts.0, spelled_more text after parts.0 first begins parts.1, octet_name (first ∷ parts.0) listed octets o parts.2 names)
+
+      -- What appends the names after an octet, with this octet added to the name, appends those of the text.
+      pub at_octet : (longer old new : List ℕ) (r : Bool) → longer ≡ name ++ o ∷ [] → PushesValue (SpellsNames longer left) old new r → PushesValue (SpellsNames name text) old new r
+      at_octet longer old new r same pushed =
+          pushed_as (SpellsNames (name ++ o ∷ []) left) (SpellsNames name text) old new r move_back move_octet (subst (λ (n : List ℕ). PushesValue (SpellsNames n left) old new r) same pushed)
+
+      -- A name has at most 255 octets.
+      pub at_full : 255 ≤ length name → (old : List ℕ) → NamesExceed name text old
+      at_full full old all are =
+          let names = (move_octet all are).2 in
+          let most = names.counted.0.1 in
+          absurd (omega (arith, most, length-append (name ++ o ∷ []) names.more, length-append name (o ∷ [])))
+
+escaped_read : (first o : ℕ) (after : List ℕ) → first ≡ 92 → (o == 44) || (o == 92) ≡ true → octet_at (first ∷ o ∷ after) ≡ split o after
+escaped_read first o after slash is =
+    ap (λ (f : ℕ). octet_at (f ∷ o ∷ after)) slash ∙ sym (ap (λ (xs : List ℕ). octet_at (xs ++ after)) (special o is)) ∙ octet_read o after
+
+-- A comma or a backslash after a backslash is an octet of a name.
+pub escaped_name : (first : ℕ) (text left : List ℕ) (o : ℕ) → first ≡ 92 → (o == 44) || (o == 92) ≡ true → string_at text ≡ split o left → BeginsName first text o left
+escaped_name first text left o slash is begins = record {
+  begins = λ octets spells.
+      let parts = spelled_first text left octets o begins spells in
+      (parts.0, parts.2, ap (λ (os : List ℕ). octet_at (first ∷ os)) parts.1 ∙ escaped_read first o parts.0 slash is);
+  follows = λ octets spells. (o ∷ octets, spelled_more text left octets o begins spells, escaped_read first o octets slash is);
+  shorter = let less = spelled_shorter text left o begins in omega arith;
+}
+
+-- Whether an octet is one of those that are after a backslash.
+pub is_comma : (o : ℕ) → o ≡ 44 → (o == 44) || (o == 92) ≡ true
+is_comma o is = ap (λ (n : ℕ). (n == 44) || (n == 92)) is
+
+pub is_slash : (o : ℕ) → o ≡ 92 → (o == 44) || (o == 92) ≡ true
+is_slash o is = ap (λ (n : ℕ). (n == 44) || (n == 92)) is
+
+-- Names that are appended are those of a character string.
+pub alpn_pushed : (text inner bytes empty old new : List ℕ) (r : Bool) → inner ≡ unquoted text → bytes ≡ inner → empty ≡ []
+    → PushesValue (SpellsNames empty bytes) old new r → PushesValue (IsAlpn text) old new r
+alpn_pushed text inner bytes empty old new r between same none pushed = pushed_as (SpellsNames empty bytes) (IsAlpn text) old new r into back pushed where
+  within : bytes ≡ unquoted text
+  within = same ∙ between
+
+  into : (octets : List ℕ) → SpellsNames empty bytes octets → IsAlpn text octets
+  into octets (listed, spells, names) = (
+    listed,
+    subst (λ (t : List ℕ). SpellsOctets t listed) within spells,
+    protocols_of listed octets (subst (λ (n : List ℕ). NamesFrom n listed octets) none names),
+  )
+
+  back : (octets : List ℕ) → IsAlpn text octets → SpellsNames empty bytes octets
+  back octets (listed, spells, are) = (
+    listed,
+    subst (λ (t : List ℕ). SpellsOctets t listed) (sym within) spells,
+    subst (λ (n : List ℕ). NamesFrom n listed octets) (sym none) (names_of listed octets are),
+  )

@@ -1,27 +1,28 @@
 -- Values of service parameters with a named key.
 use Rattle.std.proofs.Common.{◌≡◌, ◌∙◌, ◌≢◌, ℕ, zero, suc, ◌-◌, ◌/◌, ◌%◌, ◌≤◌, ◌==◌, Bool, true, false, List, [], ◌∷◌, ◌++◌, length, get_or, refl, sym, ap, subst, arith, ne_eqb}
-use Rattle.std.specs.Prelude.{Result, Ok, ◌&&◌, nat_le, slice_index}
+use Rattle.std.proofs.Common.{◌↔◌, append-nil}
+use Rattle.std.specs.Prelude.{◌&&◌, IsTrue, nat_le, slice_index}
 use Rattle.std.specs.Bool.{MatchBool}
-use Rattle.std.specs.Global.{Vec}
 use Rattle.std.specs.List.{flat_map}
 use Rattle.std.specs.Net.Grammar.{IsDotted}
 use Rattle.std.specs.Str.Parse.{IsNumeral, digits_value}
 use Rattle.std.proofs.lemmas.Bool.{and_parts, cond-false, eqb-true, false≢true}
-use Rattle.fields_text.specs.declared.text_error.TextError.{TextError}
-use Rattle.fields_text.specs.Octets.{IsBase64}
-use Rattle.fields_text.specs.Reading.{ReadsOctets}
-use Rattle.fields_text.specs.Strings.{SpellsString, is_quoted, unquoted}
+use Rattle.std.proofs.lemmas.List.{nil_from_length}
+use Rattle.fields_text.specs.Strings.{SpellsOctets, SpellsString, is_quoted, unquoted}
 use Rattle.fields_read.specs.Addresses.{IsIpv6Word}
-use Rattle.fields_read.specs.Reading.{AppendsOctets}
 use Rattle.fields_read.specs.Laws.{RepresentsOne}
 use Rattle.fields_read.proofs.theory.OneWords.{one_ipv4, one_ipv6, same_value}
 use Rattle.fields_read.proofs.theory.StringLaws.{within_is}
 use Rattle.fields_read.proofs.theory.StringLemmas.{one_string}
 use Rattle.fields_print.specs.ParameterItems.{two_octets}
+use Rattle.fields_read_parameters.specs.AnyOrder.{AddsValues, AreIncreasing, InAnyOrder}
 use Rattle.fields_read_parameters.specs.ParameterValues.{AreHints, AreJoined, AreMandatory, AreProtocols, IsAlpn, IsEch, IsHint, IsListedKey, IsNamedValue, IsNothing, IsPort, comma_texts}
-use Rattle.fields_read_parameters.proofs.AnyOrderLemmas.{one_order}
+use Rattle.fields_read_parameters.specs.PushedValues.{PushesKeys, PushesOctets, PushesValue}
+use Rattle.fields_read_parameters.proofs.AnyOrderLemmas.{adds_all, adds_not, one_order}
 use Rattle.fields_read_parameters.proofs.KeyLemmas.{one_key}
 use Rattle.fields_read_parameters.proofs.ProtocolLemmas.{one_list}
+use Rattle.fields_read_parameters.proofs.PushLemmas.{none_pushed, one_pushed}
+use Rattle.fields_read_parameters.proofs.SpelledLemmas.{spelled_empty, spelled_end}
 
 -- a text that isn't in quotes
 last_is : (text : List ℕ) (n : ℕ) → length text ≡ suc n → get_or text n 0 ≡ 34 → (front : List ℕ) × (text ≡ front ++ 34 ∷ [])
@@ -65,14 +66,6 @@ no_last_quote text after whole none =
 pub in_quotes : (text after inner : List ℕ) → text ≡ 34 ∷ after → after ≡ inner ++ 34 ∷ [] → inner ≡ unquoted text
 in_quotes text after inner whole end = sym (ap unquoted (whole ∙ ap (λ (xs : List ℕ). 34 ∷ xs) end) ∙ within_is inner)
 
--- reading the text between the quotes
-pub between_quotes : (Is : List ℕ → List ℕ → Type 0) (text inner : List ℕ) (r : Result (Vec ℕ) TextError) → inner ≡ unquoted text → ReadsOctets (Is inner) r → ReadsOctets (Is (unquoted text)) r
-between_quotes Is text inner r same reads = subst (λ (t : List ℕ). ReadsOctets (Is t) r) same reads
-
--- the value of a key
-pub of_key : (key k : ℕ) (text : List ℕ) (r : Result (Vec ℕ) TextError) → key ≡ k → ReadsOctets (IsNamedValue k text) r → ReadsOctets (IsNamedValue key text) r
-of_key key k text r same reads = subst (λ (n : ℕ). ReadsOctets (IsNamedValue n text) r) (sym same) reads
-
 -- by the tests of the key
 abbrev By : Bool → Bool → Bool → Bool → Bool → Bool → Bool → List ℕ → List ℕ → Type 0
 By b0 b1 b3 b4 b5 b6 b7 text value =
@@ -84,23 +77,40 @@ By b0 b1 b3 b4 b5 b6 b7 text value =
     MatchBool b6 (AreHints 6 (unquoted text) value) (
     MatchBool b7 (SpellsString text value) (IsNothing text value)))))))
 
--- no value
-pub not_nothing : (text octets : List ℕ) → SpellsString text octets → length octets ≢ 0 → (value : List ℕ) → ¬ (IsNothing text value)
-not_nothing text octets spells some value (others, none) = let same = ap length (one_string text octets value spells others) in some (same ∙ none)
+-- A text is no value exactly if nothing is in it.
+pub nothing_is : (text inner : List ℕ) (r : Bool) → inner ≡ unquoted text → r ≡ (length inner == 0) → IsTrue r ↔ IsNothing text []
+nothing_is text inner r between is = (into, back) where
+  into : IsTrue r → IsNothing text []
+  into some =
+      let none = eqb-true (length inner) 0 (sym is ∙ some) in
+      (subst (λ (t : List ℕ). SpellsOctets t []) (sym (nil_from_length inner none) ∙ between) spelled_end, refl)
 
--- base64 of some octets
-pub not_ech : (text octets : List ℕ) → IsBase64 text octets → length octets ≡ 0 → (value : List ℕ) → ¬ (IsEch text value)
-not_ech text octets is empty value (others, some) =
-    let same : octets ≡ value = cc (sym is ∙ others) in
-    let sizes = ap length same in
-    omega arith
+  back : IsNothing text [] → IsTrue r
+  back nothing =
+      let empty : unquoted text ≡ [] = spelled_empty (unquoted text) [] nothing.0 refl in
+      is ∙ ap (λ (t : List ℕ). length t == 0) (between ∙ empty)
+
+-- No value is appended.
+pub nothing_pushed : (text old : List ℕ) (r : Bool) → IsTrue r ↔ IsNothing text [] → PushesValue (IsNothing text) old old r
+nothing_pushed text old true is = ([], is.0 refl, sym (append-nil old))
+nothing_pushed text old false is = λ octets nothing.
+    let none : octets ≡ [] = nil_from_length octets nothing.1 in
+    absurd (false≢true (is.1 (subst (IsNothing text) none nothing)))
+
+-- the key is none of those with a value
+pub other_key : (key : ℕ) (text old new : List ℕ) (r : Bool) → key ≢ 0 → key ≢ 1 → key ≢ 3 → key ≢ 4 → key ≢ 5 → key ≢ 6 → key ≢ 7 → PushesValue (IsNothing text) old new r
+    → PushesValue (IsNamedValue key text) old new r
+other_key key text old new r n0 n1 n3 n4 n5 n6 n7 pushed = subst (λ (Is : List ℕ → Type 0). PushesValue Is old new r) (sym same) pushed where
+  same : IsNamedValue key text ≡ IsNothing text
+  same =
+      λ t value.
+      By (ne_eqb key 0 n0 t) (ne_eqb key 1 n1 t) (ne_eqb key 3 n3 t) (ne_eqb key 4 n4 t) (ne_eqb key 5 n5 t) (ne_eqb key 6 n6 t) (ne_eqb key 7 n7 t) text value
 
 -- a port
-pub port_read : (text : List ℕ) (n : ℕ) → (IsNumeral 10 text × (digits_value 10 text ≤ 65535)) × (n ≡ digits_value 10 text) → IsPort text (n / 256 ∷ n % 256 ∷ [])
+port_read : (text : List ℕ) (n : ℕ) → (IsNumeral 10 text × (digits_value 10 text ≤ 65535)) × (n ≡ digits_value 10 text) → IsPort text (n / 256 ∷ n % 256 ∷ [])
 port_read text n read = let most = read.0.1 in let same = read.1 in (n, (read.0.0, sym read.1), omega arith, refl)
 
--- A text that is no number of 16 bits is no port.
-pub not_port : (text : List ℕ) → ¬ (IsNumeral 10 text × (digits_value 10 text ≤ 65535)) → (value : List ℕ) → ¬ (IsPort text value)
+not_port : (text : List ℕ) → ¬ (IsNumeral 10 text × (digits_value 10 text ≤ 65535)) → (value : List ℕ) → ¬ (IsPort text value)
 not_port text none value (n, is, small, whole) = let same = is.1 in none (is.0, omega arith)
 
 -- addresses
@@ -123,10 +133,6 @@ no_ipv6_hint key text bytes other same none octets is =
     none octets (subst (λ (t : List ℕ). IsIpv6Word t octets) (sym same)
     (subst (λ (b : Bool). MatchBool b (IsDotted text octets) (IsIpv6Word text octets)) (ne_eqb key 4 other) is))
 
--- the octets that are appended
-pub all_appended : (Is : List ℕ → Type 0) (old new : List ℕ) (u : Unit {0}) → old ≡ [] → AppendsOctets Is old new (Ok u) → Is new
-all_appended Is old new u empty (octets, is, e) = subst Is (sym (e ∙ ap (λ (xs : List ℕ). xs ++ octets) empty)) is
-
 -- a text is one value
 one_joined : (Is : List ℕ → List ℕ → Type 0) → RepresentsOne Is → RepresentsOne (AreJoined Is)
 one_joined Is one [] xs ys a b = a ∙ sym b
@@ -140,6 +146,24 @@ one_mandatory text v w a b =
     let same =
     one_order IsListedKey (λ (key : ℕ). key) (λ t m n x y. one_key t m n x.0 y.0) (comma_texts text) a.keys b.keys a.listed b.listed a.increasing b.increasing in
     a.octets ∙ ap (λ (keys : List ℕ). flat_map two_octets keys) same ∙ sym b.octets
+
+mandatory_is : (text keys : List ℕ) → InAnyOrder IsListedKey (comma_texts text) keys × AreIncreasing (λ (key : ℕ). key) 0 keys → AreMandatory text (flat_map two_octets keys)
+mandatory_is text keys both = record { keys = keys; listed = both.0; increasing = both.1; octets = refl }
+
+-- the keys of a text, added to none
+module _ (text none keys old new : List ℕ) where
+  -- Keys that are appended are the value of their text.
+  pub keys_pushed : (r : Bool) → none ≡ [] → AddsValues (λ (key : ℕ). key) IsListedKey (comma_texts text) none keys true → PushesKeys keys old new r → PushesValue (AreMandatory text) old new r
+  keys_pushed r empty adds pushed =
+      let both = adds_all IsListedKey (λ (key : ℕ). key) (comma_texts text) none keys empty adds in
+      let is = mandatory_is text keys both in
+      one_pushed (AreMandatory text) (flat_map two_octets keys) old new r is (λ other other_is. one_mandatory text other (flat_map two_octets keys) other_is is) pushed
+
+  -- A text whose keys can't be added has no value.
+  pub keys_refused : none ≡ [] → AddsValues (λ (key : ℕ). key) IsListedKey (comma_texts text) none keys false → PushesValue (AreMandatory text) old new false
+  keys_refused empty adds =
+      let bad = adds_not IsListedKey (λ (key : ℕ). key) (comma_texts text) none keys empty adds in
+      none_pushed (AreMandatory text) old new (λ value are. bad are.keys are.listed are.increasing)
 
 one_alpn : (text v w : List ℕ) → IsAlpn text v → IsAlpn text w → v ≡ w
 one_alpn text v w (octets, a, first) (others, b, second) =
@@ -161,6 +185,27 @@ one_by false false false false true b6 b7 text v w a b = same_value _ v w a.0 b.
 one_by false false false false false true b7 text v w a b = one_joined (IsHint 6) one_ipv6 (comma_texts (unquoted text)) v w a b
 one_by false false false false false false true text v w a b = one_string text v w a b
 one_by false false false false false false false text v w a b = one_nothing text v w a b
+
+-- A text is at most one hint.
+pub one_hint : (key : ℕ) → RepresentsOne (IsHint key)
+one_hint key text v w a b = by_test (key == 4) text v w a b where
+  by_test : (b : Bool) (text v w : List ℕ) → MatchBool b (IsDotted text v) (IsIpv6Word text v) → MatchBool b (IsDotted text w) (IsIpv6Word text w) → v ≡ w
+  by_test true text v w a b = one_ipv4 text v w a b
+  by_test false text v w a b = one_ipv6 text v w a b
+
+-- A hint that is appended.
+pub hint_pushed : (key : ℕ) (text octets old new : List ℕ) (r : Bool) → IsHint key text octets → PushesOctets octets old new r → PushesValue (IsHint key text) old new r
+hint_pushed key text octets old new r is pushed = one_pushed (IsHint key text) octets old new r is (λ other other_is. one_hint key text other octets other_is is) pushed
+
+-- A port that is appended.
+pub port_pushed : (text old new : List ℕ) (n : ℕ) (r : Bool) → (IsNumeral 10 text × (digits_value 10 text ≤ 65535)) × (n ≡ digits_value 10 text) → PushesOctets (n / 256 ∷ n % 256 ∷ []) old new r
+    → PushesValue (IsPort text) old new r
+port_pushed text old new n r read pushed =
+    one_pushed (IsPort text) (n / 256 ∷ n % 256 ∷ []) old new r (port_read text n read) (λ other is. one_port text other (n / 256 ∷ n % 256 ∷ []) is (port_read text n read)) pushed
+
+-- A text that is no number of 16 bits is no port.
+pub no_port : (text old new : List ℕ) → ¬ (IsNumeral 10 text × (digits_value 10 text ≤ 65535)) → PushesValue (IsPort text) old new false
+no_port text old new none = none_pushed (IsPort text) old new (not_port text none)
 
 -- A text is at most one value of a key.
 pub one_value : (key : ℕ) (text v w : List ℕ) → IsNamedValue key text v → IsNamedValue key text w → v ≡ w

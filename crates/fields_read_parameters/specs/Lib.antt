@@ -1,7 +1,9 @@
 pub mod AnyOrder
+pub mod KeyMarks
 pub mod Laws
 pub mod ParameterKeys
 pub mod ParameterValues
 pub mod ParameterWords
 pub mod ProtocolNames
+pub mod PushedValues
 pub mod ReadParameters

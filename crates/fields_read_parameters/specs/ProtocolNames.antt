@@ -1,12 +1,12 @@
 -- Names of a list with commas between them, of which a first part is read. RFC 9460 appendix A.1.
-use Rattle.std.specs.Prelude.{◌≡◌, ℕ, ◌==◌, if◌then◌else◌, List, [], ◌∷◌, ◌++◌, map, length, Option, Some, None, Result, ⊤}
+use Rattle.std.specs.Prelude.{◌≡◌, ℕ, ◌==◌, ◌<◌, ◌≤◌, if◌then◌else◌, Bool, List, [], ◌∷◌, ◌++◌, map, length, Option, Some, None}
 use Rattle.std.specs.List.{AllByRecursion, flat_map}
 use Rattle.fields_print.specs.Separated.{comma_text}
 use Rattle.fields_text.specs.String.{backslash}
-use Rattle.fields_text.specs.declared.text_error.TextError.{TextError}
-use Rattle.fields_read.specs.Reading.{AppendsOctetsIf}
+use Rattle.fields_text.specs.Strings.{SpellsOctets}
 use Rattle.fields_read.specs.Salts.{IsCounted}
 use Rattle.fields_read_parameters.specs.ParameterValues.{comma, escaped}
+use Rattle.fields_read_parameters.specs.PushedValues.{PushesValue}
 
 -- the octet after a backslash, if it is a comma or a backslash, and the text after it
 abbrev pub escaped_at : List ℕ → Option (ℕ × List ℕ)
@@ -36,7 +36,25 @@ pub record NamesFrom (name text value : List ℕ) : Type 0 where
   pub listed : text ≡ comma_text (map escaped (more ∷ others))
   pub octets : value ≡ flat_map (λ name. length name ∷ name) ((name ++ more) ∷ others)
 
+-- a text of a character string spells such names
+abbrev pub SpellsNames : List ℕ → List ℕ → List ℕ → Type 0
+SpellsNames name text value = (octets : List ℕ) × SpellsOctets text octets × NamesFrom name octets value
+
+-- A list of the octet `first` and those that the text spells begins with an octet of a name. Those that `left` spells come next, and `left` isn't longer than the text.
+pub record BeginsName (first : ℕ) (text : List ℕ) (octet : ℕ) (left : List ℕ) : Type 0 where
+  pub begins : (octets : List ℕ) → SpellsOctets text octets → (others : List ℕ) × SpellsOctets left others × (octet_at (first ∷ octets) ≡ Some (octet, others))
+  pub follows : (others : List ℕ) → SpellsOctets left others → (octets : List ℕ) × SpellsOctets text octets × (octet_at (first ∷ octets) ≡ Some (octet, others))
+  pub shorter : length left ≤ length text
+
+-- such a list begins with no octet of a name
+abbrev pub BeginsNone : ℕ → List ℕ → Type 0
+BeginsNone first text = (octets : List ℕ) → SpellsOctets text octets → octet_at (first ∷ octets) ≡ None
+
+-- the names of a text, if it spells any, don't fit after the octets of a value
+abbrev pub NamesExceed : (name text value : List ℕ) → Type 0
+NamesExceed name text value = (octets : List ℕ) → SpellsNames name text octets → 65535 < length (value ++ octets)
+
 -- what appending the names of a text returns, which follows from what appending those that are left after a first part of it returns
 abbrev pub ContinuesNames : (name text value begun left now : List ℕ) → Type 0
 ContinuesNames name text value begun left now =
-    (new : List ℕ) (result : Result Unit TextError) → AppendsOctetsIf ⊤ (NamesFrom begun left) now new result → AppendsOctetsIf ⊤ (NamesFrom name text) value new result
+    (new : List ℕ) (pushed : Bool) → PushesValue (SpellsNames begun left) now new pushed → PushesValue (SpellsNames name text) value new pushed

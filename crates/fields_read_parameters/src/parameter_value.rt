@@ -1,20 +1,21 @@
 //! Values of service parameters with a named key (RFC 9460 section 7, RFC 9848 section 3, RFC 9461
-//! section 5, RFC 9540 section 4).
-ghost use Rattle.std.specs.Prelude.{◌≡◌, ⊤};
-ghost use Rattle.fields_read.specs.Reading.{AppendsOctets, AppendsOctetsIf};
-ghost use Rattle.fields_read_parameters.specs.ParameterValues.{AreHints, IsEch, IsHint, IsNamedValue, IsNothing, IsPort};
-ghost use Rattle.fields_text.specs.Reading.{ReadsOctets};
+//! section 5, RFC 9540 section 4). They take no heap memory. What appends one returns `false` if
+//! the text is none that fits.
+ghost use Rattle.std.specs.Prelude.{◌≡◌, ◌↔◌, [], IsTrue};
+ghost use Rattle.fields_read_parameters.specs.ParameterValues.{AreHints, IsHint, IsNamedValue, IsNothing, IsPort};
+ghost use Rattle.fields_read_parameters.specs.PushedValues.{PushesValue};
 ghost use Rattle.fields_text.specs.Strings.{unquoted};
 
-use crate::mandatory::read_mandatory;
+use crate::base64_value::push_ech;
+use crate::mandatory::push_mandatory;
 use crate::parameter_key::LARGEST_NUMBER;
-use crate::protocols::read_alpn;
-use fields_read::{push_octets, read_ipv4, read_ipv6};
-use fields_text::{TextError, read_base64, read_number, read_string};
-use std::alloc::Global;
+use crate::protocols::push_alpn;
+use crate::value_octets::{ValueOctets, push_octets};
+use fields_read::{read_ipv4, read_ipv6};
+use fields_text::{push_string, read_number};
 
 /// The text between the quotes of a text, or the text if it has none.
-fn unquoted(text: &str) -> &str
+pub(crate) fn unquoted(text: &str) -> &str
     ensures { result.now ≡ unquoted text.now }
 {
     let Some(after) = text.strip_prefix('"') else {
@@ -26,104 +27,66 @@ fn unquoted(text: &str) -> &str
     }
 }
 
-/// No octets, if the text is a string of none.
-fn read_nothing(alloc: Global, text: &str) -> Result<Vec<u8>, TextError>
-    ensures { ReadsOctets (IsNothing text.now) result }
+/// Whether the text is a string of no octets.
+fn is_nothing(text: &str) -> bool
+    ensures { IsTrue result ↔ IsNothing text.now [] }
 {
-    match read_string(alloc, text.as_bytes()) {
-        Ok(octets) => {
-            if octets.is_empty() {
-                Ok(octets)
-            } else {
-                Err(TextError::BadWord)
-            }
-        }
-        Err(error) => Err(error),
-    }
+    unquoted(text).is_empty()
 }
 
-/// The two octets of a port.
-fn read_port(alloc: Global, text: &str) -> Result<Vec<u8>, TextError>
-    ensures { ReadsOctets (IsPort text.now) result }
+/// Appends the two octets of a port.
+fn push_port(value: &mut ValueOctets, text: &str) -> bool
+    ensures { PushesValue (IsPort text.now) value.old.items value.new.items result }
 {
     let Some(port) = read_number(text, LARGEST_NUMBER) else {
-        return Err(TextError::BadWord);
+        return false;
     };
-    match Vec::from_slice(alloc, &[(port / 256) as u8, (port % 256) as u8]) {
-        Ok(octets) => Ok(octets),
-        Err(_) => Err(TextError::OutOfMemory),
-    }
-}
-
-/// The octets of base64, one at least.
-fn read_ech(alloc: Global, text: &str) -> Result<Vec<u8>, TextError>
-    ensures { ReadsOctets (IsEch text.now) result }
-{
-    match read_base64(alloc, text) {
-        Ok(octets) => {
-            if octets.is_empty() {
-                Err(TextError::BadWord)
-            } else {
-                Ok(octets)
-            }
-        }
-        Err(error) => Err(error),
-    }
+    push_octets(value, &[(port / 256) as u8, (port % 256) as u8])
 }
 
 /// Appends the octets of an address.
-fn push_hint(octets: &mut Vec<u8>, key: u16, text: &str) -> Result<(), TextError>
-    ensures { AppendsOctets (IsHint key text.now) octets.old.items octets.new.items result }
+fn push_hint(value: &mut ValueOctets, key: u16, text: &str) -> bool
+    ensures { PushesValue (IsHint key text.now) value.old.items value.new.items result }
 {
     if key == 4 {
         let Some(address) = read_ipv4(text.as_bytes()) else {
-            return Err(TextError::BadWord);
+            return false;
         };
-        return push_octets(octets, &address);
+        return push_octets(value, &address);
     }
     let Some(address) = read_ipv6(text.as_bytes()) else {
-        return Err(TextError::BadWord);
+        return false;
     };
-    push_octets(octets, &address)
+    push_octets(value, &address)
 }
 
 /// Appends the octets of addresses with commas between them.
-fn push_hints(octets: &mut Vec<u8>, key: u16, text: &str) -> Result<(), TextError>
-    ensures { AppendsOctetsIf ⊤ (AreHints key text.now) octets.old.items octets.new.items result }
+fn push_hints(value: &mut ValueOctets, key: u16, text: &str) -> bool
+    ensures { PushesValue (AreHints key text.now) value.old.items value.new.items result }
 {
     let mut left = text;
     'hints: while let Some((first, others)) = left.split_once(',') {
-        if let Err(error) = push_hint(octets, key, first) {
-            return Err(error);
+        if !push_hint(value, key, first) {
+            return false;
         }
         left = others;
     }
-    push_hint(octets, key, left)
+    push_hint(value, key, left)
 }
 
-/// The octets of addresses with commas between them.
-fn read_hints(alloc: Global, key: u16, text: &str) -> Result<Vec<u8>, TextError>
-    ensures { ReadsOctets (AreHints key text.now) result }
-{
-    let mut octets = Vec::new(alloc);
-    match push_hints(&mut octets, key, text) {
-        Ok(()) => Ok(octets),
-        Err(error) => Err(error),
-    }
-}
-
-/// The value of a named key.
-pub(crate) fn read_named(alloc: Global, key: u16, text: &str) -> Result<Vec<u8>, TextError>
-    ensures { ReadsOctets (IsNamedValue key text.now) result }
+/// Appends the value of a named key to no octets.
+pub(crate) fn push_named(value: &mut ValueOctets, key: u16, text: &str) -> bool
+    requires { value.old.items ≡ [] }
+    ensures { PushesValue (IsNamedValue key text.now) value.old.items value.new.items result }
 {
     match key {
-        0 => read_mandatory(alloc, unquoted(text)),
-        1 => read_alpn(alloc, text),
-        3 => read_port(alloc, unquoted(text)),
-        4 => read_hints(alloc, 4, unquoted(text)),
-        5 => read_ech(alloc, unquoted(text)),
-        6 => read_hints(alloc, 6, unquoted(text)),
-        7 => read_string(alloc, text.as_bytes()),
-        _ => read_nothing(alloc, text),
+        0 => push_mandatory(value, unquoted(text)),
+        1 => push_alpn(value, text),
+        3 => push_port(value, unquoted(text)),
+        4 => push_hints(value, 4, unquoted(text)),
+        5 => push_ech(value, unquoted(text)),
+        6 => push_hints(value, 6, unquoted(text)),
+        7 => push_string(value, text.as_bytes()),
+        _ => is_nothing(text),
     }
 }

@@ -1,9 +1,6 @@
 -- What is printed of RDATA reads back.
-use Rattle.std.proofs.Common.{◌∙◌, ℕ, ◌≤◌, List, length, sym, ap, subst, arith, inl, inr}
+use Rattle.std.proofs.Common.{◌∙◌, ℕ, List, sym, ap, subst, arith, inl, inr}
 use Rattle.hex.specs.Hex.{IsBytes}
-use Rattle.dns_wire.specs.Encoders.{Plain, nothing}
-use Rattle.dns_wire.specs.Parts.{Part, parts_size}
-use Rattle.dns_wire.proofs.theory.NameSizes.{parts_are_short}
 use Rattle.fields_octets.specs.Data.{any_laid_out, parts_of, rtype_of}
 use Rattle.fields_octets.specs.DataOrders.{octets_of_parts}
 use Rattle.fields_octets.specs.Layouts.{layout_of}
@@ -15,7 +12,6 @@ use Rattle.fields_read_words.specs.FieldLaws.{AreWordsOfData, DataSplits}
 use Rattle.fields_read_words.specs.LineWords.{AreWordsOf, texts}
 use Rattle.fields_read_words.specs.ListLaws.{opaque_words}
 use Rattle.fields_read_words.proofs.LineLemmas.{one_list}
-use Rattle.fields_octets.proofs.theory.PartOctets.{plain_octets}
 use Rattle.fields_octets.proofs.theory.UncompressedOctets.{are_parts, uncompressed_back}
 use Rattle.fields_read_records.specs.DataWords.{AreDataWords}
 use Rattle.fields_read_records.specs.FieldWords.{Words}
@@ -24,9 +20,7 @@ use Rattle.fields_read_records.proofs.FieldsBack.{fields_back, fields_unmarked}
 use Rattle.fields_read_records.proofs.FirstFields.{AreLayoutParts, data_ends}
 use Rattle.fields_read_records.proofs.PrintedLaws.{PrintedLaws}
 use Rattle.fields_read_records.proofs.OpaqueBack.{opaque_back}
-
-short_octets : (parts : List Part) → length (octets_of_parts parts) ≤ parts_size parts
-short_octets parts = subst (λ (xs : List ℕ). length xs ≤ parts_size parts) (plain_octets parts nothing 0) (parts_are_short Plain parts nothing 0)
+use Rattle.fields_read_records.proofs.RdataLemmas.{short_octets}
 
 -- the parts of RDATA
 data_parts : (fields : FieldData) → HasOctets fields → AreLayoutParts (layout_of (kinds_of (rtype_of fields))) (parts_of fields)

@@ -6,8 +6,8 @@ use Rattle.std.specs.Net.Grammar.{IsNumber}
 use Rattle.std.specs.Str.Parse.{IsNumeral}
 use Rattle.std.proofs.lemmas.Fmt.{decimal_is_IsNumeral}
 use Rattle.std.proofs.lemmas.List.{length-map}
-use Rattle.dns_iana.specs.Mnemonics.{type_mnemonics}
 use Rattle.dns_iana.specs.NumberTexts.{IsMnemonic, IsNumbered}
+use Rattle.dns_iana.specs.Registry.{registered_types}
 use Rattle.dns_iana.proofs.theory.MnemonicLemmas.{no_mnemonic}
 use Rattle.fields_print.specs.ParameterItems.{ParameterItem}
 use Rattle.fields_print.specs.Parameters.{key_name}
@@ -17,7 +17,7 @@ use Rattle.fields_read.specs.IdentityWords.{IsHostIdentity}
 use Rattle.fields_read.specs.LocationWords.{IsAngle, IsLocation}
 use Rattle.fields_read.specs.PrefixWords.{ArePrefixWords, IsAddressWord, IsPrefixWord}
 use Rattle.fields_read.specs.TypeMapWords.{AreTypes}
-use Rattle.fields_read.specs.TypeWords.{IsTypeWord, table_mnemonics}
+use Rattle.fields_read.specs.TypeWords.{IsTypeWord}
 use Rattle.fields_read_parameters.specs.AnyOrder.{InAnyOrder}
 use Rattle.fields_read_parameters.specs.ParameterWords.{IsParameterWord}
 use Rattle.fields_read_records.specs.DataWords.{IsMarked}
@@ -45,13 +45,9 @@ number_differs (d ∷ digits) n is = λ e.
 abbrev begins_marked : List ℕ → Bool
 begins_marked text = slice_index text 0 == 92
 
-table_differs : (n : ℕ) → ¬ (IsMnemonic table_mnemonics (codes "\\#") n)
-unfolding table_mnemonics
-table_differs n h = no_mnemonic (codes "\\#") begins_marked table_mnemonics n refl h refl
-
-mnemonic_differs : (n : ℕ) → ¬ (IsMnemonic type_mnemonics (codes "\\#") n)
-unfolding type_mnemonics
-mnemonic_differs n h = no_mnemonic (codes "\\#") begins_marked type_mnemonics n refl h refl
+name_differs : (n : ℕ) → ¬ (IsMnemonic registered_types (codes "\\#") n)
+unfolding registered_types
+name_differs n h = no_mnemonic (codes "\\#") begins_marked registered_types n refl h refl
 
 numbered_differs : (n : ℕ) → ¬ (IsNumbered (codes "TYPE") (codes "\\#") n)
 numbered_differs n x =
@@ -60,9 +56,8 @@ numbered_differs n x =
     omega (arith, front, size, length-append x.front x.digits)
 
 no_type : (n : ℕ) → ¬ (IsTypeWord (codes "\\#") n)
-no_type n (inl h) = table_differs n h
-no_type n (inr (inl h)) = mnemonic_differs n h
-no_type n (inr (inr x)) = numbered_differs n x
+no_type n (inl h) = name_differs n h
+no_type n (inr x) = numbered_differs n x
 
 -- The word of a type is not `\#`.
 pub type_differs : (word : List ℕ) (n : ℕ) → IsTypeWord word n → word ≢ codes "\\#"

@@ -11,6 +11,7 @@ use Rattle.fields_octets.specs.declared.owned.OwnedFieldData.{OwnedFieldData}
 use Rattle.fields_octets.proofs.theory.UncompressedOctets.{one_uncompressed}
 use Rattle.fields_read.specs.Base32Words.{last_octets}
 use Rattle.fields_read.specs.Laws.{RepresentsOne}
+use Rattle.fields_read.specs.Reading.{Fails, FailsIf, HasValue}
 use Rattle.fields_read.specs.SizedWords.{IsSizedWords}
 use Rattle.fields_read.proofs.theory.LocationLemmas.{one_location}
 use Rattle.fields_read.proofs.theory.OneFields.{one_gateway, one_identity, one_relay}
@@ -18,10 +19,10 @@ use Rattle.fields_read.proofs.theory.OneMaps.{one_map, one_small_map}
 use Rattle.fields_read.proofs.theory.OneWords.{one_base64, one_eui, one_hash, one_hex, one_ipv4, one_ipv6, one_locator, one_name, one_salt, one_sized, one_time}
 use Rattle.fields_read.proofs.theory.PrefixLemmas.{one_prefixes}
 use Rattle.fields_read.proofs.theory.StringLemmas.{one_string}
-use Rattle.fields_read.proofs.theory.TypeMapLaws.{one_word}
+use Rattle.fields_read.proofs.theory.RegisteredLemmas.{one_word}
 use Rattle.fields_read_parameters.proofs.theory.OneParameters.{one_parameters}
 use Rattle.fields_text.specs.declared.text_error.TextError.{TextError}
-use Rattle.fields_read_records.specs.DataWords.{AreCountedDigits, AreDataWords, AreFields, IsDataText, ReadsData}
+use Rattle.fields_read_records.specs.DataWords.{AreCountedDigits, AreDataWords, AreFields, IsDataText, IsMarked, MayBeData, ReadsData}
 use Rattle.fields_read_records.specs.Extents.{extent_of}
 use Rattle.fields_read.specs.LengthOctets.{counted}
 use Rattle.fields_read_records.specs.FieldWords.{AreFieldWords, AreStrings, IsField, IsFieldOf, IsFieldWord, IsHash, IsNumberIn, IsOne, IsSalt, IsString, IsTime, IsType, Words}
@@ -184,3 +185,11 @@ data_read rtype words octets (Err e) are bad =
       bad.0,
       λ parts is. bad.1 parts (subst (λ (os : List ℕ). IsUncompressedData rtype os parts) (one_data rtype words is.octets octets is.are are) is.rdata),
     )
+
+-- Why there is no RDATA, if the words don't begin with `\#` and aren't read as fields.
+pub no_data : (rtype n : ℕ) (words : Words) (e : TextError) → n ≡ rtype → ¬ (IsMarked words) → Fails (AreFields (kinds_of n) words) e → FailsIf (MayBeData rtype words) (IsDataText rtype words) e
+no_data rtype n words e same unmarked (inl memory) = inl (memory.0, inr (unmarked, subst (λ (m : ℕ). HasValue (AreFields (kinds_of m) words)) same memory.1))
+no_data rtype n words e same unmarked (inr bad) = inr (bad.0, λ parts is. none is.octets is.are) where
+  none : (octets : List ℕ) → ¬ (AreDataWords rtype words octets)
+  none octets (inl is) = unmarked is.0
+  none octets (inr is) = bad.1 octets (subst (λ (m : ℕ). AreFields (kinds_of m) words octets) (sym same) is.1)

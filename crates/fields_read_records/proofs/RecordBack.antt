@@ -1,21 +1,20 @@
 -- What is printed of a record reads back, if what is printed of RDATA does.
-use Rattle.std.proofs.Common.{◌≡◌, ℕ, ◌<◌, ◌^◌, List, [], ◌∷◌, ◌++◌, drop, decimal, refl, ap, subst, arith, inl, inr}
-use Rattle.std.specs.Prelude.{Option, Some, None, codes, option_map, unwrap_or}
-use Rattle.std.specs.Str.{str_to_ascii_lowercase}
-use Rattle.std.proofs.lemmas.Fmt.{decimal_is_IsNumeral}
+use Rattle.std.proofs.Common.{◌≡◌, ℕ, ◌<◌, ◌^◌, List, [], ◌∷◌, drop, decimal, subst, arith}
+use Rattle.std.specs.Prelude.{codes}
 use Rattle.hex.specs.Hex.{IsBytes}
 use Rattle.dns_name.specs.Names.{IsName, Labels, uncompressed}
-use Rattle.dns_iana.specs.Classes.{SpellsClass, class_text}
-use Rattle.dns_iana.specs.Mnemonics.{class_mnemonics, mnemonic}
+use Rattle.dns_iana.specs.RegisteredTexts.{SpellsRegisteredClass}
+use Rattle.dns_iana.specs.Registry.{registered_classes}
 use Rattle.fields_octets.specs.Data.{rtype_of}
 use Rattle.fields_octets.specs.declared.field_data.FieldData.{FieldData}
 use Rattle.fields_read.specs.Laws.{NamesReadBack, TypesReadBack}
 use Rattle.fields_read.specs.NameWords.{IsNameText}
 use Rattle.fields_read.specs.TypeWords.{IsTypeWord}
 use Rattle.fields_read.proofs.theory.ByteLemmas.{labels_of_octets}
+use Rattle.fields_read.proofs.theory.RegisteredLemmas.{printed_spells}
 use Rattle.fields_print.specs.DataTexts.{data_line}
 use Rattle.fields_print.specs.RecordLines.{record_text}
-use Rattle.fields_print.specs.TypeNames.{type_word}
+use Rattle.fields_print.specs.TypeNames.{class_word, type_word}
 use Rattle.fields_print.specs.ZoneNames.{zone_name_text}
 use Rattle.fields_read_words.specs.LineWords.{AreWordsOf, texts}
 use Rattle.fields_read_words.specs.ListLaws.{RecordsSplit}
@@ -29,15 +28,9 @@ use Rattle.fields_read_records.proofs.OpaqueBack.{number_back}
 owner_back : NamesReadBack → (owner : Labels) (word : List ℕ) → IsName owner → IsBytes (uncompressed owner) → zone_name_text owner ≡ word → IsNameText word owner
 owner_back names owner word is bytes e = subst (λ (text : List ℕ). IsNameText text owner) e (names owner is (labels_of_octets owner bytes))
 
--- the class, by its mnemonic if it has one
-class_spelled : (n : ℕ) → n < 2 ^ 16 → (o : Option (List ℕ)) → mnemonic class_mnemonics n ≡ o → SpellsClass (unwrap_or o (codes "CLASS" ++ decimal n)) n
-class_spelled n small (Some name) e = inl (ap (option_map str_to_ascii_lowercase) e)
-class_spelled n small None e =
-    let digits = decimal_is_IsNumeral n (omega arith) in
-    inr record { front = codes "CLASS"; digits = decimal n; whole = refl; same = refl; numeral = digits.0; value = digits.1; fits = small }
-
-class_back : (n : ℕ) (word : List ℕ) → n < 2 ^ 16 → class_text n ≡ word → SpellsClass word n
-class_back n word small e = subst (λ (text : List ℕ). SpellsClass text n) e (class_spelled n small (mnemonic class_mnemonics n) refl)
+-- the class
+class_back : (n : ℕ) (word : List ℕ) → n < 2 ^ 16 → class_word n ≡ word → SpellsRegisteredClass word n
+class_back n word small e = subst (λ (text : List ℕ). SpellsRegisteredClass text n) e (printed_spells registered_classes (codes "CLASS") n small)
 
 -- the laws of the words of lines of RDATA
 abbrev pub LinesSplit : Type 0
@@ -46,7 +39,7 @@ LinesSplit = (fields : FieldData) → HasOctets fields → (words : List (List �
 module _ (types : TypesReadBack) (names : NamesReadBack) where
   -- the first four words, and those after them
   head_back : (owner : Labels) (ttl class rtype : ℕ) (words : Words) (value : List (List ℕ)) → IsName owner → IsBytes (uncompressed owner) → ttl < 2 ^ 32 → class < 2 ^ 16 → rtype < 2 ^ 16
-      → zone_name_text owner ∷ decimal ttl ∷ class_text class ∷ type_word rtype ∷ value ≡ texts words → AreHeadWords words owner ttl class rtype × (value ≡ texts (drop 4 words))
+      → zone_name_text owner ∷ decimal ttl ∷ class_word class ∷ type_word rtype ∷ value ≡ texts words → AreHeadWords words owner ttl class rtype × (value ≡ texts (drop 4 words))
   head_back owner ttl class rtype [] value is bytes t c r e = cc
   head_back owner ttl class rtype (first ∷ []) value is bytes t c r e = cc
   head_back owner ttl class rtype (first ∷ second ∷ []) value is bytes t c r e = cc
@@ -54,12 +47,12 @@ module _ (types : TypesReadBack) (names : NamesReadBack) where
   head_back owner ttl class rtype (first ∷ second ∷ third ∷ fourth ∷ words) value is bytes t c r e =
       let name : zone_name_text owner ≡ first.now = cc in
       let seconds : decimal ttl ≡ second.now = cc in
-      let class_word : class_text class ≡ third.now = cc in
+      let printed_class : class_word class ≡ third.now = cc in
       let printed_type : type_word rtype ≡ fourth.now = cc in (
         (
           owner_back names owner first.now is bytes name,
           (number_back ttl second.now (omega arith) seconds, t),
-          class_back class third.now c class_word,
+          class_back class third.now c printed_class,
           subst (λ (text : List ℕ). IsTypeWord text rtype) printed_type (types rtype r),
         ),
         cc,

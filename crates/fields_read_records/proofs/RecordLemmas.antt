@@ -1,23 +1,17 @@
 -- Records from words.
-use Rattle.std.proofs.Common.{◌≡◌, ◌∙◌, ℕ, ◌-◌, ◌≤◌, ◌<◌, ◌^◌, true, Some, List, [], ◌∷◌, length, get_or, take, drop, length-drop, refl, sym, ap, subst, arith, inl, inr}
-use Rattle.std.proofs.lemmas.List.{length-map, take_all}
-use Rattle.std.proofs.Math.Seq.{drop-append_seam}
+use Rattle.std.proofs.Common.{◌≡◌, ◌∙◌, ℕ, ◌-◌, ◌≤◌, ◌<◌, ◌^◌, true, List, [], ◌∷◌, length, get_or, take, drop, length-drop, refl, sym, subst, arith, inl, inr}
+use Rattle.std.proofs.lemmas.List.{take_all}
 use Rattle.std.specs.Prelude.{◌↔◌, ◌⊎◌, codes}
 use Rattle.std.specs.Borrow.{Bor}
-use Rattle.std.specs.Char.{to_ascii_lowercase}
 use Rattle.std.specs.Net.Grammar.{IsNumber}
-use Rattle.std.specs.Str.Parse.{digits_value}
 use Rattle.dns_name.specs.Names.{Labels}
 use Rattle.dns_name.proofs.theory.NameTextFaults.{one_text_name}
-use Rattle.dns_iana.specs.Classes.{SpellsClass}
-use Rattle.dns_iana.specs.Mnemonics.{class_mnemonics}
-use Rattle.dns_iana.specs.NumberTexts.{IsMnemonic, IsNumbered}
-use Rattle.dns_iana.specs.Tables.{is_distinct}
-use Rattle.dns_iana.proofs.theory.MnemonicLemmas.{one_number}
-use Rattle.dns_iana.proofs.theory.NumberedLemmas.{apart}
+use Rattle.dns_iana.specs.RegisteredTexts.{SpellsRegisteredClass}
+use Rattle.dns_iana.specs.Registry.{registered_classes}
+use Rattle.dns_iana.specs.Tables.{is_apart, is_distinct}
 use Rattle.fields_read.specs.NameWords.{IsNameText}
 use Rattle.fields_read.specs.TypeWords.{IsTypeWord}
-use Rattle.fields_read.proofs.theory.TypeMapLaws.{one_word}
+use Rattle.fields_read.proofs.theory.RegisteredLemmas.{one_spelled, one_word}
 use Rattle.dns_item.specs.Items.{RecordItem}
 use Rattle.fields_text.specs.declared.text_error.TextError.{TextError}
 use Rattle.fields_text.specs.declared.text_error.TextError.TheVariants.{BadWord, OutOfMemory}
@@ -27,25 +21,16 @@ use Rattle.fields_read_records.specs.FieldWords.{Words}
 use Rattle.fields_read_records.specs.RecordWords.{AreHeadWords, IsRecordText, MayBeRecord}
 
 -- a word represents one class
-classes_distinct : is_distinct class_mnemonics ≡ true
-unfolding class_mnemonics
+classes_distinct : is_distinct registered_classes ≡ true
+unfolding registered_classes
 classes_distinct = refl
 
-not_both : (text : List ℕ) (k n : ℕ) → IsMnemonic class_mnemonics text k → IsNumbered (codes "CLASS") text n → ⊥
-unfolding class_mnemonics
-not_both text k n h x = apart (codes "CLASS") text class_mnemonics k n refl h x
+classes_apart : is_apart (codes "CLASS") registered_classes ≡ true
+unfolding registered_classes
+classes_apart = refl
 
-digits_at : (word text : List ℕ) (n : ℕ) (x : IsNumbered word text n) → drop (length word) text ≡ x.digits
-digits_at word text n x =
-    let size : length word ≡ length x.front = sym (length-map word to_ascii_lowercase) ∙ ap length (sym x.same) ∙ length-map x.front to_ascii_lowercase in
-    ap (λ (k : ℕ). drop k text) size ∙ ap (λ (xs : List ℕ). drop (length x.front) xs) x.whole ∙ drop-append_seam x.front x.digits
-
-one_class : (text : List ℕ) (k n : ℕ) → SpellsClass text k → SpellsClass text n → k ≡ n
-one_class text k n (inl h) (inl g) =
-    let e : Some k ≡ Some n = sym ((one_number text class_mnemonics _ classes_distinct refl k).0 h) ∙ (one_number text class_mnemonics _ classes_distinct refl n).0 g in cc e
-one_class text k n (inl h) (inr y) = absurd (not_both text k n h y)
-one_class text k n (inr x) (inl g) = absurd (not_both text n k g x)
-one_class text k n (inr x) (inr y) = sym x.value ∙ ap (digits_value 10) (sym (digits_at (codes "CLASS") text k x) ∙ digits_at (codes "CLASS") text n y) ∙ y.value
+one_class : (text : List ℕ) (k n : ℕ) → SpellsRegisteredClass text k → SpellsRegisteredClass text n → k ≡ n
+one_class text = one_spelled registered_classes (codes "CLASS") text classes_distinct classes_apart
 
 -- words have one head
 pub one_head : (words : Words) (o p : Labels) (t c r u d s : ℕ) → AreHeadWords words o t c r → AreHeadWords words p u d s → (o ≡ p) × (t ≡ u) × (c ≡ d) × (r ≡ s)
@@ -64,7 +49,7 @@ module _ (owner : Labels) (ttl class rtype : ℕ) (words : Words) where
   -- the head by its four words
   abbrev pub Head : List ℕ → List ℕ → List ℕ → List ℕ → Type 0
   Head name seconds class_word type_word =
-      IsNameText name owner × (IsNumber 10 seconds ttl × (ttl < 2 ^ 32)) × SpellsClass class_word class × IsTypeWord type_word rtype
+      IsNameText name owner × (IsNumber 10 seconds ttl × (ttl < 2 ^ 32)) × SpellsRegisteredClass class_word class × IsTypeWord type_word rtype
 
   -- if there are at least four words, they begin with a record's head exactly if the first four represent owner, TTL, class and type
   pub head_is : (x y z w : Bor (List ℕ)) → 4 ≤ length words
@@ -82,7 +67,7 @@ module _ (owner : Labels) (ttl class rtype : ℕ) (words : Words) where
   owner_is x many are = ((head_is x x x x many).0 are).0
 
   -- if words begin with a record's head, the third of them represents its class
-  pub class_is : (x : Bor (List ℕ)) → 4 ≤ length words → AreHeadWords words owner ttl class rtype → SpellsClass (get_or words 2 x).now class
+  pub class_is : (x : Bor (List ℕ)) → 4 ≤ length words → AreHeadWords words owner ttl class rtype → SpellsRegisteredClass (get_or words 2 x).now class
   class_is x many are = ((head_is x x x x many).0 are).2
 
   -- if words begin with a record's head, the fourth of them represents its type

@@ -1,45 +1,40 @@
 -- Character strings, salts and hashes.
-use Rattle.std.proofs.Common.{◌≡◌, ◌∙◌, ℕ, ◌+◌, ◌<◌, ◌≤◌, List, ◌++◌, length, drop, get_or, refl, sym, ap, subst, arith, inl, inr}
+use Rattle.std.proofs.Common.{◌≡◌, ◌≢◌, ◌∙◌, ℕ, ◌<◌, ◌≤◌, Bool, true, false, List, [], ◌++◌, length, refl, sym, ap, subst, arith, inl, inr}
 use Rattle.std.specs.Prelude.{Result, Ok, Err, OnOk, IfErr}
-use Rattle.std.specs.Global.{Vec}
-use Rattle.std.proofs.lemmas.List.{drop_more}
-use Rattle.fields_text.specs.Reading.{ReadsOctets, TakesMemory}
+use Rattle.std.specs.Borrow.{Bor}
+use Rattle.std.proofs.lemmas.Bool.{false≢true}
+use Rattle.fields_text.specs.Reading.{PushesFitting}
 use Rattle.fields_text.specs.Strings.{SpellsString}
 use Rattle.fields_text.specs.declared.text_error.TextError.{TextError}
 use Rattle.fields_text.specs.declared.text_error.TextError.TheVariants.{OutOfMemory}
-use Rattle.std.specs.Borrow.{Bor}
 use Rattle.fields_read.specs.LengthOctets.{counted}
-use Rattle.fields_read.specs.Reading.{AppendsOctets, AppendsOctetsIf, Fails, FailsIf, HasValue}
+use Rattle.fields_read.specs.Reading.{AppendsOctets, Fails}
 use Rattle.fields_read.specs.Salts.{IsHashWord, IsSaltWord}
-use Rattle.fields_read.proofs.theory.StringLemmas.{one_string}
-use Rattle.fields_read.proofs.theory.WordLists.{AreInOrder, appends_at_if}
+use Rattle.fields_read.proofs.theory.WordLists.{AreInOrder}
 use Rattle.fields_read_records.specs.FieldWords.{AreStrings, IsHash, IsSalt, IsString, Words}
-use Rattle.fields_read_records.specs.MayBe.{RepresentStrings}
+use Rattle.fields_read_records.proofs.AppendLemmas.{appended, appends_alike}
 
--- a longer string
-pub long_string : (word string : List ℕ) → SpellsString word string → 255 < length string → (octets : List ℕ) → ¬ (IsString word octets)
-long_string word string h long octets (other, is, short, whole) =
-    let same = ap length (one_string word string other h is) in
-    omega arith
+-- octets that were pushed into an empty array are those of the word
+pub spelled : (word bytes start string : List ℕ) (pushed : Bool) → bytes ≡ word → start ≡ [] → pushed ≡ true → PushesFitting (SpellsString bytes) 255 start string pushed → SpellsString word string
+spelled word bytes start string true same none is fits =
+    let whole : string ≡ fits.0 = fits.2 ∙ ap (λ (xs : List ℕ). xs ++ fits.0) none in
+    subst (λ (text : List ℕ). SpellsString text string) same (subst (λ (xs : List ℕ). SpellsString bytes xs) (sym whole) fits.1)
+spelled word bytes start string false same none is fits = absurd (false≢true is)
 
--- why a string isn't read
-pub no_string : (word bytes : List ℕ) (e : TextError) → bytes ≡ word → ReadsOctets (SpellsString bytes) (Err e)
-    → (◌≡◌ {A = Result (Vec ℕ) TextError} (Err e) (Err OutOfMemory) → TakesMemory (SpellsString bytes))
-    → FailsIf (HasValue (SpellsString word)) (IsString word) e
-no_string word bytes e same (inl memory) full =
-    let is = full (ap Err memory) in
-    inl (memory, (is.0, subst (λ (text : List ℕ). SpellsString text is.0) same is.1))
-no_string word bytes e same (inr bad) full = inr (bad.0, λ octets is. bad.1 is.0 (subst (λ (text : List ℕ). SpellsString text is.0) (sym same) is.1))
+-- If no octets fit, the word is no string.
+pub no_string : (word bytes start string : List ℕ) (pushed : Bool) → bytes ≡ word → start ≡ [] → pushed ≡ false → PushesFitting (SpellsString bytes) 255 start string pushed
+    → (octets : List ℕ) → ¬ (IsString word octets)
+no_string word bytes start string true same none is fits octets are = absurd (false≢true (sym is))
+no_string word bytes start string false same none is fits octets (own, spells, few, _) =
+    let long : 255 < length (start ++ own) = fits own (subst (λ (text : List ℕ). SpellsString text own) (sym same) spells) in
+    let same_length : length (start ++ own) ≡ length own = ap (λ (xs : List ℕ). length (xs ++ own)) none in
+    omega (arith, long, same_length, few)
 
--- a string that was read is appended
-pub string_appended : (word bytes string slice old new : List ℕ) (r : Result Unit TextError) → bytes ≡ word → slice ≡ string → SpellsString bytes string → length string ≤ 255
-    → OnOk r (new ≡ old ++ counted slice) → IfErr r (λ error. error ≡ OutOfMemory) → AppendsOctetsIf (HasValue (SpellsString word)) (IsString word) old new r
-string_appended word bytes string slice old new (Ok u) same equal spells few ok err = (
-  counted string,
-  (string, subst (λ (text : List ℕ). SpellsString text string) same spells, few, refl),
-  ok ∙ ap (λ (xs : List ℕ). old ++ counted xs) equal,
-)
-string_appended word bytes string slice old new (Err e) same equal spells few ok err = inl (err, (string, subst (λ (text : List ℕ). SpellsString text string) same spells))
+-- a string is appended after its length
+pub string_appended : (word string slice old new : List ℕ) (r : Result Unit TextError) → SpellsString word string → slice ≡ string → length slice ≤ 255
+    → OnOk r (new ≡ old ++ counted slice) → IfErr r (λ error. error ≡ OutOfMemory) → AppendsOctets (IsString word) old new r
+string_appended word string slice old new r spells same few ok err =
+    appended (IsString word) (counted slice) old new r (slice, subst (λ (xs : List ℕ). SpellsString word xs) (sym same) spells, few, refl) ok err
 
 -- a salt, and a hash
 pub salt_appended : (word salt slice old new : List ℕ) (r : Result Unit TextError) → IsSaltWord word salt → slice ≡ salt → OnOk r (new ≡ old ++ counted slice) → IfErr r (λ error. error ≡ OutOfMemory)
@@ -75,21 +70,8 @@ strings_in_order = record {
   parts = λ word words octets is. ((is.0, is.2), (is.1, is.4));
 }
 
-module _ (words : Words) (k : ℕ) (d : Bor (List ℕ)) (within : k < length words) where
-  -- what appending the strings from the word at an index on returns, where that one is appended
-  pub string_more : (old middle new : List ℕ) (u : Unit {0}) (result : Result Unit TextError) → AppendsOctetsIf (HasValue (SpellsString (get_or words k d).now))
-      (IsString (get_or words k d).now) old middle (Ok u)
-      → AppendsOctetsIf (RepresentStrings (drop (k + 1) words)) (AreStrings (drop (k + 1) words)) middle new result
-      → AppendsOctetsIf (RepresentStrings (drop k words)) (AreStrings (drop k words)) old new result
-  string_more old middle new u result a b =
-      appends_at_if IsStringWord AreStrings strings_in_order RepresentStrings (λ word ws own others. ((own.1.0, own.1.1), others)) words k d old middle new u result within a b
-
-  -- the words that are left represent strings if the one at an index and those after it do
-  pub strings_there : HasValue (SpellsString (get_or words k d).now) → RepresentStrings (drop (k + 1) words) → RepresentStrings (drop k words)
-  strings_there own others = subst RepresentStrings (sym (drop_more words k d within)) (own, others)
-
-  -- the words that are left after one of those that are left
-  pub strings_left : HasValue (AreStrings (drop k words)) → HasValue (IsString (get_or words k d).now) × HasValue (AreStrings (drop (k + 1) words))
-  strings_left left =
-      let are = subst (λ (ws : Words). HasValue (AreStrings ws)) (drop_more words k d within) left in
-      strings_in_order.parts (get_or words k d) (drop (k + 1) words) are.0 are.1
+-- Strings, one at least.
+pub some_strings : (words : Words) (old new : List ℕ) (r : Result Unit TextError) → words ≢ [] → AppendsOctets (AreStrings words) old new r
+    → AppendsOctets (λ all. (words ≢ []) × AreStrings words all) old new r
+some_strings words old new r some appends =
+    appends_alike (AreStrings words) (λ all. (words ≢ []) × AreStrings words all) old new r (λ octets are. (some, are)) (λ octets are. are.1) appends

@@ -7,13 +7,11 @@ use Rattle.fields_octets.specs.UncompressedData.{IsUncompressedData}
 use Rattle.fields_octets.specs.declared.kind.Kind.{Kind}
 use Rattle.fields_octets.specs.declared.owned.OwnedFieldData.{OwnedFieldData}
 use Rattle.fields_read.specs.JoinedWords.{AreHex}
-use Rattle.fields_read.specs.Reading.{HasValue}
+use Rattle.fields_read.specs.Reading.{FailsIf, HasValue}
 use Rattle.fields_text.specs.declared.text_error.TextError.{TextError}
-use Rattle.fields_text.specs.declared.text_error.TextError.TheVariants.{BadWord, OutOfMemory}
 use Rattle.dns_wire.specs.Parts.{Part}
 use Rattle.fields_read_records.specs.Extents.{extent_of}
 use Rattle.fields_read_records.specs.FieldWords.{IsField, Words}
-use Rattle.fields_read_records.specs.MayBe.{MayBeFields}
 use Rattle.fields_read_records.specs.declared.extent.Extent.TheVariants.{All}
 
 -- the first words are a field of this kind, and the others are `Others`
@@ -48,23 +46,21 @@ abbrev pub AreDataWords : ℕ → Words → List ℕ → Type 0
 AreDataWords rtype words octets =
     (IsMarked words × AreCountedDigits (drop 1 words) octets) ⊎ (¬ (IsMarked words) × AreFields (kinds_of rtype) words octets)
 
--- what is known of the words if an allocation fails: after the first, they are hexadecimal digits of octets, however many
-abbrev pub MayBeCounted : Words → Type 0
-MayBeCounted [] = ⊥
-MayBeCounted (size ∷ digits) = HasValue (AreHex digits)
-
--- what is known of the words if an allocation fails: they may be `\#`, a number and hexadecimal digits, or the fields of the type
-abbrev pub MayBeData : ℕ → Words → Type 0
-MayBeData rtype words = (IsMarked words × MayBeCounted (drop 1 words)) ⊎ (¬ (IsMarked words) × MayBeFields (kinds_of rtype) words)
-
 -- the words represent RDATA of this type, and these are its parts
 pub record IsDataText (rtype : ℕ) (words : Words) (parts : List Part) : Type 0 where
   pub octets : List ℕ
   pub are : AreDataWords rtype words octets
   pub rdata : IsUncompressedData rtype octets parts
 
+-- RDATA of this type that the words represent, or why there is none: an allocation fails only at words of which `May` holds
+abbrev pub ReadsDataIf : Type 0 → ℕ → Words → Result OwnedFieldData TextError → Type 0
+ReadsDataIf May rtype words result =
+    MatchResult result (λ value. (owned_rtype_of value ≡ rtype) × IsDataText rtype words (owned_parts_of value)) (FailsIf May (IsDataText rtype words))
+
+-- the words represent RDATA of this type; or they are its fields, perhaps of more octets than RDATA has
+abbrev pub MayBeData : ℕ → Words → Type 0
+MayBeData rtype words = HasValue (IsDataText rtype words) ⊎ (¬ (IsMarked words) × HasValue (AreFields (kinds_of rtype) words))
+
 -- RDATA of this type that the words represent. Else `BadWord` if they represent none, or `OutOfMemory` if an allocation fails, which happens only to words of which `MayBeData` holds.
 abbrev pub ReadsData : ℕ → Words → Result OwnedFieldData TextError → Type 0
-ReadsData rtype words result =
-    MatchResult result (λ value. (owned_rtype_of value ≡ rtype) × IsDataText rtype words (owned_parts_of value))
-    (λ error. ((error ≡ OutOfMemory) × MayBeData rtype words) ⊎ ((error ≡ BadWord) × ((parts : List Part) → ¬ (IsDataText rtype words parts))))
+ReadsData rtype words result = ReadsDataIf (MayBeData rtype words) rtype words result

@@ -2,7 +2,6 @@ pub mod Appended
 pub mod DataWords
 pub mod Extents
 pub mod FieldWords
-pub mod MayBe
 pub mod Laws
 pub mod Rdata
 pub mod RecordWords

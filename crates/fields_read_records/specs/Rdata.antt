@@ -6,9 +6,15 @@ use Rattle.fields_octets.specs.declared.owned.OwnedFieldData.{OwnedFieldData}
 use Rattle.fields_text.specs.declared.text_error.TextError.{TextError}
 use Rattle.fields_text.specs.declared.text_error.TextError.TheVariants.{BadWord}
 use Rattle.dns_wire.specs.Parts.{Part}
+use Rattle.fields_read.specs.Reading.{Fails}
 
 -- RDATA of this type with these octets, uncompressed. Else `BadWord`: there is none.
 abbrev pub ReadsRdata : ℕ → List ℕ → Result OwnedFieldData TextError → Type 0
 ReadsRdata rtype octets result =
     MatchResult result (λ value. (owned_rtype_of value ≡ rtype) × IsUncompressedData rtype octets (owned_parts_of value))
     (λ error. (error ≡ BadWord) × ((parts : List Part) → ¬ (IsUncompressedData rtype octets parts)))
+
+-- RDATA of this type with a copy of these octets, uncompressed, or why there is none
+abbrev pub CopiesRdata : ℕ → List ℕ → Result OwnedFieldData TextError → Type 0
+CopiesRdata rtype octets result =
+    MatchResult result (λ value. (owned_rtype_of value ≡ rtype) × IsUncompressedData rtype octets (owned_parts_of value)) (Fails (IsUncompressedData rtype octets))

@@ -5,7 +5,7 @@ use Rattle.dns_octets.specs.declared.octets.Octets.{Ghosts}
 use Rattle.dns_name.specs.Names.{Labels}
 use Rattle.dns_name.specs.NameReading.{name_labels}
 use Rattle.dns_name.specs.declared.name.Name.{Name}
-use Rattle.dns_iana.specs.Classes.{SpellsClass}
+use Rattle.dns_iana.specs.RegisteredTexts.{SpellsRegisteredClass}
 use Rattle.fields_octets.specs.OwnedData.{owned_parts_of, owned_rtype_of}
 use Rattle.fields_octets.specs.declared.owned.OwnedFieldData.{OwnedFieldData}
 use Rattle.fields_read.specs.NameWords.{IsNameText}
@@ -21,7 +21,7 @@ use Rattle.fields_read_records.specs.FieldWords.{Words}
 -- the first four words are the owner, the TTL in seconds, the class and the type of a record
 abbrev pub AreHeadWords : Words → Labels → ℕ → ℕ → ℕ → Type 0
 AreHeadWords (name ∷ seconds ∷ class_word ∷ type_word ∷ words) owner ttl class rtype =
-    IsNameText name.now owner × (IsNumber 10 seconds.now ttl × (ttl < 2 ^ 32)) × SpellsClass class_word.now class × IsTypeWord type_word.now rtype
+    IsNameText name.now owner × (IsNumber 10 seconds.now ttl × (ttl < 2 ^ 32)) × SpellsRegisteredClass class_word.now class × IsTypeWord type_word.now rtype
 AreHeadWords _ owner ttl class rtype = ⊥
 
 -- the words after these represent its RDATA
@@ -29,7 +29,7 @@ pub record IsRecordText (words : Words) (item : RecordItem) : Type 0 where
   pub head : AreHeadWords words item.owner item.ttl item.class item.rtype
   pub value : IsDataText item.rtype (drop 4 words) item.parts
 
--- what is known of the words if an allocation fails: they begin with the head of a record, and with the first field of its type
+-- the words are the head of a record and then words of which `MayBeData` holds
 pub record MayBeRecord (words : Words) : Type 0 where
   pub owner : Labels
   pub ttl : ℕ

@@ -1,13 +1,15 @@
 //! Record data from words (RFC 1035 section 5.1, RFC 3597 section 5).
-ghost use Rattle.std.specs.Prelude.{◌↔◌, IsTrue};
-ghost use Rattle.fields_read_records.specs.DataWords.{AreCountedDigits, AreDataWords, IsMarked, MayBeCounted, MayBeData, ReadsData};
-ghost use Rattle.fields_read.specs.Reading.{ReadsWordsIf};
+ghost use Rattle.std.specs.Prelude.{◌≡◌, ◌↔◌, [], IsTrue};
+ghost use Rattle.fields_read_records.specs.DataWords.{AreCountedDigits, IsDataText, IsMarked, ReadsData, ReadsDataIf};
+ghost use Rattle.fields_read.specs.Reading.{HasValue};
+ghost use Rattle.fields_text.specs.Reading.{PushesFitting};
 
 use crate::fields::read_fields;
-use crate::rdata::read_rdata;
+use crate::rdata::{copy_rdata, read_rdata};
+use arrayvec::ArrayVec;
 use dns_iana::Rtype;
 use fields_octets::OwnedFieldData;
-use fields_read::read_hex_words;
+use fields_read::push_hex_words;
 use fields_text::{TextError, read_number};
 use std::alloc::Global;
 
@@ -21,32 +23,36 @@ fn is_marked(words: &[&str]) -> bool
     }
 }
 
-/// The octets of hexadecimal digits, after a word for their number.
-fn read_counted_digits(alloc: Global, words: &[&str]) -> Result<Vec<u8>, TextError>
-    ensures { ReadsWordsIf (MayBeCounted words.now) (AreCountedDigits words.now) result }
+/// Appends the octets of hexadecimal digits, after a word for their number, if they fit. Nothing is
+/// allocated.
+fn push_counted_digits(octets: &mut ArrayVec<u8, 65535>, words: &[&str]) -> bool
+    requires { octets.old.items ≡ [] }
+    ensures { PushesFitting (AreCountedDigits words.now) 65535 [] octets.new.items result }
 {
     let [size, digits @ ..] = words else {
-        return Err(TextError::BadWord);
+        return false;
     };
-    let octets = match read_hex_words(alloc, digits) {
-        Ok(octets) => octets,
-        Err(error) => return Err(error),
+    let Some(number) = read_number(size, 65_535) else {
+        return false;
     };
-    match read_number(size, octets.len() as u64) {
-        Some(number) if number == octets.len() as u64 => Ok(octets),
-        _ => Err(TextError::BadWord),
+    if !push_hex_words(octets, digits) {
+        return false;
     }
+    octets.len() as u64 == number
 }
 
-/// The octets that the words represent as RDATA of this type.
-fn read_octets(alloc: Global, rtype: u16, words: &[&str]) -> Result<Vec<u8>, TextError>
-    ensures { ReadsWordsIf (MayBeData rtype words.now) (AreDataWords rtype words.now) result }
+/// RDATA of this type from words that begin with `\#`. Memory is taken only for octets that are
+/// RDATA of the type.
+#[inline(never)]
+fn read_marked(alloc: Global, rtype: Rtype, words: &[&str]) -> Result<OwnedFieldData, TextError>
+    requires { IsMarked words.now }
+    ensures { ReadsDataIf (HasValue (IsDataText rtype words.now)) rtype words.now result }
 {
-    if is_marked(words) {
-        read_counted_digits(alloc, &words[1..])
-    } else {
-        read_fields(alloc, rtype, words)
+    let mut octets = ArrayVec::new();
+    if !push_counted_digits(&mut octets, &words[1..]) {
+        return Err(TextError::BadWord);
     }
+    copy_rdata(alloc, rtype, octets.as_slice())
 }
 
 /// The RDATA of this type that the words represent: a word or more for each field; or `\#`, the
@@ -54,7 +60,10 @@ fn read_octets(alloc: Global, rtype: u16, words: &[&str]) -> Result<Vec<u8>, Tex
 pub fn from_text(alloc: Global, rtype: Rtype, words: &[&str]) -> Result<OwnedFieldData, TextError>
     ensures { ReadsData rtype words.now result }
 {
-    match read_octets(alloc, rtype.to_int(), words) {
+    if is_marked(words) {
+        return read_marked(alloc, rtype, words);
+    }
+    match read_fields(alloc, rtype.to_int(), words) {
         Ok(octets) => read_rdata(rtype, octets),
         Err(error) => Err(error),
     }

@@ -1,7 +1,6 @@
 //! A field of record data.
 ghost use Rattle.fields_read_records.specs.FieldWords.{IsField, IsOne, IsFieldWord};
-ghost use Rattle.fields_read_records.specs.MayBe.{MayBeField, MayBeOne, MayBeWord};
-ghost use Rattle.fields_read.specs.Reading.{AppendsOctetsIf};
+ghost use Rattle.fields_read.specs.Reading.{AppendsOctets};
 
 use crate::append::push_read;
 use crate::extent::{Extent, extent_of};
@@ -19,8 +18,8 @@ fn push_one(
     kind: Kind,
     words: &[&str],
 ) -> Result<(), TextError>
-    ensures { AppendsOctetsIf (MayBeOne (MayBeWord kind) words.now)
-        (IsOne (IsFieldWord kind) words.now) octets.old.items octets.new.items result }
+    ensures { AppendsOctets (IsOne (IsFieldWord kind) words.now)
+        octets.old.items octets.new.items result }
 {
     let [word] = words else {
         return Err(TextError::BadWord);
@@ -35,8 +34,7 @@ pub(crate) fn push_field(
     kind: Kind,
     words: &[&str],
 ) -> Result<(), TextError>
-    ensures { AppendsOctetsIf (MayBeField kind words.now) (IsField kind words.now)
-        octets.old.items octets.new.items result }
+    ensures { AppendsOctets (IsField kind words.now) octets.old.items octets.new.items result }
 {
     match extent_of(kind) {
         Extent::One => push_one(alloc, octets, kind, words),

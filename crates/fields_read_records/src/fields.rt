@@ -1,8 +1,7 @@
 //! The fields of record data, in order.
 ghost use Rattle.fields_read_records.specs.DataWords.{AreFields};
 ghost use Rattle.fields_octets.specs.Table.{kinds, kinds_of};
-ghost use Rattle.fields_read_records.specs.MayBe.{MayBeFields};
-ghost use Rattle.fields_read.specs.Reading.{AppendsOctetsIf, ReadsWordsIf};
+ghost use Rattle.fields_read.specs.Reading.{AppendsOctets, ReadsWords};
 
 use crate::extent::word_count;
 use crate::field::push_field;
@@ -18,8 +17,8 @@ fn push_fields(
     fields: &[(&'static str, Kind)],
     words: &[&str],
 ) -> Result<(), TextError>
-    ensures { AppendsOctetsIf (MayBeFields (kinds fields.now) words.now)
-        (AreFields (kinds fields.now) words.now) octets.old.items octets.new.items result }
+    ensures { AppendsOctets (AreFields (kinds fields.now) words.now)
+        octets.old.items octets.new.items result }
 {
     let [field, others @ ..] = fields else {
         return if words.is_empty() {
@@ -41,8 +40,7 @@ fn push_fields(
 
 /// The octets of the fields of this type.
 pub(crate) fn read_fields(alloc: Global, rtype: u16, words: &[&str]) -> Result<Vec<u8>, TextError>
-    ensures { ReadsWordsIf (MayBeFields (kinds_of rtype) words.now)
-        (AreFields (kinds_of rtype) words.now) result }
+    ensures { ReadsWords (AreFields (kinds_of rtype) words.now) result }
 {
     let mut octets = Vec::new(alloc);
     match push_fields(alloc, &mut octets, fields_of(rtype), words) {

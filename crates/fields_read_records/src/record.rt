@@ -29,9 +29,7 @@ fn read_head(words: &[&str]) -> Option<(OwnedName, Ttl, Class, Rtype)>
     };
     let owner = read_name(owner)?;
     let ttl = read_number(ttl, 0xffff_ffff)?;
-    let Ok(class) = class.parse::<Class>() else {
-        return None;
-    };
+    let class = Class::from_registered_name(class)?;
     let rtype = read_type(rtype)?;
     Some((owner, Ttl::from_secs(ttl as u32), class, rtype))
 }

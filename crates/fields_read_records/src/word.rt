@@ -6,11 +6,10 @@ ghost use Rattle.fields_read.specs.Addresses.{IsIpv6Word};
 ghost use Rattle.fields_read.specs.EuiWords.{IsEuiWord};
 ghost use Rattle.fields_read.specs.LocatorWords.{IsLocatorWord};
 ghost use Rattle.fields_read.specs.NameWords.{IsNameWord};
-ghost use Rattle.fields_read_records.specs.MayBe.{MayBeWord};
-ghost use Rattle.fields_read.specs.Reading.{AppendsOctets, AppendsOctetsIf, HasValue};
-ghost use Rattle.fields_text.specs.Strings.{SpellsString};
+ghost use Rattle.fields_read.specs.Reading.{AppendsOctets};
 
 use crate::append::{push_counted, push_read};
+use arrayvec::ArrayVec;
 use fields_octets::Kind;
 use fields_read::{
     push_last, push_octets, read_eui48, read_eui64, read_hash, read_ipv4, read_ipv6, read_locator,
@@ -114,18 +113,15 @@ fn push_name(octets: &mut Vec<u8>, word: &str) -> Result<(), TextError>
 }
 
 /// Appends a character string.
-pub(crate) fn push_string(alloc: Global, octets: &mut Vec<u8>, word: &str) -> Result<(), TextError>
-    ensures { AppendsOctetsIf (HasValue (SpellsString word.now)) (IsString word.now)
-        octets.old.items octets.new.items result }
+pub(crate) fn push_string(octets: &mut Vec<u8>, word: &str) -> Result<(), TextError>
+    ensures { AppendsOctets (IsString word.now) octets.old.items octets.new.items result }
 {
-    let string = match read_string(alloc, word.as_bytes()) {
-        Ok(string) => string,
-        Err(error) => return Err(error),
-    };
-    if string.len() > MOST_OCTETS {
-        return Err(TextError::BadWord);
+    let mut string: ArrayVec<u8, 255> = ArrayVec::new();
+    if fields_text::push_string(&mut string, word.as_bytes()) {
+        push_counted(octets, string.as_slice())
+    } else {
+        Err(TextError::BadWord)
     }
-    push_counted(octets, string.as_slice())
 }
 
 /// Appends a tag.
@@ -169,8 +165,7 @@ pub(crate) fn push_word(
     kind: Kind,
     word: &str,
 ) -> Result<(), TextError>
-    ensures { AppendsOctetsIf (MayBeWord kind word.now) (IsFieldWord kind word.now)
-        octets.old.items octets.new.items result }
+    ensures { AppendsOctets (IsFieldWord kind word.now) octets.old.items octets.new.items result }
 {
     match kind {
         Kind::Number8 => push_number(octets, word, 1, 0xff),
@@ -187,7 +182,7 @@ pub(crate) fn push_word(
         Kind::CompressibleName | Kind::PointedName | Kind::LowercasedName | Kind::PlainName => {
             push_name(octets, word)
         }
-        Kind::CharacterString => push_string(alloc, octets, word),
+        Kind::CharacterString => push_string(octets, word),
         Kind::Tag => push_tag(octets, word),
         Kind::Salt => push_salt(alloc, octets, word),
         Kind::Hash => push_hash(alloc, octets, word),

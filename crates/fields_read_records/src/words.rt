@@ -1,10 +1,9 @@
 //! Fields that are all words that are left (RFC 1035 section 5.1).
-ghost use Rattle.std.specs.Prelude.{◌≡◌, ◌≢◌, []};
+ghost use Rattle.std.specs.Prelude.{◌≡◌, ◌≢◌, ◌↔◌, [], IsTrue};
 ghost use Rattle.fields_read_records.specs.FieldWords.{AreStrings, AreFieldWords};
-ghost use Rattle.fields_read.specs.JoinedWords.{AreBase64, AreHex};
+ghost use Rattle.fields_read.specs.JoinedWords.{AreBase64, AreHex, joined};
 ghost use Rattle.fields_read.specs.LocationWords.{IsLocation};
-ghost use Rattle.fields_read_records.specs.MayBe.{MayBeWords, RepresentStrings};
-ghost use Rattle.fields_read.specs.Reading.{AppendsOctets, AppendsOctetsIf, HasValue};
+ghost use Rattle.fields_read.specs.Reading.{AppendsOctets};
 
 use crate::append::push_read;
 use crate::word::push_string;
@@ -19,13 +18,12 @@ use std::alloc::Global;
 
 /// Appends character strings. After an allocation fails, the other words are still read, since a
 /// bad one of them is the error.
-fn push_strings(alloc: Global, octets: &mut Vec<u8>, words: &[&str]) -> Result<(), TextError>
-    ensures { AppendsOctetsIf (RepresentStrings words.now) (AreStrings words.now)
-        octets.old.items octets.new.items result }
+fn push_strings(octets: &mut Vec<u8>, words: &[&str]) -> Result<(), TextError>
+    ensures { AppendsOctets (AreStrings words.now) octets.old.items octets.new.items result }
 {
     let mut fits = true;
     for word in words {
-        match push_string(alloc, octets, word) {
+        match push_string(octets, word) {
             Ok(()) => {}
             Err(TextError::OutOfMemory) => fits = false,
             Err(TextError::BadWord) => return Err(TextError::BadWord),
@@ -39,48 +37,48 @@ fn push_strings(alloc: Global, octets: &mut Vec<u8>, words: &[&str]) -> Result<(
 }
 
 /// Appends character strings, one at least.
-fn push_some_strings(alloc: Global, octets: &mut Vec<u8>, words: &[&str]) -> Result<(), TextError>
-    ensures { AppendsOctetsIf (RepresentStrings words.now)
-        (λ all. (words.now ≢ []) × AreStrings words.now all)
+fn push_some_strings(octets: &mut Vec<u8>, words: &[&str]) -> Result<(), TextError>
+    ensures { AppendsOctets (λ all. (words.now ≢ []) × AreStrings words.now all)
         octets.old.items octets.new.items result }
 {
     if words.is_empty() {
         return Err(TextError::BadWord);
     }
-    push_strings(alloc, octets, words)
+    push_strings(octets, words)
 }
 
-/// Appends octets, one at least.
-fn push_some(octets: &mut Vec<u8>, more: &[u8]) -> Result<(), TextError>
-    ensures { AppendsOctets (λ all. (all ≡ more.now) × (all ≢ []))
-        octets.old.items octets.new.items result }
+/// Whether the words have no character.
+fn are_blank(words: &[&str]) -> bool
+    ensures { IsTrue result ↔ (joined words.now ≡ []) }
 {
-    if more.is_empty() {
-        return Err(TextError::BadWord);
+    for word in words {
+        if !word.is_empty() {
+            return false;
+        }
     }
-    push_octets(octets, more)
+    true
 }
 
 /// Appends the octets of hexadecimal digits, one octet at least.
 fn push_hex(alloc: Global, octets: &mut Vec<u8>, words: &[&str]) -> Result<(), TextError>
-    ensures { AppendsOctetsIf (HasValue (AreHex words.now))
-        (λ all. AreHex words.now all × (all ≢ [])) octets.old.items octets.new.items result }
+    ensures { AppendsOctets (λ all. AreHex words.now all × (all ≢ []))
+        octets.old.items octets.new.items result }
 {
-    match read_hex_words(alloc, words) {
-        Ok(more) => push_some(octets, more.as_slice()),
-        Err(error) => Err(error),
+    if are_blank(words) {
+        return Err(TextError::BadWord);
     }
+    push_read(octets, read_hex_words(alloc, words))
 }
 
 /// Appends the octets of base64, one octet at least.
 fn push_base64(alloc: Global, octets: &mut Vec<u8>, words: &[&str]) -> Result<(), TextError>
-    ensures { AppendsOctetsIf (HasValue (AreBase64 words.now))
-        (λ all. AreBase64 words.now all × (all ≢ [])) octets.old.items octets.new.items result }
+    ensures { AppendsOctets (λ all. AreBase64 words.now all × (all ≢ []))
+        octets.old.items octets.new.items result }
 {
-    match read_base64_words(alloc, words) {
-        Ok(more) => push_some(octets, more.as_slice()),
-        Err(error) => Err(error),
+    if are_blank(words) {
+        return Err(TextError::BadWord);
     }
+    push_read(octets, read_base64_words(alloc, words))
 }
 
 /// Appends a location.
@@ -100,11 +98,11 @@ pub(crate) fn push_words(
     kind: Kind,
     words: &[&str],
 ) -> Result<(), TextError>
-    ensures { AppendsOctetsIf (MayBeWords kind words.now) (AreFieldWords kind words.now)
+    ensures { AppendsOctets (AreFieldWords kind words.now)
         octets.old.items octets.new.items result }
 {
     match kind {
-        Kind::Strings => push_some_strings(alloc, octets, words),
+        Kind::Strings => push_some_strings(octets, words),
         Kind::Hexadecimal => push_hex(alloc, octets, words),
         Kind::Base64 => push_base64(alloc, octets, words),
         Kind::TypeBitMap => push_read(octets, read_type_map(alloc, words)),

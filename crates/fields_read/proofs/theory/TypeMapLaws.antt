@@ -1,57 +1,20 @@
 -- The printed words of a type bit map read back.
 use Rattle.std.proofs.Common.{◌≡◌, ◌∙◌, ℕ, zero, suc, ◌+◌, ◌*◌, ◌<◌, ◌≤◌, ◌==◌, ◌↔◌, Bool, true, List, [], ◌∷◌, length, take, drop, length-take-le, length-drop}
 use Rattle.std.proofs.Common.{refl, sym, ap, subst, arith, inl, inr, eq-eqb}
-use Rattle.std.proofs.Math.Seq.{drop-append_seam}
-use Rattle.std.specs.Prelude.{Some, codes, ◌||◌}
+use Rattle.std.specs.Prelude.{Some, ◌||◌}
 use Rattle.std.specs.Borrow.{Bor}
-use Rattle.std.specs.Char.{to_ascii_lowercase}
-use Rattle.std.specs.Str.Parse.{digits_value}
 use Rattle.std.proofs.lemmas.Bool.{false≢true, or_cases}
-use Rattle.std.proofs.lemmas.List.{length-map}
 use Rattle.std.proofs.lemmas.List.Folds.{list_any-append}
-use Rattle.dns_iana.specs.Mnemonics.{Mnemonics, type_mnemonics}
-use Rattle.dns_iana.specs.NumberTexts.{IsMnemonic, IsNumbered}
-use Rattle.dns_iana.specs.Tables.{is_distinct}
-use Rattle.dns_iana.proofs.theory.MnemonicLemmas.{one_number}
-use Rattle.dns_iana.proofs.theory.NumberedLemmas.{apart}
 use Rattle.hex.specs.Hex.{IsBytes}
 use Rattle.fields_octets.specs.TypeMaps.{blocks_after, is_type_map}
 use Rattle.fields_print.specs.TypeMaps.{is_small_map, map_types, octet_types}
 use Rattle.fields_read.specs.TypeMapWords.{AreTypeTexts, AreTypes, HasType, IsSmallTypeMap, IsTypeMap, has}
-use Rattle.fields_read.specs.TypeWords.{IsTypeWord, table_mnemonics}
+use Rattle.fields_read.specs.TypeWords.{IsTypeWord}
 use Rattle.fields_read.proofs.BlockLemmas.{first_block, map_first}
 use Rattle.fields_read.proofs.theory.ByteLemmas.{bytes_drop}
 use Rattle.fields_read.proofs.SmallMapLemmas.{type_is_small}
-use Rattle.fields_read.proofs.TypeLaws.{types_read_back}
-use Rattle.fields_read.proofs.TypeLemmas.{one_type, table_distinct, types_distinct}
+use Rattle.fields_read.proofs.theory.RegisteredLemmas.{one_word, types_read_back}
 use Rattle.fields_read.proofs.TypeMapLemmas.{has_type, octet_range, or_true, type_has}
-
--- a word represents one type
-digits_at : (word text : List ℕ) (n : ℕ) (x : IsNumbered word text n) → drop (length word) text ≡ x.digits
-digits_at word text n x =
-    let size : length word ≡ length x.front = sym (length-map word to_ascii_lowercase) ∙ ap length (sym x.same) ∙ length-map x.front to_ascii_lowercase in
-    ap (λ (k : ℕ). drop k text) size ∙ ap (λ (xs : List ℕ). drop (length x.front) xs) x.whole ∙ drop-append_seam x.front x.digits
-
-numbered_same : (word text : List ℕ) (k n : ℕ) → IsNumbered word text k → IsNumbered word text n → k ≡ n
-numbered_same word text k n x y = sym x.value ∙ ap (digits_value 10) (sym (digits_at word text k x) ∙ digits_at word text n y) ∙ y.value
-
-mnemonic_same : (text : List ℕ) (names : Mnemonics) (k n : ℕ) → is_distinct names ≡ true → IsMnemonic names text k → IsMnemonic names text n → k ≡ n
-mnemonic_same text names k n distinct h g =
-    let e : Some k ≡ Some n = sym ((one_number text names _ distinct refl k).0 h) ∙ (one_number text names _ distinct refl n).0 g in cc e
-
-not_both : (text : List ℕ) (k n : ℕ) → IsMnemonic type_mnemonics text k → IsNumbered (codes "TYPE") text n → ⊥
-unfolding type_mnemonics
-not_both text k n h x = apart (codes "TYPE") text type_mnemonics k n refl h x
-
--- A word is at most one type.
-pub one_word : (word : List ℕ) (k n : ℕ) → IsTypeWord word k → IsTypeWord word n → k ≡ n
-one_word word k n (inl h) (inl g) = mnemonic_same word table_mnemonics k n table_distinct h g
-one_word word k n (inl h) (inr s) = one_type word k n h s
-one_word word k n (inr s) (inl g) = sym (one_type word n k g s)
-one_word word k n (inr (inl h)) (inr (inl g)) = mnemonic_same word type_mnemonics k n types_distinct h g
-one_word word k n (inr (inl h)) (inr (inr x)) = absurd (not_both word k n h x)
-one_word word k n (inr (inr x)) (inr (inl h)) = absurd (not_both word n k h x)
-one_word word k n (inr (inr x)) (inr (inr y)) = numbered_same (codes "TYPE") word k n x y
 
 -- types of blocks have 16 bits
 pub map_bound : (fuel least n : ℕ) (octets : List ℕ) → length octets ≤ fuel → IsBytes octets → blocks_after least 0 octets ≡ true → has (map_types octets) n ≡ true → n < 65536

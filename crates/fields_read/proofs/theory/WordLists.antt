@@ -4,7 +4,7 @@ use Rattle.std.specs.Prelude.{Option, Some, None, Result, Ok, Err, IsTrue, is_so
 use Rattle.std.proofs.lemmas.List.{drop_all, drop_more}
 use Rattle.fields_text.specs.declared.text_error.TextError.{TextError}
 use Rattle.fields_text.specs.declared.text_error.TextError.TheVariants.{BadWord, OutOfMemory}
-use Rattle.fields_read.specs.Reading.{AppendsOctets, AppendsOctetsIf, FailsIf, HasValue, Reads}
+use Rattle.fields_read.specs.Reading.{AppendsOctets, FailsIf, HasValue, Reads}
 
 -- a value was read, or there is none
 pub is_read : {A : Type 0} (Represents : A → Type 0) (o : Option A) (b : Bool) → b ≡ is_some o → Reads Represents o → IsTrue b ↔ HasValue Represents
@@ -49,30 +49,11 @@ module _ {W : Type 0} (Is : W → List ℕ → Type 0) (Are : List W → List �
   more word words old middle new u (Err e) a (inr bad) =
       inr (bad.0, λ octets is. let p = order.parts word words octets is in bad.1 p.1.0 p.1.1)
 
-  -- the same, where less is known of words at which an allocation fails
-  pub more_if : (May : List W → Type 0) → ((word : W) (words : List W) → HasValue (Is word) → May words → May (word ∷ words))
-      → (word : W) (words : List W) (old middle new : List ℕ) (u : Unit {0}) (result : Result Unit TextError) → AppendsOctets (Is word) old middle (Ok u)
-      → AppendsOctetsIf (May words) (Are words) middle new result → AppendsOctetsIf (May (word ∷ words)) (Are (word ∷ words)) old new result
-  more_if May first word words old middle new u (Ok v) a b =
-      (a.0 ++ b.0, order.both word words a.0 b.0 a.1 b.1, b.2 ∙ ap (λ (xs : List ℕ). xs ++ b.0) a.2 ∙ append_assoc old a.0 b.0)
-  more_if May first word words old middle new u (Err e) a (inl memory) = inl (memory.0, first word words (a.0, a.1) memory.1)
-  more_if May first word words old middle new u (Err e) a (inr bad) =
-      inr (bad.0, λ octets is. let p = order.parts word words octets is in bad.1 p.1.0 p.1.1)
-
   -- the word at an index, and the words after it
   pub appends_at : (words : List W) (k : ℕ) (d : W) (old middle new : List ℕ) (u : Unit {0}) (result : Result Unit TextError) → k < length words
       → AppendsOctets (Is (get_or words k d)) old middle (Ok u) → AppendsOctets (Are (drop (k + 1) words)) middle new result → AppendsOctets (Are (drop k words)) old new result
   appends_at words k d old middle new u result within a b =
       subst (λ (ws : List W). AppendsOctets (Are ws) old new result) (sym (drop_more words k d within)) (more (get_or words k d) (drop (k + 1) words) old middle new u result a b)
-
-  -- If the word at an index is appended and then those after it, those from the index on are, where less is known if an allocation fails.
-  pub appends_at_if : (May : List W → Type 0) → ((word : W) (words : List W) → HasValue (Is word) → May words → May (word ∷ words))
-      → (words : List W) (k : ℕ) (d : W) (old middle new : List ℕ) (u : Unit {0}) (result : Result Unit TextError) → k < length words
-      → AppendsOctets (Is (get_or words k d)) old middle (Ok u) → AppendsOctetsIf (May (drop (k + 1) words)) (Are (drop (k + 1) words)) middle new result
-      → AppendsOctetsIf (May (drop k words)) (Are (drop k words)) old new result
-  appends_at_if May first words k d old middle new u result within a b =
-      subst (λ (ws : List W). AppendsOctetsIf (May ws) (Are ws) old new result) (sym (drop_more words k d within))
-      (more_if May first (get_or words k d) (drop (k + 1) words) old middle new u result a b)
 
   -- no word is left
   pub appends_end : (words : List W) (k : ℕ) (now : List ℕ) (u : Unit {0}) → length words ≤ k → AppendsOctets (Are (drop k words)) now now (Ok u)

@@ -12,7 +12,7 @@ use Rattle.fields_read.proofs.PrefixLaws.{prefixes_read_back}
 use Rattle.fields_read.proofs.SaltLaws.{hashes_read_back, salts_read_back}
 use Rattle.fields_read.proofs.SizedLaws.{sized_read_back}
 use Rattle.fields_read.proofs.theory.StringLaws.{string_reads_back, tag_reads_back}
-use Rattle.fields_read.proofs.TypeLaws.{types_read_back}
+use Rattle.fields_read.proofs.theory.RegisteredLemmas.{types_read_back}
 use Rattle.fields_read.proofs.theory.TypeMapLaws.{small_type_maps_read_back, type_maps_read_back}
 use Rattle.fields_read.proofs.laws.printed_fields_read_back.Goals as goal
 

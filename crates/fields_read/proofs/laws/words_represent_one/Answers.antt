@@ -3,7 +3,7 @@ use Rattle.fields_read.proofs.theory.OneFields.{one_gateway, one_identity, one_r
 use Rattle.fields_read.proofs.theory.OneMaps.{one_map, one_small_map}
 use Rattle.fields_read.proofs.theory.OneWords.{one_base64, one_eui, one_hash, one_hex, one_ipv4, one_ipv6, one_locator, one_name, one_salt, one_sized, one_time}
 use Rattle.fields_read.proofs.theory.PrefixLemmas.{one_prefixes}
-use Rattle.fields_read.proofs.theory.TypeMapLaws.{one_word}
+use Rattle.fields_read.proofs.theory.RegisteredLemmas.{one_word}
 use Rattle.fields_read.proofs.laws.words_represent_one.Goals as goal
 
 pub returns-clause-types : goal.returns-clause-types

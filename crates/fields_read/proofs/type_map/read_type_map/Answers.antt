@@ -1,5 +1,6 @@
 use Rattle.std.proofs.Common.{inl}
-use Rattle.fields_read.proofs.TypeMapLemmas.{map_read, types_fail}
+use Rattle.fields_read.proofs.TypeMapLemmas.{map_read}
+use Rattle.fields_read.proofs.TypeMapsExist.{map_exists, types_fail}
 use Rattle.fields_read.proofs.type_map.read_type_map.Goals as goal
 
 pub returns-in-Err : goal.returns-in-Err
@@ -11,4 +12,4 @@ returns-in-Ok c =
     c.new-types.ensures.items c.new-map.ensures.items c.deref.ensures.value c.in_default.ensures c.in-Ok.ensures
 
 pub returns : goal.returns
-returns c = inl (c.in-Err-push_blocks.ensures.0, c.in_default.ensures.2)
+returns c = inl (c.in-Err-push_blocks.ensures.0, map_exists c.args.words.now c.in_default.ensures.2)

@@ -1,6 +1,6 @@
 use Rattle.std.proofs.Common.{ℕ, List, subst, inl, inr}
 use Rattle.fields_text.specs.Strings.{SpellsString}
-use Rattle.fields_read.specs.Reading.{HasValue, ReadsWords}
+use Rattle.fields_read.specs.Reading.{ReadsWords}
 use Rattle.fields_octets.specs.declared.kind.Kind.TheVariants as kinds
 use Rattle.fields_read_records.proofs.AppendLemmas.{as_kind, read_appended, reads_string}
 use Rattle.fields_read_records.proofs.word.push_word.Goals as goal
@@ -77,7 +77,7 @@ returns-in-CompressibleName c =
 pub returns-in-Text : goal.returns-in-Text
 returns-in-Text c =
     as_kind c.args.kind kinds.Text c.args.word.now c.args.octets.now.items c.push_read.new.octets.items c.push_read.result c.in-Text.is
-    (read_appended (HasValue (SpellsString c.args.word.now)) (SpellsString c.args.word.now) c.read_string.result c.args.octets.now.items c.push_read.new.octets.items c.push_read.result (λ has. has)
+    (read_appended (SpellsString c.args.word.now) c.read_string.result c.args.octets.now.items c.push_read.new.octets.items c.push_read.result
     (subst (λ (text : List ℕ). ReadsWords (SpellsString text) c.read_string.result) c.as_bytes.ensures.value
     (reads_string (SpellsString c.as_bytes.result.now) c.read_string.result c.read_string.ensures.reads c.read_string.ensures.full))
     c.push_read.ensures)

@@ -1,15 +1,16 @@
-use Rattle.std.proofs.Common.{◌≡◌}
+use Rattle.std.proofs.Common.{◌≢◌, ◌∙◌, [], refl, sym, inr}
+use Rattle.std.proofs.lemmas.Bool.{false≢true}
 use Rattle.fields_text.specs.Octets.{IsBase64}
 use Rattle.fields_read.specs.JoinedWords.{AreBase64}
-use Rattle.fields_read.specs.Reading.{HasValue}
-use Rattle.fields_read_records.proofs.AppendLemmas.{some_appended, some_fails}
+use Rattle.fields_read_records.proofs.AppendLemmas.{read_appended}
+use Rattle.fields_read_records.proofs.JoinedDigits.{base64_together, blank_none, some_read}
 use Rattle.fields_read_records.proofs.words.push_base64.Goals as goal
 
-pub returns-in-Ok : goal.returns-in-Ok
-returns-in-Ok c =
-    some_appended IsBase64 c.args.words.now c.in-Ok.more.items c.as_slice.result.now c.args.octets.now.items c.push_some.new.octets.items c.push_some.result
-    (λ x y a b. let same : x ≡ y = cc (a, b) in same)
-    c.as_slice.ensures.value c.in-Ok.ensures c.push_some.ensures
+pub returns-then-are_blank : goal.returns-then-are_blank
+returns-then-are_blank c = inr (refl, blank_none IsBase64 base64_together c.args.words.now (c.are_blank.ensures.0 c.if-are_blank.true))
 
-pub returns-in-Err : goal.returns-in-Err
-returns-in-Err c = some_fails (HasValue (AreBase64 c.args.words.now)) (AreBase64 c.args.words.now) c.in-Err.error c.in-Err.ensures
+pub returns : goal.returns
+returns c =
+    read_appended (λ all. AreBase64 c.args.words.now all × (all ≢ [])) c.read_base64_words.result c.args.octets.now.items c.push_read.new.octets.items c.push_read.result
+    (some_read IsBase64 base64_together c.args.words.now (λ none. false≢true (sym c.if-are_blank.false ∙ c.are_blank.ensures.1 none)) c.read_base64_words.result
+    c.read_base64_words.ensures) c.push_read.ensures
