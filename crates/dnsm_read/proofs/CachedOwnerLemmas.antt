@@ -1,7 +1,7 @@
 -- Records whose owner is only a pointer, and the offset that a cursor caches.
-use Rattle.std.proofs.Common.{◌≡◌, ◌≢◌, ◌⊎◌, ℕ, ◌+◌, ◌<◌, ◌≤◌, inl, inr, List, length, sym, subst, refl, arith}
+use Rattle.std.proofs.Common.{◌≡◌, ◌≢◌, ◌⊎◌, ℕ, ◌∙◌, ◌+◌, ◌-◌, ◌<◌, ◌≤◌, inl, inr, List, length, ap, sym, subst, refl, arith}
 use Rattle.std.specs.Prelude.{Option, Some, None, Ok, IfSome, IfNone}
-use Rattle.std.specs.Int.{w16}
+use Rattle.std.specs.Int.{w16, w32}
 use Rattle.dns_name.specs.Names.{NameAt, NameEndsAt}
 use Rattle.dns_name.specs.Names.NameAt.{pointer as name_by_pointer}
 use Rattle.dns_name.specs.Names.NameContinues.{pointer as end_of_pointer}
@@ -17,6 +17,12 @@ use Rattle.dnsm_read.specs.Names.{IsCachedOffset, PointsBack}
 use Rattle.dnsm_read.specs.Steps.{Reports, ReportsFields, ReturnsRecord}
 use Rattle.dnsm_read.specs.Walk.{Entry, Asked, Stated}
 use Rattle.dnsm_read.specs.declared.walk.Item.{Item}
+
+-- The TTL begins six octets before the RDATA.
+ttl_before_data : (b : List ℕ) (owner_end start ttl : ℕ) → ttl ≡ number_at w32 b (owner_end + 4) → start ≡ owner_end + 10 → ttl ≡ number_at w32 b (start - 6)
+ttl_before_data b owner_end start ttl is starts =
+    let place : owner_end + 4 ≡ start - 6 = omega arith in
+    is ∙ ap (number_at w32 b) place
 
 module _ (b : List ℕ) (p t : ℕ) (points : PointsBack b p t) where
   -- Both octets of the pointer are there.
@@ -38,6 +44,17 @@ module _ (b : List ℕ) (p t : ℕ) (points : PointsBack b p t) where
   -- The record takes the two octets, ten of fields, and the RDATA.
   pub skipped_after_pointer : (n q : ℕ) → n ≡ number_at w16 b (p + 2 + 8) → q ≡ p + 2 + 10 + n → q ≤ length b → SkipsRecord b p q
   skipped_after_pointer n q rdlen end within = record { name_end = p + 2; name_ends = pointer_ends; end = omega arith; within = within }
+
+  -- An item of these fields describes them.
+  pub reported_after_pointer : (item : Item) → item.place ≡ p → item.«data» ≡ p + 2 + 10 → AreFieldsAt b (p + 2) item.rtype item.class item.ttl item.data_len → ReportsFields b item
+  reported_after_pointer item place start fields =
+      record {
+        owner_end = p + 2;
+        owner_ends = subst (λ k. NameEndsAt b k (p + 2)) (sym place) pointer_ends;
+        fields = fields;
+        rdata_start = start;
+        ttl_place = ttl_before_data b (p + 2) item.«data» item.ttl fields.ttl start;
+      }
 
   -- An item of these fields is the record, if its owner is a name.
   pub returned_after_pointer : (item : Item) (q : ℕ) → item.place ≡ p → item.«data» ≡ p + 2 + 10 → AreFieldsAt b (p + 2) item.rtype item.class item.ttl item.data_len
@@ -71,14 +88,10 @@ module _ (b : List ℕ) (p t : ℕ) (points : PointsBack b p t) where
           rdata_start = refl;
           rdata_end = omega arith;
           within = omega arith;
+          fields = reported_after_pointer item place start fields;
         },
         refl,
       )
-
-  -- An item of these fields describes them.
-  pub reported_after_pointer : (item : Item) → item.place ≡ p → item.«data» ≡ p + 2 + 10 → AreFieldsAt b (p + 2) item.rtype item.class item.ttl item.data_len → ReportsFields b item
-  reported_after_pointer item place start fields =
-      record { owner_end = p + 2; owner_ends = subst (λ k. NameEndsAt b k (p + 2)) (sym place) pointer_ends; fields = fields; rdata_start = start }
 
   -- Octets that are missing are the fault of the record, if its owner is a name.
   pub fault_after_pointer : LacksRecord b (p + 2) → EncodedName b p → RecordFaultAt b p ShortInput

@@ -1,5 +1,5 @@
 -- What parsing the RDATA of an item says of the message.
-use Rattle.std.proofs.Common.{◌≡◌, ◌∙◌, ℕ, ◌+◌, ◌<◌, ◌≤◌, true, List, [], ◌∷◌, length, take, ap, inr, refl, sym, subst, arith}
+use Rattle.std.proofs.Common.{◌≡◌, ◌∙◌, ℕ, ◌+◌, ◌<◌, ◌≤◌, List, [], ◌∷◌, length, take, ap, inr, refl, sym, subst, arith}
 use Rattle.std.proofs.lemmas.List.{length-take-le}
 use Rattle.dns_octets.specs.declared.error.TheConstants.FormError.{TRAILING_DATA}
 use Rattle.dns_name.specs.Names.{Fault, Labels, NameAt}
@@ -10,15 +10,15 @@ use Rattle.dns_item.specs.RecordReading.WholeDataFaultAt.{first, left_over}
 use Rattle.fields_octets.specs.Data.{parts_of, rtype_of}
 use Rattle.fields_octets.specs.FieldData.{type_layout}
 use Rattle.fields_octets.specs.FieldParts.{NamedPart, fields_left, named_parts}
-use Rattle.fields_octets.specs.RecordTypes.{record_types}
 use Rattle.fields_octets.specs.Table.{Definition, definitions_of}
 use Rattle.fields_octets.specs.declared.field_data.FieldData.{FieldData}
 use Rattle.fields_octets.specs.declared.fields.Fields.{Fields}
 use Rattle.dnsm_read.specs.DataFields.{IsDataIn, IsNoRdata, LacksData, data_end, data_fields, data_type, up_to_data_end}
-use Rattle.dnsm_read.specs.DataNames.{IsDataName, names_in}
-use Rattle.dnsm_read.specs.FieldOffsets.{FieldsAt, IsFieldAt, IsNameAmong}
+use Rattle.dnsm_read.specs.DataNames.{HasFewNames, IsDataName, most_names_in}
+use Rattle.dnsm_read.specs.FieldOffsets.{FieldsAt, IsFieldAt}
+use Rattle.dnsm_read.specs.NameOffsets.{IsNameAmong, LacksNameAmong, NamesFrom}
 use Rattle.dnsm_read.specs.declared.walk.Item.{Item}
-use Rattle.dnsm_read.proofs.FieldOffsetLemmas.{Encoded, are_last, fields_encoded, type_last}
+use Rattle.dnsm_read.proofs.FieldOffsetLemmas.{Encoded, fields_encoded}
 
 -- what parsing RDATA from an offset on says of the octets
 module _ (b seen : List ℕ) (rtype start offset : ℕ) (same : seen ≡ b) (at : offset ≡ start) where
@@ -68,12 +68,12 @@ module _ (b seen : List ℕ) (item : Item) (end rtype : ℕ) (is : seen ≡ take
     refl,
   )
 
--- The fields of an item's RDATA are encoded one after the other.
-pub data_encoded : (b : List ℕ) (item : Item) (parts : List Part) → are_last record_types ≡ true → IsDataIn b item parts
-    → Encoded (up_to_data_end b item) (data_fields item parts) item.«data» (data_end item) (names_in (definitions_of (data_type item)))
-data_encoded b item parts last there =
+-- The fields of an item's RDATA are encoded one after the other, with the names within them.
+pub data_encoded : (b : List ℕ) (item : Item) (parts : List Part) → IsDataIn b item parts
+    → Encoded (up_to_data_end b item) (data_fields item parts) item.«data» (data_end item) (most_names_in (definitions_of (data_type item)))
+data_encoded b item parts there =
     let size = length-take-le (data_end item) b there.within in
-    fields_encoded (up_to_data_end b item) (definitions_of (data_type item)) (type_last (data_type item) last) item.«data» (data_end item) parts (omega (arith, size)) there.fields.1
+    fields_encoded (up_to_data_end b item) (definitions_of (data_type item)) item.«data» (data_end item) parts (omega (arith, size)) there.fields.0 there.fields.1
 
 -- The fields of a view are those of the item.
 module _ (b seen : List ℕ) (item : Item) (d : FieldData) (fields : Fields) (same : seen ≡ up_to_data_end b item) (own : rtype_of d ≡ data_type item)
@@ -90,6 +90,15 @@ module _ (b seen : List ℕ) (item : Item) (d : FieldData) (fields : Fields) (sa
         (subst (λ (fs : List NamedPart). FieldsAt (up_to_data_end b item) fs item.«data» (data_end item)) (sym left_are) at),
   )
 
+  -- The names within them are at some offsets.
+  pub left_names : IsDataIn b item (parts_of d) → (offsets : List ℕ) × NamesFrom seen (fields_left fields) item.«data» offsets
+  left_names there =
+      let all = data_encoded b item (parts_of d) there in (
+        all.offsets,
+        subst (λ (xs : List ℕ). NamesFrom xs (fields_left fields) item.«data» all.offsets) (sym same)
+            (subst (λ (fs : List NamedPart). NamesFrom (up_to_data_end b item) fs item.«data» all.offsets) (sym left_are) all.names),
+      )
+
   -- A name among them is one in the RDATA.
   pub data_name : (index p : ℕ) (name : Labels) → IsDataIn b item (parts_of d) → IsNameAmong seen item.«data» (fields_left fields) index p → NameAt seen p name → IsDataName b item index p
   data_name index p name there among at = record {
@@ -100,6 +109,15 @@ module _ (b seen : List ℕ) (item : Item) (d : FieldData) (fields : Fields) (sa
         (subst (λ (fs : List NamedPart). IsNameAmong seen item.«data» fs index p) left_are among);
     name = (name, subst (λ (xs : List ℕ). NameAt xs p name) same at);
   }
+
+  -- If there are few among them, so there are in the RDATA.
+  pub few_names : (index : ℕ) → IsDataIn b item (parts_of d) → LacksNameAmong seen item.«data» (fields_left fields) index → HasFewNames b item index
+  few_names index there few = (
+    parts_of d,
+    there,
+    subst (λ (xs : List ℕ). LacksNameAmong xs item.«data» (data_fields item (parts_of d)) index) same
+        (subst (λ (fs : List NamedPart). LacksNameAmong seen item.«data» fs index) left_are few),
+  )
 
   -- A field among them is one of the RDATA.
   pub data_field : (before : List NamedPart) (field : NamedPart) (p q : ℕ) → IsFieldAt seen item.«data» (fields_left fields) before field p q

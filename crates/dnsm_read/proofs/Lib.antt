@@ -5,7 +5,10 @@ mod DataTextLemmas
 mod FieldOffsetLemmas
 mod FieldValueLemmas
 mod FieldWalks
-mod NameCounts
+mod NameOffsetLemmas
+mod NameWalks
 mod OctetWalks
 mod OptSearchLemmas
+mod PlainNameLemmas
+mod SameOctets
 mod WalkLemmas

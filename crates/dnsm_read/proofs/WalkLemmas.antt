@@ -5,7 +5,7 @@ use Rattle.std.specs.Prelude.{Option, Some, None, Result, Ok, Err, slice_get, If
 use Rattle.std.specs.Option.{option_map_or}
 use Rattle.dns_octets.specs.declared.error.ParseError.{ParseError}
 use Rattle.dns_octets.specs.declared.error.ParseError.TheVariants as errors
-use Rattle.dns_name.specs.Names.{Fault, FaultAt, EndsOrFaults, NameEndsAt, fault_of, head_of, head_at}
+use Rattle.dns_name.specs.Names.{Fault, FaultAt, EndsOrFaults, fault_of, head_of, head_at}
 use Rattle.dns_name.specs.Names.Faulty.{head}
 use Rattle.dns_name.specs.Names.Fault.{ShortInput}
 use Rattle.dns_name.specs.Unique.{EncodedName}
@@ -298,21 +298,9 @@ record_skipped b section p (Ok found) h = h.1.skips
 record_skipped b section p (Err e) h = tt
 
 -- The item of a record that is read describes the record's fields.
-pub record_reports_fields : (b : List ℕ) (section p : ℕ) (r : Result (Item × ℕ) ParseError) → ReturnsRecord b section p r → IfOk r (λ found. Spans found.0 p found.1)
-    → IfOk r (λ found. ReportsFields b found.0)
-record_reports_fields b section p (Ok found) h spans =
-    let skips = h.1.skips in
-    let end = skips.end in
-    let start = h.2.rdata_start in
-    let starts = h.1.rdata_start in
-    let span = spans.end in
-    record {
-      owner_end = skips.name_end;
-      owner_ends = subst (λ k. NameEndsAt b k skips.name_end) (sym spans.start) skips.name_ends;
-      fields = record { rtype = h.2.rtype ∙ h.1.rtype; class = h.2.class ∙ h.1.class; ttl = h.2.ttl ∙ h.1.ttl; rdlen = omega arith };
-      rdata_start = start ∙ starts;
-    }
-record_reports_fields b section p (Err e) h spans = tt
+pub record_reports_fields : (b : List ℕ) (section p : ℕ) (r : Result (Item × ℕ) ParseError) → ReturnsRecord b section p r → IfOk r (λ found. ReportsFields b found.0)
+record_reports_fields b section p (Ok found) h = h.2.fields
+record_reports_fields b section p (Err e) h = tt
 
 -- In the first section no entry is a record.
 pub question_reports_none : (b : List ℕ) (section : ℕ) (r : Result (Item × ℕ) ParseError) → section ≡ 0 → IfOk r (λ found. 1 ≤ section → ReportsFields b found.0)

@@ -4,9 +4,11 @@ pub mod Names
 pub mod Asked
 pub mod DataFields
 pub mod FieldOffsets
+pub mod NameOffsets
 pub mod DataNames
 pub mod FieldValues
 pub mod DataTexts
+pub mod Addresses
 pub mod Opts
 pub mod OnlyOpts
 pub mod Responses

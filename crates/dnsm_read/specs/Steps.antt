@@ -1,9 +1,11 @@
 -- What a call of `dnsm_next` returns, and where it leaves the cursor. RFC 1035 section 4.1.
 --
 -- `b` are the octets of the message.
-use Rattle.std.specs.Prelude.{◌≡◌, ◌⊎◌, ℕ, zero, suc, ◌+◌, ◌<◌, ◌≤◌, List, [], ◌∷◌, length, take, Bool, true, false, Result, Ok, Err}
+use Rattle.std.specs.Prelude.{◌≡◌, ◌⊎◌, ℕ, zero, suc, ◌+◌, ◌-◌, ◌<◌, ◌≤◌, List, [], ◌∷◌, length, take, Bool, true, false, Result, Ok, Err}
+use Rattle.std.specs.Int.{w32}
 use Rattle.dns_octets.specs.declared.error.ParseError.{ParseError}
 use Rattle.dns_name.specs.Names.{Fault, NameAt, NameEndsAt, fault_of}
+use Rattle.dns_name.specs.Parsers.{number_at}
 use Rattle.dns_code.specs.Bits.{number_in}
 use Rattle.dns_code.specs.Header.{fields_in}
 use Rattle.dns_code.specs.HeaderSection.{header_size}
@@ -91,6 +93,14 @@ pub record ReportsQuestion (b : List ℕ) (item : Item) (x : QuestionItem) : Typ
   pub data_len : item.data_len ≡ 0
   pub within : item.«data» ≤ length b
 
+-- The item describes the fields of a record, which follow its owner. The owner needn't be a name. The four octets of the TTL are those before RDLENGTH. RFC 1035 section 4.1.3.
+pub record ReportsFields (b : List ℕ) (item : Item) : Type 0 where
+  pub owner_end : ℕ
+  pub owner_ends : NameEndsAt b item.place owner_end
+  pub fields : AreFieldsAt b owner_end item.rtype item.class item.ttl item.data_len
+  pub rdata_start : item.«data» ≡ owner_end + 10
+  pub ttl_place : item.ttl ≡ number_at w32 b (item.«data» - 6)
+
 -- the item describes this record, which is encoded at the item's offset
 pub record ReportsRecord (b : List ℕ) (item : Item) (x : RecordEntry) : Type 0 where
   pub read : ReadsRecord b item.place x.rdata_end x
@@ -100,13 +110,7 @@ pub record ReportsRecord (b : List ℕ) (item : Item) (x : RecordEntry) : Type 0
   pub rdata_start : item.«data» ≡ x.rdata_start
   pub rdata_end : item.«data» + item.data_len ≡ x.rdata_end
   pub within : item.«data» + item.data_len ≤ length b
-
--- The item describes the fields of a record, which follow its owner. The owner needn't be a name.
-pub record ReportsFields (b : List ℕ) (item : Item) : Type 0 where
-  pub owner_end : ℕ
-  pub owner_ends : NameEndsAt b item.place owner_end
-  pub fields : AreFieldsAt b owner_end item.rtype item.class item.ttl item.data_len
-  pub rdata_start : item.«data» ≡ owner_end + 10
+  pub fields : ReportsFields b item
 
 -- the item describes this entry; the section of a record is a number from 1 to 3
 abbrev pub Reports : List ℕ → Item → Entry → Type 0

@@ -3,18 +3,15 @@ ghost use Rattle.std.specs.Prelude.{◌≡◌, ◌≢◌, ◌<◌, ◌≤◌, le
 ghost use Rattle.dns_data.specs.Layout.{DataAt};
 ghost use Rattle.fields_octets.specs.Data.{parts_of, rtype_of};
 ghost use Rattle.fields_octets.specs.FieldData.{type_layout};
-ghost use Rattle.fields_octets.specs.Table.{definitions_of};
 ghost use Rattle.dnsm_status.specs.Codes.{number_of};
 ghost use Rattle.dnsm_read.specs.DataFields.{IsDataIn, IsNoRdata, LacksData, data_end, data_fields, data_type, up_to_data_end};
-ghost use Rattle.dnsm_read.specs.DataNames.{names_in};
-ghost use Rattle.dnsm_read.specs.FieldOffsets.{FieldsAt, names_among};
+ghost use Rattle.dnsm_read.specs.FieldOffsets.{FieldsAt};
 
 use crate::walk::Item;
 use dns_data::ParseAnyRecordData;
 use dns_iana::{Class, Rtype};
 use dns_name::Parser;
 use dnsm_status::CallError;
-use fields_octets::laws::rest_fields_are_last;
 use fields_octets::{FieldData, layout_type};
 
 /// The offset after the RDATA of an item, if that is within the message.
@@ -69,12 +66,9 @@ pub fn fields<'a>(octets: &'a [u8], item: &Item) -> Result<(&'a [u8], FieldData<
     ensures there { IfOk result (λ found. IsDataIn octets.now item.now (parts_of found.1)) }
     ensures encoded { IfOk result (λ found. FieldsAt (up_to_data_end octets.now item.now)
         (data_fields item.now (parts_of found.1)) item.now.«data» (data_end item.now)) }
-    ensures names { IfOk result (λ found. names_among (data_fields item.now (parts_of found.1))
-        ≡ names_in (definitions_of (data_type item.now))) }
     ensures none { IfErr result (λ fault. item.now.section ≢ 0
         → LacksData octets.now item.now (number_of fault)) }
 {
-    rest_fields_are_last();
     if item.section == 0 {
         return Err(CallError::BadSection);
     }

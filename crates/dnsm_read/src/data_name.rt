@@ -1,46 +1,54 @@
 //! The names in RDATA.
-ghost use Rattle.std.specs.Prelude.{◌≡◌, ◌≢◌, Err, IfErr, IfOk};
+ghost use Rattle.std.specs.Prelude.{◌≡◌, ◌≢◌, ◌<◌, ◌↔◌, Err, IfErr, IfOk, IsTrue};
 ghost use Rattle.dns_name.specs.Names.{Labels, NameAt};
 ghost use Rattle.dns_name.specs.NameTexts.{dotted_text};
 ghost use Rattle.dns_name.specs.ParsedName.{labels};
-ghost use Rattle.fields_octets.specs.Shapes.{shape_of};
 ghost use Rattle.fields_octets.specs.Table.{definitions_of};
 ghost use Rattle.dnsm_status.specs.Codes.{number_of};
-ghost use Rattle.dnsm_read.specs.DataNames.{IsDataName, LacksDataName, IsNameInData, is_name_shape, names_in, up_to_data_end};
+ghost use Rattle.dnsm_read.specs.DataNames.{IsDataName, LacksDataName, IsNameInData, most_names, most_names_in, up_to_data_end};
 ghost use Rattle.dnsm_status.specs.CallerBuffers.{Holds};
 
 use crate::data_fields::{data_type, fields};
-use crate::field_offsets;
+use crate::field_offsets::name_among;
 use crate::name_text::write_name;
 use crate::walk::Item;
 use dns_iana::Rtype;
 use dns_name::ParsedName;
 use dnsm_status::CallError;
 use dnsm_status::sink::End;
-use fields_octets::{Kind, Shape, fields_of};
+use fields_octets::{Kind, fields_of};
 
-/// Whether a field of this kind is a name.
-fn is_name(kind: Kind) -> bool
-    ensures { result ≡ is_name_shape (shape_of kind) }
+/// At most how many names a field of this kind has. RDATA has at most 65,535 octets. In a host
+/// identity four of them come before the servers, whose names take one octet at least.
+fn most_names(kind: Kind) -> usize
+    ensures { result ≡ most_names kind }
 {
-    match kind.shape() {
-        Shape::Name | Shape::UncompressedName(_, _) => true,
-        _ => false,
+    match kind {
+        Kind::CompressibleName
+        | Kind::PointedName
+        | Kind::LowercasedName
+        | Kind::PlainName
+        | Kind::GatewayAndKey
+        | Kind::Relay => 1,
+        Kind::HostIdentity => 65_531,
+        _ => 0,
     }
 }
 
-/// How many fields of a record type are names.
-fn names_in(rtype: Rtype) -> usize
-    ensures { result ≡ names_in (definitions_of rtype) }
+/// Whether some RDATA of this type has a name with this index.
+fn may_have_name(rtype: Rtype, index: usize) -> bool
+    ensures { IsTrue result ↔ (index < most_names_in (definitions_of rtype)) }
 {
     let fields = fields_of(rtype.to_int());
-    let mut count = 0;
+    let mut left = index;
     for field in fields {
-        if is_name(field.1) {
-            count += 1;
+        let most = most_names(field.1);
+        if left < most {
+            return true;
         }
+        left -= most;
     }
-    count
+    false
 }
 
 /// The name with this index in the RDATA of a record, and its offset. A question has no RDATA.
@@ -59,13 +67,13 @@ fn name_in<'a>(
     if item.section == 0 {
         return Err(CallError::BadSection);
     }
-    if index >= names_in(data_type(item)) {
+    if !may_have_name(data_type(item), index) {
         return Err(CallError::NoName);
     }
     let (seen, data) = fields(octets, item)?;
-    match field_offsets::name_at(seen, data.fields(), item.data, index) {
+    match name_among(seen, data.fields(), item.data, index) {
         Some(found) => Ok(found),
-        None => unreachable!(),
+        None => Err(CallError::NoName),
     }
 }
 

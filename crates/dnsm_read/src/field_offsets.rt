@@ -1,11 +1,13 @@
 //! The offsets at which the fields of RDATA are encoded.
-ghost use Rattle.std.specs.Prelude.{◌≡◌, ◌≤◌, ℕ, List, length, false, IfNone, IfSome};
+ghost use Rattle.std.specs.Prelude.{◌≡◌, ◌≤◌, ℕ, List, length, IfNone, IfSome};
 ghost use Rattle.dns_name.specs.Names.{NameAt};
 ghost use Rattle.dns_name.specs.ParsedName.{labels};
 ghost use Rattle.fields_octets.specs.EncodedFields.{part_of};
 ghost use Rattle.fields_octets.specs.FieldParts.{NamedPart, fields_left, named_part};
-ghost use Rattle.dnsm_read.specs.FieldOffsets.{FieldsAt, IsFieldAt, IsNameAmong, IsNameOf, PartAt, is_name, names_among};
+ghost use Rattle.dnsm_read.specs.FieldOffsets.{FieldsAt, IsFieldAt, PartAt};
+ghost use Rattle.dnsm_read.specs.NameOffsets.{IsNameAmong, LacksNameAmong, NamesFrom};
 
+use crate::name_offsets::name_within;
 use crate::walk::name_end;
 use dns_name::ParsedName;
 use fields_octets::{Encoded, Field, Fields};
@@ -51,40 +53,29 @@ pub(crate) fn field_at<'a>(
     None
 }
 
-/// The name with this index among fields that are encoded at offset `start`, and its offset.
-pub(crate) fn name_at<'a>(
-    octets: &[u8],
+/// The name with this index among all names within fields that are encoded at offset `start`, and
+/// its offset.
+pub(crate) fn name_among<'a>(
+    octets: &'a [u8],
     fields: Fields<'a>,
     start: usize,
     index: usize,
 ) -> Option<(usize, ParsedName<'a>)>
-    requires { (end : ℕ) × FieldsAt octets.now (fields_left fields) start end }
-    ensures place { IfSome result (λ found.
+    requires { (offsets : List ℕ) × NamesFrom octets.now (fields_left fields) start offsets }
+    ensures offset { IfSome result (λ found.
         IsNameAmong octets.now start (fields_left fields.entry) index found.0) }
     ensures name { IfSome result (λ found. NameAt octets.now found.0 (labels found.1)) }
-    ensures none { IfNone result (names_among (fields_left fields.entry) ≤ index) }
+    ensures none { IfNone result
+        (LacksNameAmong octets.now start (fields_left fields.entry) index) }
 {
-    let mut place = start;
+    let mut offset = start;
     let mut left = index;
     for field in fields {
-        if let Some(name) = name_of(&field.encoded) {
-            if left == 0 {
-                return Some((place, name));
-            }
-            left -= 1;
+        match name_within(octets, &field, offset, left) {
+            Ok(found) => return Some(found),
+            Err(fewer) => left = fewer,
         }
-        place = end_of(octets, &field.encoded, place);
+        offset = end_of(octets, &field.encoded, offset);
     }
     None
-}
-
-/// A field's name, if it is one.
-fn name_of<'a>(field: &Encoded<'a>) -> Option<ParsedName<'a>>
-    ensures name { IfSome result (λ name. IsNameOf (part_of field.now) (labels name)) }
-    ensures none { IfNone result (is_name (part_of field.now) ≡ false) }
-{
-    match field {
-        Encoded::Octets(_) => None,
-        Encoded::Name(name) | Encoded::UncompressedName(_, name) => Some(*name),
-    }
 }

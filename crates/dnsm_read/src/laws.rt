@@ -1,6 +1,7 @@
-//! How what C gets clones. The functions do nothing: the contract of each is a theorem over all
-//! values.
-ghost use Rattle.std.specs.Prelude.{◌≡◌};
+//! How what C gets clones, and that names in RDATA are determined. The functions do nothing: the
+//! contract of each is a theorem over all values.
+ghost use Rattle.std.specs.Prelude.{◌≡◌, ℕ, List};
+ghost use Rattle.dnsm_read.specs.DataNames.{IsDataName, LacksDataName};
 
 use crate::find_opt::FoundOpt;
 use crate::next_field::DataField;
@@ -27,4 +28,12 @@ pub fn value_clones_never_fail()
     ensures option { (a : _) → ⟦<OptOption as Clone>⟧.is_infallible a }
     ensures found { (a : _) → ⟦<FoundOpt as Clone>⟧.is_infallible a }
     ensures field { (a : _) → ⟦<DataField as Clone>⟧.is_infallible a }
+{}
+
+/// At an index RDATA has one name, or there is a reason why it has none, not both.
+pub fn data_names_are_one()
+    ensures one { (b : List ℕ) (item : _) (index p q : ℕ) → IsDataName b item index p
+        → IsDataName b item index q → p ≡ q }
+    ensures not_both { (b : List ℕ) (item : _) (index p n : ℕ) → IsDataName b item index p
+        → LacksDataName b item index n → ⊥ }
 {}

@@ -5,6 +5,7 @@
 //! C.
 #![tactic(auto)]
 
+pub mod address;
 pub mod answers;
 pub mod asked;
 pub mod data_fields;
@@ -14,9 +15,12 @@ pub mod data_text;
 mod field_offsets;
 pub mod find_opt;
 pub mod laws;
+mod name_offsets;
 pub mod name_text;
 pub mod next_field;
+pub mod octets;
 pub mod opts;
+pub mod sections;
 pub mod walk;
 
 pub use find_opt::FoundOpt;

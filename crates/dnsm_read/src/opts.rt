@@ -8,16 +8,12 @@ ghost use Rattle.dnsm_read.specs.Opts.{BeginsNoOption, HasFields, HoldsOpt, IsIn
 ghost use Rattle.dnsm_status.specs.CallerBuffers.{Holds};
 
 use crate::data_fields::data_end;
+use crate::sections::ADDITIONAL;
 use crate::walk::Item;
+use dns_iana::Rtype;
 use dns_wire::MAX_OCTETS;
 use dnsm_status::CallError;
 use dnsm_status::sink::{End, START, append_octets};
-
-/// The record type of OPT.
-const OPT_RTYPE: u16 = 41;
-
-/// The number of the additional section.
-const ADDITIONAL: u8 = 3;
 
 /// The fields of an OPT record that are in its class and its TTL.
 #[repr(C)]
@@ -48,7 +44,7 @@ pub(crate) fn is_opt(item: &Item) -> bool
     ensures yes { result ≡ true → IsOpt item.now }
     ensures no { IsOpt item.now → result ≡ true }
 {
-    item.rtype == OPT_RTYPE && item.section == ADDITIONAL
+    item.rtype == Rtype::OPT.to_int() && item.section == ADDITIONAL
 }
 
 /// The fields in a class and a TTL.

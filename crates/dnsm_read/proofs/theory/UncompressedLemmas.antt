@@ -21,7 +21,8 @@ use Rattle.dnsm_read.specs.DataFields.{IsDataIn, UncompressesTo, data_end, data_
 use Rattle.dnsm_read.specs.FieldOffsets.{FieldsAt, PartAt}
 use Rattle.dnsm_read.specs.declared.walk.Item.{Item}
 
-ends_later : {b : List ℕ} {p s q : ℕ} → NameContinues b p s q → p < q
+-- An encoding ends after its offset.
+pub ends_later : {b : List ℕ} {p s q : ℕ} → NameContinues b p s q → p < q
 ends_later (NameContinues.root h) = omega arith
 ends_later (NameContinues.pointer h) = omega arith
 ends_later (NameContinues.label h small fits x) = let after = ends_after x in omega arith

@@ -15,15 +15,7 @@ returns-in-Some-clause-encoded c =
     let there =
     data_there c.args.octets.now (take c.in_ok-end.end c.args.octets.now) c.args.item.now c.in_ok-end.end c.data_type.result refl own.0 own.1 c.data_type.ensures
     (parts_of c.in-Some.fields) c.in-Some.ensures.fields in
-    (data_encoded c.args.octets.now c.args.item.now (parts_of c.in-Some.fields) c.rest_fields_are_last.ensures there).at
-
-pub returns-in-Some-clause-names : goal.returns-in-Some-clause-names
-returns-in-Some-clause-names c =
-    let own = c.in_ok-end.ensures.end in
-    let there =
-    data_there c.args.octets.now (take c.in_ok-end.end c.args.octets.now) c.args.item.now c.in_ok-end.end c.data_type.result refl own.0 own.1 c.data_type.ensures
-    (parts_of c.in-Some.fields) c.in-Some.ensures.fields in
-    (data_encoded c.args.octets.now c.args.item.now (parts_of c.in-Some.fields) c.rest_fields_are_last.ensures there).names
+    (data_encoded c.args.octets.now c.args.item.now (parts_of c.in-Some.fields) there).at
 
 pub returns-in-None-clause-none : goal.returns-in-None-clause-none
 returns-in-None-clause-none c =

@@ -32,6 +32,6 @@ returns-else-leads_to_cached c =
       returned = λ _. h.returned;
       skips = record_skipped b cursor.section cursor.place found h.returned;
       place = record_at_offset b cursor found h.returned h.spans;
-      fields = record_reports_fields b cursor.section cursor.place found h.returned h.spans;
+      fields = record_reports_fields b cursor.section cursor.place found h.returned;
       reported = record_reported b cursor.section cursor.place found h.returned;
     }

@@ -1,0 +1,10 @@
+use Rattle.fields_octets.specs.FieldParts.{fields_left}
+use Rattle.dnsm_read.proofs.NameWalks.{NamesWalked}
+use Rattle.dnsm_read.proofs.field_offsets.name_among.Given as goal
+
+abbrev pub invariant-loop-field : goal.invariant-loop-field
+invariant-loop-field l = record {
+  can : goal.iterator-loop-field.can_next l.field-iterator;
+  finite : goal.iterator-loop-field.is_finite l.field-iterator;
+  walked : NamesWalked l.octets (fields_left l.fn.fields) (fields_left l.field-iterator) l.fn.start l.offset l.left l.fn.index;
+}
