@@ -16,7 +16,8 @@ data_number b item n (inr h) is = let e = h.2 in omega (arith, is, e)
 -- so it is for a name in RDATA
 name_number : (b : List ℕ) (item : Item) (index n : ℕ) → LacksDataName b item index n → n ≡ number_of faults.NoRoom → ⊥
 name_number b item index n (inl h) is = let e = h.1 in omega (arith, is, e)
-name_number b item index n (inr h) is = data_number b item n h.1 is
+name_number b item index n (inr (inl h)) is = data_number b item n h.1 is
+name_number b item index n (inr (inr h)) is = let e = h.2 in omega (arith, is, e)
 
 -- a question has no RDATA, and a record lacks it
 other_number : (section n : ℕ) (Lacks : Type 0) → (section ≡ 0 → n ≡ number_of faults.BadSection) → (section ≢ 0 → Lacks) → (Lacks → n ≡ number_of faults.NoRoom → ⊥)

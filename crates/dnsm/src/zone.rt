@@ -6,6 +6,7 @@ ghost use Rattle.dnsm_status.specs.CallerBuffers.{IsLonger, WritesOctets};
 ghost use Rattle.dnsm_status.specs.Codes.{number_of};
 ghost use Rattle.dnsm_read.specs.DataTexts.{RecordAt};
 ghost use Rattle.dnsm_read.specs.Steps.{ReportsRecord};
+ghost use Rattle.dnsm_put.specs.Copies.{HasNumbers, IsItemIn};
 ghost use Rattle.dnsm_zone.specs.Lines.{AreData, AreRecord, HasWords, LacksData, LacksRecord};
 
 use dnsm_read::{Item, walk};
@@ -47,6 +48,7 @@ fn first_record(octets: &[u8]) -> Item
         × ReportsRecord octets.now result x }
     ensures place { result.place ≡ 0 }
     ensures section { result.section ≡ 1 }
+    ensures numbers { HasNumbers result }
 {
     match walk::read_record(octets, ANSWER, 0) {
         Ok((item, _)) => item,
@@ -69,6 +71,7 @@ pub extern "C" fn dnsm_record_from_text(
     ensures octets { result ≡ 0 → HasWords (AreRecord (take len.new out.new)) text.now }
     ensures item { result ≡ 0 → (x : RecordEntry) × RecordAt (take len.new out.new) 0 x
         × ReportsRecord (take len.new out.new) item.new x }
+    ensures means { result ≡ 0 → IsItemIn (take len.new out.new) item.new }
     ensures place { result ≡ 0 → item.new.place ≡ 0 }
     ensures section { result ≡ 0 → item.new.section ≡ 1 }
     ensures no_room { result ≡ number_of CallError.NoRoom → IsLonger

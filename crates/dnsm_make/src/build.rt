@@ -18,15 +18,10 @@ use dns_build::{Builder, MessageBuilder, QuestionBuilder, RecordStage};
 use dns_code::{Header, Ttl};
 use dns_iana::{Class, Rtype};
 use dns_wire::{Composer, MAX_OCTETS};
+use dnsm_read::sections::{ADDITIONAL, QUESTION};
 use dnsm_status::CallError;
 use dnsm_text::names::{Text, name_of};
 use std::alloc::Global;
-
-/// The number of the question section.
-const QUESTION: u8 = 0;
-
-/// The number of the additional section, the last one.
-const ADDITIONAL: u8 = 3;
 
 /// A question or a record to write.
 #[repr(C)]

@@ -4,13 +4,13 @@ ghost use Rattle.dns_name.specs.NameReading.{name_labels};
 ghost use Rattle.dns_name.specs.NameTexts.{SpellsName};
 ghost use Rattle.dnsm_text.specs.Texts.{SpellsNoName};
 
-use crate::octets::same;
+use dnsm_read::octets::same;
 use dnsm_status::CallError;
 use dnsm_text::names::{Text, name_of};
 use std::marker::Model;
 
-/// A name, and the text that it was parsed from. A text that is the same as the last one isn't
-/// parsed again: records of a set have the same owner.
+/// A name, and the text that it was read from. A text that is the same as the last one isn't read
+/// again: records of a set have the same owner.
 #[derive(Drop)]
 pub(crate) struct LastName<'a> {
     text: &'a [u8],
@@ -39,7 +39,7 @@ impl<'a> LastName<'a> {
         }
     }
 
-    /// Parses a text, unless it is the last one again.
+    /// Reads a text, unless it is the last one again.
     pub(crate) fn read(&mut self, text: &'a [u8]) -> Result<(), CallError>
         ensures name { OnOk result (SpellsName text.now self.new) }
         ensures none { IfErr result (λ fault. (fault ≡ CallError.BadText)

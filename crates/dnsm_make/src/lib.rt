@@ -12,7 +12,6 @@ mod last_name;
 pub mod laws;
 pub mod make;
 mod new_data;
-mod octets;
 pub mod query_opt;
 mod target;
 

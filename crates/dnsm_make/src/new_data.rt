@@ -1,6 +1,5 @@
 //! The RDATA of items to write.
-ghost use Rattle.std.specs.Prelude.{◌≡◌, ◌∷◌, [], true, IfOk, IfErr};
-ghost use Rattle.dns_wire.specs.Parts.{Octets};
+ghost use Rattle.std.specs.Prelude.{◌≡◌, IfOk, IfErr};
 ghost use Rattle.fields_octets.specs.Data.{parts_of};
 ghost use Rattle.dnsm_make.specs.Built.{HasNoFields, IsDataOf};
 ghost use Rattle.dnsm_make.specs.NewData.{new_rtype, new_parts};
@@ -10,6 +9,7 @@ use dns_data::{ComposeRecordData, RecordData, UnknownRecordData};
 use dns_iana::{Class, Rtype};
 use dns_octets::AppendError;
 use dns_wire::Composer;
+use dnsm_read::address::is_address;
 use dnsm_status::CallError;
 use fields_octets::{FieldData, layout_type};
 
@@ -59,19 +59,6 @@ impl ComposeRecordData for NewData<'_> {
     }
 }
 
-/// Whether an item is an A or AAAA record with an address of 4 or 16 octets.
-#[inline(always)]
-fn is_address(item: &NewItem<'_>) -> bool
-    ensures { result ≡ true → IsDataOf item.now (Octets item.now.rdata.now ∷ []) }
-{
-    let rtype = Rtype::from_int(item.rtype);
-    match item.rdata.len() {
-        4 => rtype == Rtype::A,
-        16 => rtype == Rtype::AAAA,
-        _ => false,
-    }
-}
-
 /// The fields that the octets of an item's RDATA are.
 fn fields_of<'a>(item: &NewItem<'a>) -> Result<FieldData<'a>, CallError>
     ensures fields { IfOk result (λ fields. IsDataOf item.now (parts_of fields)) }
@@ -93,7 +80,7 @@ pub(crate) fn data_of<'a>(item: &NewItem<'a>) -> Result<NewData<'a>, CallError>
     ensures none { IfErr result (λ fault. (fault ≡ CallError.BadData) × HasNoFields item.now) }
 {
     let rtype = Rtype::from_int(item.rtype);
-    if is_address(item) {
+    if is_address(item.rtype, item.rdata) {
         if let Ok(address) = UnknownRecordData::from_octets(rtype, item.rdata) {
             return Ok(NewData::Address(address));
         }

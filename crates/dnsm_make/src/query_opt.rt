@@ -12,6 +12,7 @@ ghost use Rattle.dnsm_make.specs.OptQueries.{IsOptQuery, LacksOptQuery, asking_w
 
 use crate::make::query_header;
 use dns_edns::are_options;
+use dns_iana::Rtype;
 use dns_wire::MAX_OCTETS;
 use dnsm_read::{Opt, opts};
 use dnsm_status::CallError;
@@ -57,7 +58,8 @@ fn append_opt(opt: &Opt, ttl: u32, options: &[u8], out: &mut [u8], end: End) -> 
     ensures is_record { IsRecord (opt_record opt.now ttl options.now) }
 {
     let len = options.len() as u16;
-    let end = append_octets(&[0, 0, 41], out, end);
+    let end = append_octets(&[0], out, end);
+    let end = append_octets(&Rtype::OPT.to_int().to_be_bytes(), out, end);
     let end = append_octets(&opt.udp_size.to_be_bytes(), out, end);
     let end = append_octets(&ttl.to_be_bytes(), out, end);
     let end = append_octets(&len.to_be_bytes(), out, end);

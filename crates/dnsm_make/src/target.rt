@@ -5,11 +5,11 @@ ghost use Rattle.dns_wire.specs.Encoders.{pointer};
 ghost use Rattle.dns_wire.specs.Targets.{At, with_empty_table};
 ghost use Rattle.dnsm_make.specs.LastNames.{IsPointer};
 
-use crate::octets::same;
 use dns_name::{Head, ToName};
 use dns_octets::AppendError;
 use dns_target::TreeCompressor;
 use dns_wire::Composer;
+use dnsm_read::octets::same;
 use std::alloc::Global;
 use std::marker::Model;
 

@@ -1,5 +1,5 @@
 -- Octets that were written over others, and octets that agree.
-use Rattle.std.proofs.Common.{◌≡◌, ℕ, ◌+◌, ◌-◌, ◌≤◌, List, ◌++◌, inl, length, length-append, length-drop, length-take, take, drop, arith, ap, sym, ◌∙◌, subst, refl}
+use Rattle.std.proofs.Common.{◌≡◌, ℕ, ◌+◌, ◌-◌, ◌≤◌, List, [], ◌++◌, inl, length, length-append, length-drop, length-take, take, drop, arith, ap, sym, ◌∙◌, subst, refl}
 use Rattle.std.specs.Prelude.{Option, Some, None, IsSome, IfSome, IfNone, slice_get}
 use Rattle.std.proofs.lemmas.List.{take_all, take-take, length-take-le}
 use Rattle.dns_octets.specs.Octets.{overwritten}
@@ -80,3 +80,8 @@ put_there (Some end) h some = (end, h)
 -- the octets before `at` stay if those before a later offset do
 pub kept_later : (b c : List ℕ) (at later : ℕ) → at ≤ later → take later c ≡ take later b → take at c ≡ take at b
 kept_later b c at later low kept = sym (take-take at later c low) ∙ ap (take at) kept ∙ take-take at later b low
+
+-- Octets that are none are the same.
+pub same_none : (a b : List ℕ) → length a ≡ length b → length b ≡ 0 → a ≡ b
+same_none [] [] size none = refl
+same_none _ _ size none = absurd (omega arith)

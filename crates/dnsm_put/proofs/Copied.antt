@@ -1,5 +1,5 @@
 -- Items of another message that were put, and why one isn't.
-use Rattle.std.proofs.Common.{◌≡◌, ◌≢◌, ℕ, ◌+◌, ◌<◌, ◌≤◌, ◌⊎◌, List, length, get_or, inl, inr, arith, ap, sym, ◌∙◌, subst, refl}
+use Rattle.std.proofs.Common.{◌≡◌, ◌≢◌, ℕ, ◌+◌, ◌<◌, ◌≤◌, ◌⊎◌, List, length, get_or, inl, inr, arith, ap, sym, ◌∙◌, subst}
 use Rattle.std.specs.Prelude.{min, if◌then◌else◌, ◌==◌}
 use Rattle.dns_name.specs.Names.{Labels, NameAt, uncompressed}
 use Rattle.dns_name.specs.Unique.{encoded_name}
@@ -7,13 +7,12 @@ use Rattle.dns_name.proofs.theory.Names as names
 use Rattle.dns_code.specs.HeaderSection.{header_size}
 use Rattle.dns_wire.specs.Parts.{Part, parts_size}
 use Rattle.dns_data.proofs.theory.DataReading.{one_rdata}
-use Rattle.dns_item.specs.Questions.{QuestionItem, IsQuestion}
-use Rattle.dns_item.specs.Items.{RecordItem, IsRecord}
+use Rattle.dns_item.specs.Questions.{QuestionItem}
+use Rattle.dns_item.specs.Items.{RecordItem}
 use Rattle.fields_octets.specs.Data.{parts_of, rtype_of}
 use Rattle.fields_octets.specs.FieldData.{type_layout}
 use Rattle.fields_octets.specs.FieldOrders.{parts_left}
 use Rattle.fields_octets.specs.FieldParts.{fields_left, named_parts}
-use Rattle.fields_octets.specs.LaidOut.{encoded_parts}
 use Rattle.fields_octets.specs.Table.{definitions_of}
 use Rattle.fields_octets.specs.declared.field_data.FieldData.{FieldData}
 use Rattle.fields_octets.specs.declared.fields.Fields.{Fields}
@@ -24,9 +23,10 @@ use Rattle.dnsm_put.specs.declared.draft.Draft.{Draft}
 use Rattle.dnsm_put.specs.declared.draft.PutItem.{PutItem}
 use Rattle.dnsm_put.specs.declared.draft.PutError.{PutError}
 use Rattle.dnsm_put.specs.declared.draft.PutError.TheVariants.{BadSection, BadName, LongData, BadData, TooMany, NoRoom}
-use Rattle.dnsm_put.specs.Copies.{HasNumbers, IsCopyWith, IsDueFrom, IsItemIn, IsQuestionIn, IsRecordIn, IsRefusedFrom, TakesIn}
+use Rattle.dnsm_put.specs.Copies.{HasNumbers, IsCopyWith, IsDueFrom, IsQuestionIn, IsRecordIn, IsRefusedFrom, TakesIn}
 use Rattle.dnsm_put.specs.Drafts.{AddsTo}
 use Rattle.dnsm_put.specs.Items.{IsQuestionOf, IsRecordOf, IsRecordWith, item_size}
+use Rattle.dnsm_put.proofs.theory.ItemLemmas.{is_question, is_record}
 use Rattle.dnsm_put.specs.Refusals.{IsDue, IsRefused, order_of}
 
 -- What is added for some questions and records is added for those that are among them.
@@ -58,35 +58,10 @@ pub data_left : (b : List ℕ) (item : Item) (d : FieldData) (fields : Fields) �
 data_left b item d fields same is = subst (λ ps. IsDataIn b item ps) (sym (parts_of_fields d fields same)) is
 
 module _ (b : List ℕ) (item : Item) (fits : HasNumbers item) where
-  is_question : (x : QuestionItem) → IsQuestionIn b item x → IsQuestion x
-  is_question x h =
-      let r = fits.rtype in
-      let c = fits.class in
-      let er = h.rtype in
-      let ec = h.class in
-      record { name = encoded_name h.name; rtype = omega arith; class = omega arith }
-
-  is_record : (x : RecordItem) → IsRecordIn b item x → IsRecord x
-  is_record x h =
-      let r = fits.rtype in
-      let c = fits.class in
-      let t = fits.ttl in
-      let er = h.rtype in
-      let ec = h.class in
-      let et = h.ttl in
-      record {
-        owner = encoded_name h.owner;
-        rtype = omega arith;
-        class = omega arith;
-        ttl = omega arith;
-        parts = encoded_parts (up_to_data_end b item) (type_layout (data_type item)) item.«data» (data_end item) x.parts h.parts.fields;
-        short = h.parts.fields.0;
-      }
-
   -- the question that an item is, is that of its copy
   pub question_copied : (copy : PutItem) (name : Labels) → IsCopy b item copy name → (x : QuestionItem) → IsQuestionIn b item x → IsQuestionOf copy x
   question_copied copy name is x h = record {
-    is_question = is_question x h;
+    is_question = is_question b item fits x h;
     name = is.name ∙ ap uncompressed (names.one_name b item.place name x.name is.at h.name);
     rtype = h.rtype ∙ sym is.rtype;
     class = h.class ∙ sym is.class;
@@ -97,27 +72,13 @@ module _ (b : List ℕ) (item : Item) (fits : HasNumbers item) where
   record_copied copy name parts is data_is x h =
       let same = one_rdata (up_to_data_end b item) (type_layout (data_type item)) item.«data» (data_end item) (data_end item) x.parts parts h.parts.fields data_is.fields in
       record {
-        is_record = is_record x h;
+        is_record = is_record b item fits x h;
         owner = is.name ∙ ap uncompressed (names.one_name b item.place name x.owner is.at h.owner);
         rtype = h.rtype ∙ sym is.rtype;
         class = h.class ∙ sym is.class;
         ttl = h.ttl ∙ sym is.ttl;
         parts = same.1;
       }
-
-  -- An item with a name, and, if it isn't a question, with RDATA, is a question or a record.
-  pub is_item : (name : Labels) → NameAt b item.place name → (item.section ≢ 0 → (parts : List Part) × IsDataIn b item parts) → IsItemIn b item
-  is_item name at data_of = record {
-    question = λ z.
-        let x : QuestionItem = record { name = name; rtype = item.rtype; class = item.class } in
-        let h : IsQuestionIn b item x = record { name = at; rtype = refl; class = refl } in
-        (x, is_question x h, h);
-    record_of = λ z.
-        let found = data_of z in
-        let x : RecordItem = record { owner = name; rtype = item.rtype; class = item.class; ttl = item.ttl; parts = found.0 } in
-        let h : IsRecordIn b item x = record { owner = at; rtype = refl; class = refl; ttl = refl; parts = found.1 } in
-        (x, is_record x h, h);
-  }
 
 -- the octets that a question takes
 question_size : (copy : PutItem) → copy.section ≡ 0 → item_size copy ≡ length copy.name.now + 4

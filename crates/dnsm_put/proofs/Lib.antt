@@ -1,13 +1,12 @@
 pub mod Buffers
-pub mod SameOctets
 pub mod Steps
 pub mod NamesChecked
 pub mod Hints
 pub mod NamesWritten
 pub mod RdataWritten
-pub mod DataChecked
 pub mod NamedData
 pub mod FieldsWritten
+pub mod theory
 pub mod Copied
 pub mod Responses
 pub mod ItemsWritten

@@ -5,21 +5,8 @@ ghost use Rattle.dnsm_put.specs.Refusals.{LacksData};
 
 use crate::draft::{Draft, PutItem};
 use crate::rdata::{Layout, data_type, has_fields, layout_of_item};
-use dns_iana::Rtype;
+use dnsm_read::address::is_address;
 use fields_octets::FieldData;
-
-/// Whether an item is an A or AAAA record with an address of 4 or 16 octets.
-#[inline(always)]
-fn is_address(item: &PutItem<'_>) -> bool
-    ensures { result ≡ true → IsTypeData item.now }
-{
-    let rtype = Rtype::from_int(item.rtype);
-    match item.rdata.len() {
-        4 => rtype == Rtype::A,
-        16 => rtype == Rtype::AAAA,
-        _ => false,
-    }
-}
 
 /// Whether the record type has names that may be compressed. RDATA with these names, and the octets
 /// beside them, is all fields of the type.
@@ -60,5 +47,5 @@ pub(crate) fn may_have(draft: &Draft, item: &PutItem<'_>) -> bool
     if draft.unchecked != 0 {
         return true;
     }
-    has_names(item) || is_address(item) || are_fields(item)
+    has_names(item) || is_address(item.rtype, item.rdata) || are_fields(item)
 }

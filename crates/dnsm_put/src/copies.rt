@@ -7,14 +7,15 @@ ghost use Rattle.dns_item.specs.Items.{RecordItem};
 ghost use Rattle.fields_octets.specs.Data.{parts_of};
 ghost use Rattle.fields_octets.specs.FieldOrders.{parts_left};
 ghost use Rattle.dnsm_put.specs.Items.{HoldsRecord, IsQuestionOf, IsRecordWith};
-ghost use Rattle.dnsm_put.specs.Drafts.{AddsTo};
+ghost use Rattle.dnsm_put.specs.Drafts.{AddsTo, DraftsStay};
 ghost use Rattle.dnsm_read.specs.DataFields.{IsDataIn};
 ghost use Rattle.dnsm_put.specs.Copies.{AddsFrom, HasNumbers, IsCopyWith, IsItemIn, IsRefusedFrom, TakesIn};
 
 use crate::draft::{Draft, PutError, PutItem};
 use crate::fields::put_fields;
-use crate::items::{ADDITIONAL, QUESTION, append, most_of, put_head, put_rdlength};
+use crate::items::{most_of, put, put_head, put_rdlength};
 use dns_code::HeaderSection;
+use dnsm_read::sections::{ADDITIONAL, QUESTION};
 use dnsm_read::walk::name_at;
 use dnsm_read::{Item, data_fields};
 use fields_octets::{FieldData, Fields};
@@ -138,8 +139,11 @@ fn copy_of<'a>(item: &Item, name: &'a [u8]) -> PutItem<'a>
     }
 }
 
-/// Appends an item of another message to this one.
-pub(crate) fn append_from(
+/// Appends an item of another message, as `dnsm_next` gives it: the name at its offset, its type
+/// and class, and its TTL, which a cache may have lowered, in its section. Names in its RDATA are
+/// decompressed, and those of types of RFC 1035 compressed anew (RFC 3597 section 4). On an error
+/// the octets of the buffer after the message may have changed.
+pub fn put_from(
     draft: &mut Draft,
     out: &mut [u8],
     message: &[u8],
@@ -162,6 +166,7 @@ pub(crate) fn append_from(
         × (draft.new.counts ≡ draft.old.counts) × (draft.new.section ≡ draft.old.section)) }
     ensures length { length out.new ≡ length out.old }
     ensures kept { take draft.old.len out.new ≡ take draft.old.len out.old }
+    ensures stay { DraftsStay out.old out.new draft.old.len }
 {
     fits(item);
     if item.section > ADDITIONAL || item.section < draft.section {
@@ -173,7 +178,7 @@ pub(crate) fn append_from(
     let owner = name.uncompressed();
     let copy = copy_of(item, owner.as_slice());
     if item.section == QUESTION {
-        return append(draft, out, &copy);
+        return put(draft, out, &copy);
     }
     let Some(fields) = data_in(message, item) else {
         return Err(PutError::BadData);

@@ -11,7 +11,7 @@ ghost use Rattle.dns_item.specs.Items.{RecordItem};
 ghost use Rattle.dnsm_put.specs.Rdata.{HasFields, layout_of};
 ghost use Rattle.dnsm_put.specs.Writing.{HintsWithin, IsNamed};
 ghost use Rattle.dnsm_put.specs.Items.{HoldsQuestion, HoldsRecord, IsQuestionOf, IsRecordOf, Means, head_octets, item_size};
-ghost use Rattle.dnsm_put.specs.Drafts.{Adds};
+ghost use Rattle.dnsm_put.specs.Drafts.{Adds, DraftsStay};
 ghost use Rattle.dnsm_put.specs.Refusals.{IsAcceptable, IsRefused};
 
 use crate::checked::may_have;
@@ -21,12 +21,7 @@ use crate::octets::put_octets;
 use crate::rdata::put_rdata;
 use dns_code::HeaderSection;
 use dns_wire::MAX_OCTETS;
-
-/// The number of the question section.
-pub(crate) const QUESTION: u8 = 0;
-
-/// The number of the additional section, the last one.
-pub(crate) const ADDITIONAL: u8 = 3;
+use dnsm_read::sections::{ADDITIONAL, QUESTION};
 
 /// The offset that an item has to end at or before.
 #[inline(always)]
@@ -238,8 +233,8 @@ fn check(draft: &Draft, item: &PutItem<'_>) -> Result<(), PutError>
     Ok(())
 }
 
-/// Appends an item to the message.
-pub(crate) fn append(draft: &mut Draft, out: &mut [u8], item: &PutItem<'_>) -> Result<(), PutError>
+/// Appends an item. On an error the octets of the buffer after the message may have changed.
+pub fn put(draft: &mut Draft, out: &mut [u8], item: &PutItem<'_>) -> Result<(), PutError>
     ensures adds { OnOk result (Adds out.old out.new draft.old draft.new item.now) }
     ensures means { OnOk result (Means item.now) }
     ensures room { OnOk result ((draft.new.len + draft.old.reserved ≤ length out.old)
@@ -256,6 +251,7 @@ pub(crate) fn append(draft: &mut Draft, out: &mut [u8], item: &PutItem<'_>) -> R
         × (draft.new.counts ≡ draft.old.counts) × (draft.new.section ≡ draft.old.section)) }
     ensures length { length out.new ≡ length out.old }
     ensures kept { take draft.old.len out.new ≡ take draft.old.len out.old }
+    ensures stay { DraftsStay out.old out.new draft.old.len }
 {
     if let Err(error) = check(draft, item) {
         return Err(error);

@@ -24,21 +24,19 @@ mod octets;
 mod rdata;
 mod response;
 
-ghost use Rattle.std.specs.Prelude.{◌≡◌, ◌⊎◌, ℕ, ◌+◌, ◌<◌, ◌≤◌, length, take, replicate, IfOk, IfErr, OnOk, OnErr};
+ghost use Rattle.std.specs.Prelude.{◌≡◌, ◌⊎◌, ◌<◌, ◌≤◌, length, take, replicate, IfOk, IfErr, OnOk, OnErr};
 ghost use Rattle.dns_build.specs.State.{State, with_header, up_to, InBuilder};
 ghost use Rattle.dns_build.specs.MessageOf.{ReadsBack, PointsToLabels};
 ghost use Rattle.dns_code.specs.HeaderSection.{header_size};
 ghost use Rattle.dns_octets.specs.Octets.{overwritten};
-ghost use Rattle.dnsm_put.specs.Copies.{AddsFrom, IsItemIn, IsRefusedFrom, TakesIn};
-ghost use Rattle.dnsm_put.specs.Items.{Means, item_size};
-ghost use Rattle.dnsm_put.specs.Drafts.{Adds, DraftsStay, IsDraftOf, header_of, header_octets_of, HasSmallCounts};
-ghost use Rattle.dnsm_put.specs.Refusals.{IsAcceptable, IsRefused};
+ghost use Rattle.dnsm_put.specs.Drafts.{IsDraftOf, header_of, header_octets_of, HasSmallCounts};
 ghost use Rattle.dnsm_put.specs.declared.draft.Draft.{Draft};
 
+pub use copies::put_from;
 use dns_code::HeaderSection;
-use dnsm_read::Item;
 use draft::clear;
 pub use draft::{Draft, PutError, PutItem};
+pub use items::put;
 use octets::put_octets;
 pub use response::{ResponseError, begin_response};
 
@@ -61,61 +59,6 @@ pub fn begin(draft: &mut Draft, out: &[u8], id: u16, flags: u16) -> Result<(), P
     }
     clear(draft, id, flags);
     Ok(())
-}
-
-/// Appends an item. On an error the octets of the buffer after the message may have changed.
-pub fn put(draft: &mut Draft, out: &mut [u8], item: &PutItem<'_>) -> Result<(), PutError>
-    ensures adds { OnOk result (Adds out.old out.new draft.old draft.new item.now) }
-    ensures means { OnOk result (Means item.now) }
-    ensures room { OnOk result ((draft.new.len + draft.old.reserved ≤ length out.old)
-        × (draft.new.len + draft.old.reserved ≤ draft.old.limit)) }
-    ensures size { OnOk result (draft.new.len ≤ draft.old.len + item_size item.now) }
-    ensures section { OnOk result (draft.new.section ≡ item.now.section) }
-    ensures acceptable { OnOk result (IsAcceptable draft.old item.now) }
-    ensures refused { IfErr result (λ error.
-        IsRefused draft.old (length out.old) item.now error) }
-    ensures settings { (draft.new.id ≡ draft.old.id) × (draft.new.flags ≡ draft.old.flags)
-        × (draft.new.limit ≡ draft.old.limit) × (draft.new.reserved ≡ draft.old.reserved)
-        × (draft.new.unchecked ≡ draft.old.unchecked) }
-    ensures same { OnErr result ((draft.new.len ≡ draft.old.len)
-        × (draft.new.counts ≡ draft.old.counts) × (draft.new.section ≡ draft.old.section)) }
-    ensures length { length out.new ≡ length out.old }
-    ensures kept { take draft.old.len out.new ≡ take draft.old.len out.old }
-    ensures stay { DraftsStay out.old out.new draft.old.len }
-{
-    items::append(draft, out, item)
-}
-
-/// Appends an item of another message, as `dnsm_next` gives it: the name at its offset, its type
-/// and class, and its TTL, which a cache may have lowered, in its section. Names in its RDATA are
-/// decompressed, and those of types of RFC 1035 compressed anew (RFC 3597 section 4). On an error
-/// the octets of the buffer after the message may have changed.
-pub fn put_from(
-    draft: &mut Draft,
-    out: &mut [u8],
-    message: &[u8],
-    item: &Item,
-) -> Result<(), PutError>
-    ensures adds { OnOk result
-        (AddsFrom out.old out.new draft.old draft.new message.now item.now) }
-    ensures means { OnOk result (IsItemIn message.now item.now) }
-    ensures room { OnOk result ((draft.new.len + draft.old.reserved ≤ length out.old)
-        × (draft.new.len + draft.old.reserved ≤ draft.old.limit)) }
-    ensures size { OnOk result ((size : ℕ) × TakesIn message.now item.now size
-        × (draft.new.len ≤ draft.old.len + size)) }
-    ensures section { OnOk result (draft.new.section ≡ item.now.section) }
-    ensures refused { IfErr result (λ error.
-        IsRefusedFrom draft.old (length out.old) message.now item.now error) }
-    ensures settings { (draft.new.id ≡ draft.old.id) × (draft.new.flags ≡ draft.old.flags)
-        × (draft.new.limit ≡ draft.old.limit) × (draft.new.reserved ≡ draft.old.reserved)
-        × (draft.new.unchecked ≡ draft.old.unchecked) }
-    ensures same { OnErr result ((draft.new.len ≡ draft.old.len)
-        × (draft.new.counts ≡ draft.old.counts) × (draft.new.section ≡ draft.old.section)) }
-    ensures length { length out.new ≡ length out.old }
-    ensures kept { take draft.old.len out.new ≡ take draft.old.len out.old }
-    ensures stay { DraftsStay out.old out.new draft.old.len }
-{
-    copies::append_from(draft, out, message, item)
 }
 
 /// The header section of a draft.

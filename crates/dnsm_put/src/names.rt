@@ -7,9 +7,10 @@ ghost use Rattle.dns_wire.specs.Encoders.{pointer};
 ghost use Rattle.dns_wire.specs.TargetLaws.{NameAtWithin};
 ghost use Rattle.dnsm_put.specs.Writing.{HintsWithin, IsNamed, LeadsTo};
 
-use crate::octets::{number_in, put_octets, same};
+use crate::octets::put_octets;
 use dns_code::HeaderSection;
 use dns_name::{Head, Label, Name};
+use dnsm_read::octets::{number_in, same};
 
 /// The index of the hint that has the name that a pointer led to last.
 const LAST: usize = 63;

@@ -1,43 +1,6 @@
-//! Octets that are compared, and octets that are written over others.
-ghost use Rattle.std.specs.Prelude.{◌≡◌, ◌+◌, ◌≤◌, length, slice_range, true, IsSome, IfSome, IfNone};
-ghost use Rattle.std.specs.Int.{to_le_bytes, w64};
+//! Octets that are written over others.
+ghost use Rattle.std.specs.Prelude.{◌≡◌, ◌+◌, ◌≤◌, length, slice_range, IsSome, IfSome, IfNone};
 ghost use Rattle.dnsm_put.specs.Writing.{IsPut};
-
-/// Eight octets as a number, little-endian.
-#[inline(always)]
-pub(crate) fn number_in(octets: &[u8]) -> u64
-    requires { length octets.now ≡ 8 }
-    ensures { to_le_bytes w64 result ≡ octets.now }
-{
-    u64::from_le_bytes([
-        octets[0], octets[1], octets[2], octets[3], octets[4], octets[5], octets[6], octets[7],
-    ])
-}
-
-/// Whether the octets are equal. Eight are compared at a time, the last of them perhaps again.
-pub(crate) fn same(a: &[u8], b: &[u8]) -> bool
-    ensures { result ≡ true → a.now ≡ b.now }
-{
-    let len = a.len();
-    if len != b.len() {
-        return false;
-    }
-    if len < 8 {
-        return a == b;
-    }
-    let mut i = 0;
-    while len - i > 8 {
-        let x = number_in(&a[i..i + 8]);
-        let y = number_in(&b[i..i + 8]);
-        if x != y {
-            return false;
-        }
-        i += 8;
-    }
-    let last_a = number_in(&a[len - 8..len]);
-    let last_b = number_in(&b[len - 8..len]);
-    last_a == last_b
-}
 
 /// Copies octets over others. No octets, and the four of an address, take no call.
 #[inline(always)]

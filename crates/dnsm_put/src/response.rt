@@ -11,7 +11,7 @@ ghost use Rattle.dnsm_put.specs.Responses.{AsksIn, BeginsResponse, IsUnanswered,
 ghost use Rattle.dnsm_put.specs.Writing.{HintsWithin};
 
 use crate::draft::{Draft, PutItem, clear};
-use crate::items::{QUESTION, put_question};
+use crate::items::put_question;
 use dns_code::{Header, HeaderSection};
 use dns_iana::Rcode;
 use dns_item::Question;
@@ -19,6 +19,7 @@ use dns_name::ParsedName;
 use dns_octets::ParseError;
 use dns_read::Message;
 use dnsm_read::asked::first_question;
+use dnsm_read::sections::QUESTION;
 use dnsm_status::CallError;
 use dnsm_status::code::of_error;
 use thiserror::Error;

@@ -1,6 +1,6 @@
 use Rattle.std.proofs.Common.{◌≡◌, length, arith}
 use Rattle.std.proofs.lemmas.Bool.Decides.{nat_tests}
-use Rattle.dnsm_put.proofs.SameOctets.{same_none}
+use Rattle.dnsm_put.proofs.Buffers.{same_none}
 use Rattle.dnsm_put.proofs.octets.copy.Goals as goal
 
 pub returns-then-is_empty : goal.returns-then-is_empty

@@ -5,8 +5,10 @@ use Rattle.dns_name.specs.Unique.{encoded_name}
 use Rattle.fields_octets.specs.FieldOrders.{parts_left}
 use Rattle.dnsm_put.specs.Copies.{IsRefusedFrom}
 use Rattle.dnsm_put.specs.Refusals.{IsRefused}
-use Rattle.dnsm_put.proofs.Copied.{data_left, is_item, no_reason_from, question_adds, question_refused, question_takes, read_copy, record_adds, record_refused, record_takes}
-use Rattle.dnsm_put.proofs.copies.append_from.Goals as goal
+use Rattle.dnsm_put.proofs.Copied.{data_left, no_reason_from, question_adds, question_refused, question_takes, read_copy, record_adds, record_refused, record_takes}
+use Rattle.dnsm_put.proofs.Drafts.{drafts_stay}
+use Rattle.dnsm_put.proofs.theory.ItemLemmas.{is_item}
+use Rattle.dnsm_put.proofs.copies.put_from.Goals as goal
 
 pub returns-in_default-clause-refused : goal.returns-in_default-clause-refused
 returns-in_default-clause-refused c =
@@ -24,7 +26,7 @@ returns-then-item-eq-QUESTION-clause-adds c =
     let name = labels c.in-Ok.name in
     let copy = c.copy_of-copy.result in
     let is = read_copy c.in-Ok.ensures.name (c.as_slice.ensures.value ∙ c.uncompressed-owner.ensures) c.copy_of-copy.ensures in
-    on_ok_weaker c.append.result (question_adds b item c.fits.ensures copy name is _ _ _ _ c.if-item-eq-QUESTION.true) c.append.ensures.adds
+    on_ok_weaker c.put.result (question_adds b item c.fits.ensures copy name is _ _ _ _ c.if-item-eq-QUESTION.true) c.put.ensures.adds
 
 pub returns-then-item-eq-QUESTION-clause-means : goal.returns-then-item-eq-QUESTION-clause-means
 returns-then-item-eq-QUESTION-clause-means c =
@@ -32,12 +34,12 @@ returns-then-item-eq-QUESTION-clause-means c =
     let item = c.args.item.now in
     let name = labels c.in-Ok.name in
     let is = read_copy c.in-Ok.ensures.name (c.as_slice.ensures.value ∙ c.uncompressed-owner.ensures) c.copy_of-copy.ensures in
-    on_ok_weaker c.append.result (λ m. is_item b item c.fits.ensures name is.at (λ some. absurd (some c.if-item-eq-QUESTION.true))) c.append.ensures.means
+    on_ok_weaker c.put.result (λ m. is_item b item c.fits.ensures name is.at (λ some. absurd (some c.if-item-eq-QUESTION.true))) c.put.ensures.means
 
 pub returns-then-item-eq-QUESTION-clause-section : goal.returns-then-item-eq-QUESTION-clause-section
 returns-then-item-eq-QUESTION-clause-section c =
     let is = read_copy c.in-Ok.ensures.name (c.as_slice.ensures.value ∙ c.uncompressed-owner.ensures) c.copy_of-copy.ensures in
-    on_ok_weaker c.append.result (λ same. same ∙ is.section) c.append.ensures.section
+    on_ok_weaker c.put.result (λ same. same ∙ is.section) c.put.ensures.section
 
 pub returns-then-item-eq-QUESTION-clause-refused : goal.returns-then-item-eq-QUESTION-clause-refused
 returns-then-item-eq-QUESTION-clause-refused c =
@@ -46,8 +48,8 @@ returns-then-item-eq-QUESTION-clause-refused c =
     let name = labels c.in-Ok.name in
     let copy = c.copy_of-copy.result in
     let is = read_copy c.in-Ok.ensures.name (c.as_slice.ensures.value ∙ c.uncompressed-owner.ensures) c.copy_of-copy.ensures in
-    IfErr-weaker c.append.result (λ error. IsRefused c.args.draft.now (length c.args.out.now) copy error) (λ error. IsRefusedFrom c.args.draft.now (length c.args.out.now) b item error)
-    (λ error r. question_refused c.args.draft.now (length c.args.out.now) b item copy name is c.if-item-eq-QUESTION.true error r) c.append.ensures.refused
+    IfErr-weaker c.put.result (λ error. IsRefused c.args.draft.now (length c.args.out.now) copy error) (λ error. IsRefusedFrom c.args.draft.now (length c.args.out.now) b item error)
+    (λ error r. question_refused c.args.draft.now (length c.args.out.now) b item copy name is c.if-item-eq-QUESTION.true error r) c.put.ensures.refused
 
 pub returns-in_default-data_in-clause-refused : goal.returns-in_default-data_in-clause-refused
 returns-in_default-data_in-clause-refused c =
@@ -122,7 +124,7 @@ returns-then-item-eq-QUESTION-clause-size c =
     let item = c.args.item.now in
     let name = labels c.in-Ok.name in
     let is = read_copy c.in-Ok.ensures.name (c.as_slice.ensures.value ∙ c.uncompressed-owner.ensures) c.copy_of-copy.ensures in
-    on_ok_weaker c.append.result (question_takes b item c.copy_of-copy.result name is c.if-item-eq-QUESTION.true c.append.new.draft.len c.args.draft.now.len) c.append.ensures.size
+    on_ok_weaker c.put.result (question_takes b item c.copy_of-copy.result name is c.if-item-eq-QUESTION.true c.put.new.draft.len c.args.draft.now.len) c.put.ensures.size
 
 pub returns-clause-size : goal.returns-clause-size
 returns-clause-size c =
@@ -134,3 +136,6 @@ returns-clause-size c =
     on_ok_weaker c.append_record.result
     (record_takes b item c.copy_of-copy.result name (parts_left c.fields.result) is data_is c.if-item-eq-QUESTION.false c.append_record.new.draft.len c.args.draft.now.len)
     c.append_record.ensures.size
+
+pub returns-clause-stay : goal.returns-clause-stay
+returns-clause-stay c = drafts_stay c.args.out.now c.append_record.new.out c.args.draft.now.len c.append_record.ensures.length c.append_record.ensures.kept

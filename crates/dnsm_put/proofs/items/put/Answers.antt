@@ -1,7 +1,7 @@
 use Rattle.std.proofs.Common.{◌+◌, length, get_or, set, arith, ap, refl}
 use Rattle.dnsm_put.specs.Items.{IsQuestionOf, IsRecordOf}
-use Rattle.dnsm_put.proofs.Drafts.{adds}
-use Rattle.dnsm_put.proofs.items.append.Goals as goal
+use Rattle.dnsm_put.proofs.Drafts.{adds, drafts_stay}
+use Rattle.dnsm_put.proofs.items.put.Goals as goal
 
 pub returns-in-Err-clause-refused : goal.returns-in-Err-clause-refused
 returns-in-Err-clause-refused c = c.in-Err.ensures.refused (length c.args.out.now)
@@ -24,3 +24,9 @@ returns-clause-adds c =
       section = refl;
       before = c.in_default.ensures.acceptable.in_order.1;
     }) p.question p.record_of
+
+pub returns-in_default-put_item-clause-stay : goal.returns-in_default-put_item-clause-stay
+returns-in_default-put_item-clause-stay c = drafts_stay c.args.out.now c.put_item.new.out c.args.draft.now.len c.put_item.ensures.length c.put_item.ensures.kept
+
+pub returns-clause-stay : goal.returns-clause-stay
+returns-clause-stay c = drafts_stay c.args.out.now c.put_item.new.out c.args.draft.now.len c.put_item.ensures.length c.put_item.ensures.kept
