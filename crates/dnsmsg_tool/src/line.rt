@@ -193,7 +193,7 @@ fn number_change(field: &str, digits: &str) -> Option<Change>
     ensures { ReadsValue (λ change. change) (IsNumberChange field.now digits.now) result }
 {
     match field {
-        "id" => Some(Change::Id(number(digits, 0xffff)? as u16)),
+        "id" => Some(Change::Id(number(digits, u16::MAX as usize)? as u16)),
         "opcode" => {
             let number = number(digits, 15)? as u8;
             Some(Change::Opcode(Opcode::from_int(number)))

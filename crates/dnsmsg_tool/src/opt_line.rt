@@ -34,13 +34,13 @@ fn plan_of(
     ensures { IfOk result (ReadsValue (λ plan. plan)
         (ArePlanFields size.now rcode.now version.now dnssec_ok.now options.now)) }
 {
-    let Some(size) = number(size, 0xffff) else {
+    let Some(size) = number(size, u16::MAX as usize) else {
         return Ok(None);
     };
     let Some(rcode) = rcode_of(rcode) else {
         return Ok(None);
     };
-    let Some(version) = number(version, 255) else {
+    let Some(version) = number(version, u8::MAX as usize) else {
         return Ok(None);
     };
     let Some(dnssec_ok) = flag_of(dnssec_ok) else {
@@ -102,7 +102,7 @@ fn option_of(alloc: Global, word: &str) -> Result<Option<UnknownOptData<Vec<u8>>
     let Some((code, digits)) = word.split_once(':') else {
         return Ok(None);
     };
-    let Some(code) = number(code, 0xffff) else {
+    let Some(code) = number(code, u16::MAX as usize) else {
         return Ok(None);
     };
     let Some(octets) = octet_digits::octets(alloc, digits.as_bytes())? else {

@@ -18,6 +18,7 @@ use dns_item::Record;
 use dns_lines::KnownData;
 use dns_name::Name;
 use dns_name::name::FromStrError;
+use dns_wire::MAX_OCTETS;
 use std::alloc::{AllocError, Global};
 use std::str::FromStr;
 
@@ -209,13 +210,13 @@ fn zone(alloc: Global, words: &[&str]) -> Result<Option<Soa<Name<Vec<u8>>>>, All
 fn number_of_8_bits(digits: &str) -> Option<u8>
     ensures { ReadsValue (λ n. n) (IsNumberUpTo 255 digits.now) result }
 {
-    Some(number(digits, 0xff)? as u8)
+    Some(number(digits, u8::MAX as usize)? as u8)
 }
 
 fn number_of_32_bits(digits: &str) -> Option<u32>
     ensures { ReadsValue (λ n. n) (IsNumberUpTo 4294967295 digits.now) result }
 {
-    Some(number(digits, 0xffff_ffff)? as u32)
+    Some(number(digits, u32::MAX as usize)? as u32)
 }
 
 /// Opaque RDATA: its length in octets, then the octets as one word of hexadecimal digits, which is
@@ -233,7 +234,7 @@ fn opaque(
     let Some(octets) = only_octets(alloc, digits)? else {
         return Ok(None);
     };
-    if number(len, 0xffff) != Some(octets.len()) {
+    if number(len, MAX_OCTETS) != Some(octets.len()) {
         return Ok(None);
     }
     Ok(UnknownRecordData::from_octets(rtype, octets).ok())
