@@ -248,11 +248,9 @@ dnsm_status dnsm_name_from_text(const char *text, size_t text_len, uint8_t *out,
  *     uint8_t equal, below, order, key[DNSM_NAME_KEY];
  *     uint32_t hash;
  *     size_t len;
- *     if (dnsm_name_equal(message, message_len, 12, zone, sizeof zone, 0, &equal) == DNSM_OK)
- *         puts(equal ? "the name of the zone" : "another name");
- *     if (dnsm_name_below(message, message_len, 43, zone, sizeof zone, 0, &below) == DNSM_OK &&
- *         dnsm_name_order(message, message_len, 43, zone, sizeof zone, 0, &order) == DNSM_OK)
- *         printf("%s, %s\n", below ? "in the zone" : "outside of it", order == 2 ? "after its name" : "not after it");
+ *     puts(dnsm_name_equal(message, message_len, 12, zone, sizeof zone, 0, &equal) == DNSM_OK && equal ? "the zone" : "another");
+ *     puts(dnsm_name_below(message, message_len, 43, zone, sizeof zone, 0, &below) == DNSM_OK && below ? "in it" : "outside");
+ *     puts(dnsm_name_order(message, message_len, 43, zone, sizeof zone, 0, &order) == DNSM_OK && order == 2 ? "after" : "not after");
  *     if (dnsm_name_key(message, message_len, 12, key, sizeof key, &len) == DNSM_OK &&
  *         dnsm_name_hash(message, message_len, 12, seed, sizeof seed, &hash) == DNSM_OK)
  *         printf("a key of %zu octets, and the hash %lu\n", len, (unsigned long)hash);
@@ -300,8 +298,7 @@ dnsm_status dnsm_name_hash(const uint8_t *message, size_t message_len, size_t pl
  *     size_t len, index = 0;
  *     dnsm_data_field field;
  *     puts(dnsm_check_data(message, message_len, &record) == DNSM_OK ? "well-formed" : "malformed");
- *     if (dnsm_data_text(message, message_len, &record, text, sizeof text, &len) == DNSM_OK)
- *         puts(text);
+ *     puts(dnsm_data_text(message, message_len, &record, text, sizeof text, &len) == DNSM_OK ? text : "no record");
  *     while (dnsm_next_field(message, message_len, &record, &index, &field) == DNSM_OK)
  *         printf("field %zu is of kind %u\n", index, field.kind);
  *     if (dnsm_data_octets(message, message_len, &record, data, sizeof data, &len) == DNSM_OK)
@@ -320,8 +317,8 @@ dnsm_status dnsm_data_text(const uint8_t *message, size_t message_len, const dns
                            size_t *len);
 
 /* Writes the RDATA of a record, with names uncompressed: what dnsm_put and dnsm_build take. It is checked to be the fields of
- * its type, for the 65 types of dnsm_data_text; RDATA of other types may be any octets. Nothing after the RDATA is read. 65,535
- * octets are always enough.
+ * its type, for the 65 types of dnsm_data_text; RDATA of other types may be any octets. A record of class NONE (254) or ANY (255)
+ * may have none (RFC 2136 section 2.4). Nothing after the RDATA is read. 65,535 octets are always enough.
  *
  * Errors: DNSM_BAD_SECTION for a question, which has no RDATA; DNSM_SHORT_INPUT if the RDATA isn't within the message, which
  * happens only for an item that dnsm_next didn't write for these octets; DNSM_BAD_DATA if it isn't that of its type, or has more
@@ -334,8 +331,8 @@ dnsm_status dnsm_data_octets(const uint8_t *message, size_t message_len, const d
  * Errors: those of dnsm_data_octets but DNSM_NO_ROOM. */
 dnsm_status dnsm_check_data(const uint8_t *message, size_t message_len, const dnsm_item *item);
 
-/* What a field of RDATA is: a number; a record type, in `number`; the octets of an address; a name, at `place`; a string,
- * without its length; octets after their length of 16 bits; or other octets. */
+/* What a field of RDATA is: a number; a record type, in `number`; the octets of an address; a name, at `place`, to be read with the
+ * end of the RDATA as `message_len`; a string, without its length; octets after their length of 16 bits; or other octets. */
 enum {
     DNSM_FIELD_NUMBER = 0,
     DNSM_FIELD_TYPE = 1,
@@ -377,12 +374,14 @@ dnsm_status dnsm_next_field(const uint8_t *message, size_t message_len, const dn
  */
 
 /* Sets `*place` to the offset of a name in the RDATA of a record, for dnsm_name_text and dnsm_name_octets with the end of the
- * RDATA as `message_len`. The names are counted from 0, in the order of the fields, for each type with a field that is a name. In
- * IPSECKEY, AMTRELAY and HIP names are parts of fields of octets, and aren't counted. No octet after the RDATA belongs to the
- * name, also where it has a compression pointer.
+ * RDATA as `message_len`. All names are counted, from 0, in the order of the fields, for the 65 types of dnsm_data_text: also the
+ * gateway of IPSECKEY and the relay of AMTRELAY, which are names if their type is 3 (RFC 4025 section 2.5, RFC 8777 section
+ * 4.2.4), and each rendezvous server of HIP (RFC 8005 section 5). No octet after the RDATA belongs to the name, also where it has
+ * a compression pointer.
  *
  * Errors, the first that applies: DNSM_BAD_SECTION for a question; DNSM_NO_NAME if RDATA of this type has no name with this
- * index; and those of dnsm_data_octets but DNSM_NO_ROOM. On an error `*place` isn't written. */
+ * index, whatever its octets are; those of dnsm_data_octets but DNSM_NO_ROOM; and DNSM_NO_NAME if this RDATA has fewer names. On an
+ * error `*place` isn't written. */
 dnsm_status dnsm_data_name(const uint8_t *message, size_t message_len, const dnsm_item *item, size_t index, size_t *place);
 
 /* Writes such a name as text, or as its octets.
@@ -562,8 +561,7 @@ dnsm_status dnsm_extended_error_from_text(const char *text, size_t text_len, uin
  *         for (size_t place = item.data; dnsm_next_option(message, message_len, &item, &place, &option) == DNSM_OK;)
  *             printf("option %u of %u octets\n", option.code, option.data_len);
  *     }
- *     if (dnsm_opt_fields(&record, &opt) == DNSM_NOT_OPT)
- *         puts("the first record is no OPT record");
+ *     puts(dnsm_opt_fields(&record, &opt) == DNSM_NOT_OPT ? "the first record is no OPT record" : "it is one");
  */
 
 /* The fields of an OPT record (RFC 6891 section 6.1.3). */
@@ -722,14 +720,12 @@ dnsm_status dnsm_build(uint16_t id, uint16_t flags, const dnsm_new_item *items, 
 /* 14. Writing a message item by item
  *
  *     static const uint8_t name[] = "\7example\3com", address[] = {192, 0, 2, 1};
- *     const dnsm_put_item question = {name, sizeof name, NULL, 0, 0, DNSM_TYPE_A, DNSM_CLASS_IN, DNSM_QUESTION};
  *     const dnsm_put_item answer = {name, sizeof name, address, sizeof address, 3600, DNSM_TYPE_A, DNSM_CLASS_IN, DNSM_ANSWER};
  *     uint8_t out[512];
  *     size_t len;
  *     dnsm_draft draft;
  *     dnsm_status status = dnsm_begin(&draft, out, sizeof out, 4660, DNSM_QR | DNSM_AA);
- *     if (status == DNSM_OK && (status = dnsm_put(&draft, out, sizeof out, &question)) == DNSM_OK &&
- *         dnsm_put(&draft, out, sizeof out, &answer) == DNSM_NO_ROOM)
+ *     if (status == DNSM_OK && dnsm_put(&draft, out, sizeof out, &answer) == DNSM_NO_ROOM)
  *         draft.flags |= DNSM_TC;
  *     if (status == DNSM_OK && dnsm_finish(&draft, out, sizeof out, &len) == DNSM_OK)
  *         printf("%zu octets\n", len);
@@ -800,13 +796,10 @@ dnsm_status dnsm_finish(const dnsm_draft *draft, uint8_t *out, size_t out_len, s
  *     uint8_t query[DNSM_MADE], out[512];
  *     size_t query_len, len;
  *     dnsm_draft draft;
- *     dnsm_status status =
- *         dnsm_query(4660, true, "example.org", 11, DNSM_TYPE_MX, DNSM_CLASS_IN, query, sizeof query, &query_len);
- *     if (status == DNSM_OK)
- *         status = dnsm_begin_response(&draft, out, sizeof out, query, query_len, DNSM_RCODE_NOERROR);
- *     if (status == DNSM_OK)
- *         status = dnsm_put_from(&draft, out, sizeof out, message, message_len, &record);
- *     if (status == DNSM_OK && dnsm_finish(&draft, out, sizeof out, &len) == DNSM_OK)
+ *     if (dnsm_query(4660, true, "example.org", 11, DNSM_TYPE_MX, DNSM_CLASS_IN, query, sizeof query, &query_len) == DNSM_OK &&
+ *         dnsm_begin_response(&draft, out, sizeof out, query, query_len, DNSM_RCODE_NOERROR) == DNSM_OK &&
+ *         dnsm_put_from(&draft, out, sizeof out, message, message_len, &record) == DNSM_OK &&
+ *         dnsm_finish(&draft, out, sizeof out, &len) == DNSM_OK)
  *         printf("a response of %zu octets\n", len);
  */
 

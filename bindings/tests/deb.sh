@@ -11,13 +11,13 @@ unpacked() {
   local words program
   export PKG_CONFIG_SYSROOT_DIR=$root PKG_CONFIG_LIBDIR=$root$libraries/pkgconfig
   words=$(pkg-config --cflags --libs dnsm) && mkdir programs || return
-  for program in show write respond; do
+  for program in $programs; do
     # pkg-config leaves out the folders of the system, which this root isn't.
     $cc -o programs/$program "-I$root/usr/include" "$root/usr/share/doc/libdnsm-dev/examples/$program.c" \
       "-L$root$libraries" $words || return
   done
   export LD_LIBRARY_PATH=$root$libraries
-  all_three programs
+  all_three programs && prints_mx programs/mx
 }
 
 # The list of symbols in the package is what dpkg-gensymbols finds, and a program would depend on the right version.
@@ -52,7 +52,7 @@ installed_there() {
     chroot layer/top sh -euc '
       cd /packages
       dpkg -i *.deb
-      for program in show write respond; do
+      for program in $programs; do
         cc -o $program /usr/share/doc/libdnsm-dev/examples/$program.c $(pkg-config --cflags --libs dnsm)
       done
       ldconfig -p | grep libdnsm.so.2
@@ -64,7 +64,7 @@ installed_there() {
 }
 
 installed() {
-  export runtime development tests
+  export runtime development tests programs
   export -f installed_there layered
   unshare -m bash -c installed_there
 }

@@ -10,6 +10,21 @@ used() {
     go build -o bin/ ./... && all_three bin && names bin/program && ! ldd bin/show | grep libdnsm
 }
 
+# The programs of the module's own page, as functions.
+page() {
+  mkdir user/page && awk -v module="$module" '
+    BEGIN {
+      print "package main\n\nimport (\n\"errors\"\n\"fmt\"\n\n\"" module "\"\n)\n\nfunc main() {}"
+      head[1] = "func read(octets []byte) error {"
+      head[2] = "func respond(out, query []byte, name string, addresses [][]byte) error {"
+      tail[2] = "_ = response\nreturn err\n"
+    }
+    /^```go$/ { print head[++block]; inside = 1; next }
+    /^```$/ && inside { print tail[block] "}"; inside = 0 }
+    inside
+    END { exit block != 2 }' "$dist/go/dnsm/README.md" >user/page/main.go && cd user && go vet ./page ./program
+}
+
 # `go mod vendor` keeps the archive, so the module works without the network.
 vendored() {
   cd user && go mod vendor && GOPROXY=off go build -mod=vendor -o vendored/ ./... && writes vendored/write
@@ -33,6 +48,7 @@ without_cgo() {
 }
 
 check go::used used go "$cc"
+check go::page page go "$cc"
 check go::vendored vendored go "$cc"
 check go::system system go "$cc" pkg-config
 check go::tested tested go "$cc"

@@ -43,6 +43,19 @@ header() {
     PYTHONPATH=wheel python3 "$tests/header.py" "$dist"/rust/dnsm-sys/{include/dnsm.h,src/lib.rs}
 }
 
+# Each file of the wheel has the grammar of Python 3.8.
+grammar() {
+  python3 - "$dist"/dnsm-*.whl <<'PROGRAM'
+import ast, sys, zipfile
+
+with zipfile.ZipFile(sys.argv[1]) as wheel:
+    names = [it for it in wheel.namelist() if it.endswith(".py")]
+    for name in names:
+        ast.parse(wheel.read(name), name, feature_version=(3, 8))
+assert len(names) > 1
+PROGRAM
+}
+
 recorded() {
   python3 "$tests/record.py" "$dist"/dnsm-*.whl
 }
@@ -56,6 +69,7 @@ checks() {
 }
 
 check python::recorded recorded python3
+check python::grammar grammar python3
 check python::header header python3
 first=yes
 for python in ${PYTHONS:-python3}; do

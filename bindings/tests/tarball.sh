@@ -3,7 +3,6 @@
 
 library=$prefix/lib/libdnsm.so.$version
 strict='-std=c99 -Wall -Wextra -Wconversion -Wpedantic -Werror -O2'
-programs='show write respond mx serve forward'
 
 # linked FOLDER OPTION..: the programs with the static library.
 linked() {
@@ -25,7 +24,7 @@ shared() {
   done
   ! ldd shared/show | grep "$prefix" || return
   export LD_LIBRARY_PATH=$prefix/lib
-  all_three shared
+  all_three shared && prints_mx shared/mx
 }
 
 # Installed as for a package, in another folder than where it is going to be, and used there. A path that isn't absolute is refused.
@@ -55,10 +54,18 @@ quoted_program() {
   quoted c >program.c && $cc $strict -o program "-I$prefix/include" program.c "$prefix/lib/libdnsm.a" && names ./program
 }
 
+# The tests of single calls, and the examples of the header that was installed.
+calls() {
+  local program
+  mkdir calls && cp "$tests"/c/{edge,servers}.c calls/ && "$tests/c/quoted" "$prefix/include/dnsm.h" >calls/quoted.c || return
+  for program in edge servers quoted; do
+    $cc $strict -o calls/$program "-I$prefix/include" calls/$program.c "$prefix/lib/libdnsm.a" || return
+  done
+  calls/edge && calls/servers && calls/quoted | diff "$tests/c/quoted.txt" -
+}
+
 cplusplus() {
-  echo '#include <dnsm.h>
-int main() { dnsm_header h; dnsm_cursor c; return dnsm_open(nullptr, 0, &h, &c) != DNSM_SHORT_INPUT; }' >open.cc
-  "${CXX:-c++}" -Wall -Wextra -Werror -o open "-I$prefix/include" open.cc "$prefix/lib/libdnsm.a" && ./open
+  "${CXX:-c++}" -std=c++17 -Wall -Wextra -Werror -o each "-I$prefix/include" "$tests/c/each.cpp" "$prefix/lib/libdnsm.a" && ./each
 }
 
 # The static library needs little of the C library, so any will do.
@@ -106,6 +113,7 @@ check tarball::installed installed "$cc" pkg-config
 check tarball::static static "$cc"
 check tarball::servers servers "$cc" python3
 check tarball::quoted quoted_program "$cc"
+check tarball::calls calls "$cc" python3
 check tarball::cplusplus cplusplus "${CXX:-c++}"
 check tarball::hardened hardened readelf
 check tarball::symbols symbols nm

@@ -1,4 +1,4 @@
-// Each call of dnsm.h once, from C++: a query, a response to it, the same response by dnsm_build, and its items.
+// A query, a response to it, the same response by dnsm_build, and its items, from C++. The examples of dnsm.h have the other calls.
 #include "dnsm.h"
 
 #undef NDEBUG

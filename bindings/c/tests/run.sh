@@ -174,6 +174,23 @@ checked() {
   serves --valgrind
 }
 
+# The calls that allocate, with the first allocation refused, then with the second, and so on until none is. A smaller allocation may
+# take the place of a refused one. Else the call has to tell, and each of the three calls does once.
+refuses() {
+  local place status refused told=0
+  "$1" -O1 -shared -fPIC -o "$build/refuse.so" "$here/../../../campaigns/refuse.c" &&
+    "$1" -std=c11 -O1 "-I$header" "$here/memory.c" "$archive" "$kit/c/liblibc_c.a" -o "$build/memory" || return
+  for ((place = 1; ; place++)); do
+    status=0
+    LD_PRELOAD=$build/refuse.so REFUSE=$place "$build/memory" 2>"$build/told" || status=$?
+    refused=$(grep -cx refused "$build/told")
+    [ $status -le "$refused" ] || { echo "status $status" && cat "$build/told" && return 1; }
+    [ "$refused" = 1 ] || break
+    told=$((told + status))
+  done
+  [ $told -ge 3 ]
+}
+
 # asked CLIENT PYTHON: serve and forward, asked by another program.
 asked() {
   "$2" "$here/clients" "$1" "$build/serve" "$build/forward" | diff "$here/clients.txt" -
@@ -202,7 +219,8 @@ quoted() {
 }
 
 examples_of_cpp() {
-  compile "$1" c++17 "$here/each.cpp" && "$build/each"
+  "$here/quoted" >"$build/quoted.cpp" && compile "$1" c++17 "$here/each.cpp" && compile "$1" c++17 "$build/quoted.cpp" &&
+    "$build/each" && "$build/quoted" | diff "$here/quoted.txt" -
 }
 
 # each_compiler EXAMPLES COMPILER..: the examples by each compiler that is installed; without any, they fail.
@@ -222,6 +240,7 @@ outcome page "$here/page"
 each_compiler examples gcc clang
 each_compiler examples_of_cpp g++ clang++
 outcome short are_short
+outcome memory refuses "$(command -v gcc clang | head -1)"
 if command -v valgrind >/dev/null; then
   outcome valgrind checked "$(command -v gcc clang | head -1)"
 else

@@ -181,6 +181,14 @@ static void data(void)
     assert(dnsm_data_octets(response, RESPONSE, &short_address, out, sizeof out, &len) == DNSM_BAD_DATA && len == 0);
     outside.data = RESPONSE;
     assert(dnsm_check_data(response, RESPONSE, &outside) == DNSM_SHORT_INPUT);
+    /* Only a record of class NONE or ANY may have no RDATA: RFC 2136 section 2.4. */
+    dnsm_item odd = mx;
+    odd.data_len = 0;
+    assert(dnsm_check_data(response, RESPONSE, &odd) == DNSM_BAD_DATA);
+    for (odd.class_ = 254; odd.class_ <= 255; odd.class_++) {
+        assert(dnsm_check_data(response, RESPONSE, &odd) == DNSM_OK);
+        assert(dnsm_data_octets(response, RESPONSE, &odd, NULL, 0, &len) == DNSM_OK && len == 0);
+    }
 }
 
 static void fields(void)
@@ -188,13 +196,14 @@ static void fields(void)
     const dnsm_item srv = item_of(response, RESPONSE, SRV), opt = item_of(response, RESPONSE, 4);
     dnsm_item odd = srv;
     dnsm_data_field field;
-    size_t index = 0;
+    size_t index = 0, end;
     for (unsigned number = 1; number <= 3; number++) {
         assert(dnsm_next_field(response, RESPONSE, &srv, &index, &field) == DNSM_OK && index == number);
         assert(field.kind == DNSM_FIELD_NUMBER && field.number == number);
     }
     assert(dnsm_next_field(response, RESPONSE, &srv, &index, &field) == DNSM_OK && index == 4);
     assert(field.kind == DNSM_FIELD_NAME && field.place == 68);
+    assert(dnsm_name_end(response, srv.data + srv.data_len, field.place, &end) == DNSM_OK);
     assert(dnsm_next_field(response, RESPONSE, &srv, &index, &field) == DNSM_END && index == 4 && field.place == 68);
     index = 0;
     assert(dnsm_next_field(response, RESPONSE, &opt, &index, &field) == DNSM_END || field.len == 0);

@@ -241,7 +241,7 @@ impl<'a> Item<'a> {
     ///
     /// # Errors
     ///
-    /// `BadSection` for a question, `NoName` if RDATA of this type has no such name, and `BadData` if the RDATA isn't that of its type.
+    /// `BadSection` for a question, `NoName` if it has no such name, and `BadData` if the RDATA isn't that of its type.
     pub fn data_name(&self, index: usize) -> Result<Name<'a>, Error> {
         let mut offset = 0;
         // SAFETY: the pointer and the length are those of the octets, and the references are to live values.

@@ -2,7 +2,7 @@
 //! type 65280. `build` writes the shortest message that pointers can make, and `Builder` a pointer where it has seen the same name.
 use dnsm::{
     build, name_from_text, Builder, Class, EdnsOption, Error, Message, NewItem, NewOpt, Opcode, Rcode, Rtype, Section, AA, AD,
-    QR, RA, RD,
+    QR, RA, RD, TC,
 };
 use std::iter::once;
 
@@ -147,6 +147,13 @@ fn a_message_that_is_cut_off_is_read_up_to_there() {
 }
 
 #[test]
+fn a_question_that_is_missing_is_told() {
+    let octets = counted([2, 0, 0, 0], &POSITIVE[12..29]);
+    assert_eq!(Message::new(&octets).unwrap().header().counts, [2, 0, 0, 0]);
+    assert_eq!(read(&octets), (vec!["example.com. IN A".into()], Some(Error::ShortInput)));
+}
+
+#[test]
 fn a_response_repeats_what_was_asked() {
     let broken = counted([1, 0, 0, 0], b"\xc0\x0c\0\x01\0\x01");
     let response = [&[0, 0, 0x80], &broken[3..]].concat();
@@ -177,6 +184,16 @@ fn an_opt_record_with_an_option_has_34_octets() {
     let octets = build(0, 0, &[opt.item()]).unwrap();
     assert_eq!((octets.len(), opt.octets()), (34, 22));
     assert_eq!(&octets[12..], b"\0\0\x29\x10\0\0\0\0\0\0\x0b\0\x03\0\x07example");
+}
+
+/// NSID, two algorithms of DAU, EXPIRE, and a timeout of 300 tenths of a second (RFCs 5001, 6975, 7314 and 7828).
+#[test]
+fn an_opt_record_with_four_options_has_43_octets() {
+    let options: [(u16, &[u8]); 4] = [(3, b""), (5, &[8, 13]), (9, b""), (11, &[1, 44])];
+    let opt = NewOpt::new(1232, false, 0, &options.map(|(code, data)| EdnsOption { code, data })).unwrap();
+    let octets = build(0, 0, &[opt.item()]).unwrap();
+    let wanted = b"\0\x03\0\0\0\x05\0\x02\x08\x0d\0\x09\0\0\0\x0b\0\x02\x01\x2c";
+    assert_eq!((octets.len(), &octets[23..]), (43, &wanted[..]));
 }
 
 #[test]
@@ -333,6 +350,18 @@ fn a_limit_is_inclusive() {
 }
 
 #[test]
+fn a_buffer_is_filled_to_its_end() {
+    let mut out = [0; 512];
+    for limit in [usize::MAX, 512] {
+        let mut builder = Builder::new(&mut out, 0, 0).unwrap();
+        builder.set_limit(limit);
+        let puts: Vec<_> = (0..101).map(|_| (builder.put(&question(".")), builder.len())).collect();
+        assert_eq!(puts[98..], [(Ok(()), 507), (Ok(()), 512), (Err(Error::NoRoom), 512)]);
+        assert_eq!(builder.finish().unwrap()[4..6], [0, 100]);
+    }
+}
+
+#[test]
 fn a_question_section_has_at_most_65535_questions() {
     let mut out = vec![0; 400_000];
     let mut builder = Builder::new(&mut out, 0, 0).unwrap();
@@ -364,6 +393,55 @@ fn a_rewind_forgets_names() {
     assert_eq!(lengths, [39, 12, 39, 55]);
     let octets = builder.finish().unwrap();
     assert_eq!((&octets[12..25], &octets[39..41]), (&POSITIVE[12..25], &b"\xc0\x0c"[..]));
+}
+
+/// The name after the rewind begins where the longer one did, at the last offset that a pointer has.
+#[test]
+fn a_rewind_leaves_the_last_offset_free() {
+    let record = |name| NewItem::record(Section::Authority, name, Rtype::A, 3600, &[203, 0, 113, 1]);
+    let mut out = vec![0; 17000];
+    let mut builder = Builder::new(&mut out, 0, 0).unwrap();
+    builder.put(&opaque(".", 16359)).unwrap();
+    let mark = builder.mark();
+    let mut lengths = vec![builder.len()];
+    builder.put(&record("a.b.")).unwrap();
+    lengths.push(builder.len());
+    builder.rewind(&mark);
+    lengths.push(builder.len());
+    for _ in 0..2 {
+        builder.put(&record("a.")).unwrap();
+        lengths.push(builder.len());
+    }
+    assert_eq!(lengths, [16382, 16401, 16382, 16399, 16415]);
+    assert_eq!(builder.finish().unwrap()[16399..16401], *b"\xff\xfe");
+}
+
+/// A mark for each section leads back to its beginning. TXT without octets is put without a check.
+#[test]
+fn marks_lead_back_to_each_section() {
+    let target = name_from_text("ns.example.com.").unwrap();
+    let mut out = [0; 512];
+    let mut builder = Builder::new(&mut out, 0, 0).unwrap();
+    let mut lengths = vec![builder.len()];
+    let mut marks = Vec::new();
+    let authority = NewItem::record(Section::Authority, ".", Rtype::NS, 60, &target);
+    for item in [question("example.com."), address("example.com."), authority] {
+        marks.push(builder.mark());
+        builder.put(&item).unwrap();
+        lengths.push(builder.len());
+    }
+    builder.rewind(&marks[2]);
+    lengths.push(builder.len());
+    builder.set_unchecked(true);
+    builder.put(&NewItem::record(Section::Additional, ".", Rtype::TXT, 0, b"")).unwrap();
+    lengths.push(builder.len());
+    for mark in marks.iter().rev() {
+        builder.rewind(mark);
+        builder.set_flags(TC);
+        lengths.push(builder.len());
+    }
+    assert_eq!(lengths, [12, 29, 45, 61, 45, 56, 45, 29, 12]);
+    assert_eq!(builder.finish().unwrap(), b"\0\0\x02\0\0\0\0\0\0\0\0\0");
 }
 
 #[test]
