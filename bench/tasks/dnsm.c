@@ -13,31 +13,18 @@ struct name {
     size_t text_len, len;
 };
 
-static struct name www, parent, owners[OWNERS];
+static struct name www, parent, signer, owners[OWNERS];
 static uint8_t addresses[OWNERS][4];
 static dnsm_new_item texts[1 + OWNERS];
+static dnsm_put_item signatures[SIGNATURES];
 static uint8_t out[ROOM];
-static struct input w2, m40, q1;
+static struct input w2, m40, q1, f64, h64;
 
 static void set_name(struct name *name, const char *text)
 {
     name->text_len = strlen(text);
     memcpy(name->text, text, name->text_len + 1);
     dnsm_name_from_text(text, name->text_len, name->octets, sizeof name->octets, &name->len);
-}
-
-void prepare(void)
-{
-    set_name(&www, "www.example.com.");
-    set_name(&parent, "sub.example.com.");
-    w2 = load_input("w2");
-    m40 = load_input("m40");
-    q1 = load_input("q1");
-    for (int i = 0; i < OWNERS; i++) {
-        char text[32];
-        snprintf(text, sizeof text, "h%d.sub.example.com.", i);
-        set_name(&owners[i], text);
-    }
 }
 
 static dnsm_put_item question(const struct name *name)
@@ -74,6 +61,24 @@ static size_t put_20(uint8_t unchecked)
 
 static size_t put_addresses(void) { return put_20(0); }
 static size_t put_unchecked(void) { return put_20(1); }
+
+static size_t put_20_signatures(uint8_t unchecked)
+{
+    dnsm_draft draft;
+    size_t len;
+    dnsm_put_item item = question(&signer);
+    dnsm_begin(&draft, out, sizeof out, 1, DNSM_QR);
+    draft.unchecked = unchecked;
+    if (dnsm_put(&draft, out, sizeof out, &item) != DNSM_OK)
+        return 0;
+    for (int i = 0; i < SIGNATURES; i++)
+        if (dnsm_put(&draft, out, sizeof out, &signatures[i]) != DNSM_OK)
+            return 0;
+    return dnsm_finish(&draft, out, sizeof out, &len) == DNSM_OK ? len : 0;
+}
+
+static size_t put_signatures(void) { return put_20_signatures(0); }
+static size_t put_signatures_unchecked(void) { return put_20_signatures(1); }
 
 static size_t put_owners(void)
 {
@@ -144,6 +149,34 @@ static size_t read_message(const struct input *from, visitor *visit, bool record
     return status == DNSM_END ? cursor.place : 0;
 }
 
+/* Keeps an RRSIG record of m40, to be put. Its RDATA has no compression pointers. */
+static size_t keep_signature(const struct input *from, const dnsm_item *item)
+{
+    static size_t kept;
+    if (item->type == DNSM_TYPE_RRSIG)
+        signatures[kept++] = (dnsm_put_item){signer.octets, signer.len, from->octets + item->data, item->data_len,
+                                             item->ttl, item->type, item->class_, DNSM_ANSWER};
+    return 1;
+}
+
+void prepare(void)
+{
+    set_name(&www, "www.example.com.");
+    set_name(&parent, "sub.example.com.");
+    set_name(&signer, "example.com.");
+    w2 = load_input("w2");
+    m40 = load_input("m40");
+    q1 = load_input("q1");
+    f64 = load_input("f64");
+    h64 = load_input("h64");
+    for (int i = 0; i < OWNERS; i++) {
+        char text[32];
+        snprintf(text, sizeof text, "h%d.sub.example.com.", i);
+        set_name(&owners[i], text);
+    }
+    read_message(&m40, keep_signature, true);
+}
+
 static size_t name_of(const struct input *from, const dnsm_item *item)
 {
     uint8_t name[DNSM_NAME_OCTETS];
@@ -158,7 +191,7 @@ static size_t texts_of(const struct input *from, const dnsm_item *item)
     if (dnsm_name_text(from->octets, from->len, item->place, name, sizeof name, &len) != DNSM_OK ||
         dnsm_class_text(item->class_, class_, sizeof class_, &len) != DNSM_OK ||
         dnsm_type_text(item->type, type, sizeof type, &len) != DNSM_OK ||
-        (item->section != DNSM_QUESTION && dnsm_data_text(from->octets, from->len, item, data, sizeof data, &len) != DNSM_OK))
+        dnsm_data_text(from->octets, from->len, item, data, sizeof data, &len) != DNSM_OK)
         return 0;
     return (size_t)snprintf(line, sizeof line, "%s %u %s %s %s", name, item->ttl, class_, type, data);
 }
@@ -210,8 +243,10 @@ static size_t data_of(const struct input *from, const dnsm_item *item)
 }
 
 static size_t read_items(void) { return read_message(&w2, NULL, false); }
+static size_t read_f64(void) { return read_message(&f64, NULL, false); }
+static size_t read_h64(void) { return read_message(&h64, NULL, false); }
 static size_t read_names(void) { return read_message(&w2, name_of, false); }
-static size_t read_texts(void) { return read_message(&w2, texts_of, false); }
+static size_t read_texts(void) { return read_message(&w2, texts_of, true); }
 static size_t read_addresses(void) { return read_message(&w2, address_of, true); }
 static size_t read_exchanges(void) { return read_message(&m40, exchange_of, true); }
 static size_t read_fields(void) { return read_message(&m40, fields_of, true); }
@@ -262,6 +297,17 @@ static size_t answers(void)
     return dnsm_answers(q1.octets, q1.len, out, len) == DNSM_OK ? len : 0;
 }
 
+static size_t put_query(void)
+{
+    dnsm_draft draft;
+    size_t len;
+    const dnsm_put_item item = question(&www);
+    return dnsm_begin(&draft, out, sizeof out, 1, DNSM_RD) == DNSM_OK && dnsm_put(&draft, out, sizeof out, &item) == DNSM_OK &&
+                   dnsm_finish(&draft, out, sizeof out, &len) == DNSM_OK
+               ? len
+               : 0;
+}
+
 static size_t write_query(void)
 {
     size_t len;
@@ -274,12 +320,17 @@ const struct task tasks[] = {
     {"20 addresses", "dnsm_build", .one = build_addresses},
     {"500 owners", "dnsm_put", .one = put_owners},
     {"500 owners", "dnsm_build", .one = build_owners},
+    {"20 RRSIG of m40", "dnsm_put", .one = put_signatures},
+    {"20 RRSIG of m40", "dnsm_put, unchecked", .one = put_signatures_unchecked},
     {"query", "dnsm_query", .one = write_query},
+    {"query", "dnsm_put", .one = put_query},
     {"response to q1", "dnsm_begin_response, dnsm_put", .one = respond},
     {"response to q1", "dnsm_respond_a", .one = respond_at_once},
     {"response checked", "dnsm_answers", .one = answers},
     {"w2 written again", "dnsm_put_from", .one = put_from},
     {"items of w2", "dnsm_next", .one = read_items},
+    {"items of f64", "dnsm_next", .one = read_f64},
+    {"items of h64", "dnsm_next", .one = read_h64},
     {"owners of w2", "dnsm_name_octets", .one = read_names},
     {"addresses of w2", "dnsm_next", .one = read_addresses},
     {"texts of w2", "dnsm_name_text and others", .one = read_texts},

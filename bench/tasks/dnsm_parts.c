@@ -87,11 +87,24 @@ static size_t read_data(void)
     return dnsm_data_from_text(DNSM_TYPE_MX, MX_DATA, sizeof MX_DATA - 1, data, sizeof data, &len) == DNSM_OK ? len : 0;
 }
 
+static const uint8_t cookie[COOKIE] = {1};
+static const dnsm_opt opt = {.udp_size = 1232};
+
 /* Writes a query with an OPT record that has a cookie. */
 static size_t write_cookie(void)
 {
-    static const uint8_t cookie[COOKIE] = {1};
-    const dnsm_opt opt = {.udp_size = 1232};
+    uint8_t out[512], option[4 + COOKIE];
+    size_t option_len, len;
+    return dnsm_option_octets(DNSM_OPTION_COOKIE, cookie, sizeof cookie, option, sizeof option, &option_len) == DNSM_OK &&
+                   dnsm_query_opt(1, true, WWW_TEXT, sizeof WWW_TEXT - 1, DNSM_TYPE_A, DNSM_CLASS_IN, &opt, option, option_len,
+                                  out, sizeof out, &len) == DNSM_OK
+               ? len
+               : 0;
+}
+
+/* Does so by a draft. */
+static size_t put_cookie(void)
+{
     uint8_t out[512], option[4 + COOKIE];
     size_t option_len, len;
     dnsm_draft draft;
@@ -115,11 +128,11 @@ static size_t write_rcode(void)
 /* Finds the OPT record of q1, and its cookie. Returns the length of the cookie. */
 static size_t find_cookie(void)
 {
-    dnsm_opt opt;
+    dnsm_opt found;
     dnsm_item item;
     dnsm_opt_option option = {.data_len = 0};
     uint16_t rcode;
-    if (dnsm_find_opt(q1.octets, q1.len, &opt, &item, &rcode) != DNSM_OK || opt.udp_size != 1232)
+    if (dnsm_find_opt(q1.octets, q1.len, &found, &item, &rcode) != DNSM_OK || found.udp_size != 1232)
         return 0;
     for (size_t place = item.data; option.code != DNSM_OPTION_COOKIE;)
         if (dnsm_next_option(q1.octets, q1.len, &item, &place, &option) != DNSM_OK)
@@ -141,6 +154,7 @@ const struct task tasks[] = {
     {"record from text", "dnsm_record_from_text", .one = read_record},
     {"RDATA of MX from text", "dnsm_data_from_text", .one = read_data},
     {"cookie of q1", "dnsm_find_opt, dnsm_next_option", .one = find_cookie},
-    {"query with a cookie", "dnsm_option_octets, dnsm_put", .one = write_cookie},
+    {"query with a cookie", "dnsm_option_octets, dnsm_query_opt", .one = write_cookie},
+    {"query with a cookie", "dnsm_option_octets, dnsm_put", .one = put_cookie},
     {.work = NULL},
 };

@@ -10,9 +10,10 @@
 #include <string.h>
 
 static uint8_t out[ROOM];
-static knot_rrset_t addresses[ADDRESSES], all_addresses, owners[OWNERS];
+static knot_rrset_t addresses[ADDRESSES], all_addresses, owners[OWNERS], signatures[SIGNATURES];
 static knot_dname_t *www, *parent;
-static struct input w2, m40, q1;
+static knot_dump_style_t style;
+static struct input w2, m40, q1, f64, h64;
 
 static void set_address(knot_rrset_t *record, const char *owner, uint32_t ttl, const uint8_t *octets)
 {
@@ -21,13 +22,27 @@ static void set_address(knot_rrset_t *record, const char *owner, uint32_t ttl, c
         abort();
 }
 
+/* Keeps the RRSIG records of m40, to be put. */
+static void keep_signatures(void)
+{
+    const knot_pkt_t *packet = read_packet(m40.octets, m40.len);
+    for (uint16_t i = 0, kept = 0; i < packet->rrset_count && kept < SIGNATURES; i++)
+        if (packet->rr[i].type == KNOT_RRTYPE_RRSIG)
+            signatures[kept++] = *knot_rrset_copy(&packet->rr[i], NULL);
+}
+
 void prepare(void)
 {
+    style = KNOT_DUMP_STYLE_DEFAULT;
+    style.show_class = true;
     www = knot_dname_from_str_alloc("www.example.com.");
     parent = knot_dname_from_str_alloc("sub.example.com.");
     w2 = load_input("w2");
     m40 = load_input("m40");
     q1 = load_input("q1");
+    f64 = load_input("f64");
+    h64 = load_input("h64");
+    keep_signatures();
     for (int i = 0; i < ADDRESSES; i++) {
         set_address(&addresses[i], "www.example.com.", ADDRESS_TTL, (const uint8_t[]){192, 0, 2, (uint8_t)i});
         if (i == 0)
@@ -64,6 +79,7 @@ static size_t write_hinted(void) { return write_packet(www, addresses, ADDRESSES
 static size_t write_addresses(void) { return write_packet(www, addresses, ADDRESSES, KNOT_COMPR_HINT_NONE, 1232); }
 static size_t write_set(void) { return write_packet(www, &all_addresses, 1, KNOT_COMPR_HINT_QNAME, 1232); }
 static size_t write_owners(void) { return write_packet(parent, owners, OWNERS, KNOT_COMPR_HINT_NONE, ROOM); }
+static size_t write_signatures(void) { return write_packet(signatures[0].owner, signatures, SIGNATURES, KNOT_COMPR_HINT_QNAME, ROOM); }
 
 static size_t write_query(void)
 {
@@ -83,6 +99,8 @@ static size_t read_message(const struct input *from)
 }
 
 static size_t read_items(void) { return read_message(&w2); }
+static size_t read_f64(void) { return read_message(&f64); }
+static size_t read_h64(void) { return read_message(&h64); }
 static size_t read_data(void) { return read_message(&m40); }
 
 static size_t read_addresses(void)
@@ -106,7 +124,7 @@ static size_t read_texts(void)
     if (!line)
         line = malloc(size);
     for (uint16_t i = 0; packet && i < packet->rrset_count; i++)
-        if (knot_rrset_txt_dump(&packet->rr[i], &line, &size, &KNOT_DUMP_STYLE_DEFAULT) <= 0)
+        if (knot_rrset_txt_dump(&packet->rr[i], &line, &size, &style) <= 0)
             return 0;
     return packet ? packet->size : 0;
 }
@@ -191,10 +209,13 @@ const struct task tasks[] = {
     {"20 addresses", "knot_pkt_put, no hint", .one = write_addresses},
     {"20 addresses", "knot_pkt_put of one RRset, QNAME hint", .one = write_set},
     {"500 owners", "knot_pkt_put, no hint", .one = write_owners},
+    {"20 RRSIG of m40", "knot_pkt_put, QNAME hint", .one = write_signatures},
     {"query", "knot_pkt_put_question", .one = write_query},
     {"response to q1", "knot_pkt_init_response, knot_pkt_put", .one = respond},
     {"w2 written again", "knot_pkt_put, no hint", .one = put_from},
     {"items of w2", "knot_pkt_parse", .one = read_items},
+    {"items of f64", "knot_pkt_parse", .one = read_f64},
+    {"items of h64", "knot_pkt_parse", .one = read_h64},
     {"owners of w2", "knot_pkt_parse", .one = read_items},
     {"addresses of w2", "knot_pkt_parse", .one = read_addresses},
     {"texts of w2", "knot_rrset_txt_dump", .one = read_texts},

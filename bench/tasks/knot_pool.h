@@ -7,7 +7,7 @@
 #include <stddef.h>
 #include <stdint.h>
 
-enum { POOL = 1 << 20 };
+enum { POOL = 1 << 22 };
 
 static _Alignas(16) uint8_t pool[POOL];
 static size_t pool_used;

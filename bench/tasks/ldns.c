@@ -7,9 +7,9 @@
 #include <stdlib.h>
 #include <string.h>
 
-static ldns_pkt *addresses, *owners;
+static ldns_pkt *addresses, *owners, *signatures;
 static ldns_buffer *buffer;
-static struct input w2, m40;
+static struct input w2, m40, f64, h64;
 
 static ldns_rdf *name_of(const char *text)
 {
@@ -36,6 +36,21 @@ static ldns_pkt *response_to(const char *name)
     return packet;
 }
 
+/* Keeps the RRSIG records of m40 in a packet, to be written. */
+static void keep_signatures(void)
+{
+    ldns_pkt *packet;
+    signatures = response_to("example.com.");
+    if (ldns_wire2pkt(&packet, m40.octets, m40.len) != LDNS_STATUS_OK)
+        abort();
+    for (size_t i = 0; i < ldns_rr_list_rr_count(ldns_pkt_answer(packet)); i++) {
+        const ldns_rr *record = ldns_rr_list_rr(ldns_pkt_answer(packet), i);
+        if (ldns_rr_get_type(record) == LDNS_RR_TYPE_RRSIG)
+            ldns_pkt_push_rr(signatures, LDNS_SECTION_ANSWER, ldns_rr_clone(record));
+    }
+    ldns_pkt_free(packet);
+}
+
 void prepare(void)
 {
     char owner[32], address[16];
@@ -53,6 +68,9 @@ void prepare(void)
     buffer = ldns_buffer_new(ROOM);
     w2 = load_input("w2");
     m40 = load_input("m40");
+    f64 = load_input("f64");
+    h64 = load_input("h64");
+    keep_signatures();
 }
 
 static size_t write_packet(const ldns_pkt *packet)
@@ -63,6 +81,7 @@ static size_t write_packet(const ldns_pkt *packet)
 
 static size_t write_addresses(void) { return write_packet(addresses); }
 static size_t write_owners(void) { return write_packet(owners); }
+static size_t write_signatures(void) { return write_packet(signatures); }
 
 static size_t write_query(void)
 {
@@ -134,6 +153,8 @@ static size_t exchange_of(const ldns_rr *record)
 }
 
 static size_t read_items(void) { return read_message(&w2, NULL); }
+static size_t read_f64(void) { return read_message(&f64, NULL); }
+static size_t read_h64(void) { return read_message(&h64, NULL); }
 static size_t read_addresses(void) { return read_message(&w2, address_of); }
 static size_t read_texts(void) { return read_message(&w2, text_of); }
 static size_t read_fields(void) { return read_message(&m40, fields_of); }
@@ -154,9 +175,12 @@ static size_t write_again(void)
 const struct task tasks[] = {
     {"20 addresses", "ldns_pkt2buffer_wire", .one = write_addresses},
     {"500 owners", "ldns_pkt2buffer_wire", .one = write_owners},
+    {"20 RRSIG of m40", "ldns_pkt2buffer_wire", .one = write_signatures},
     {"query", "ldns_pkt_query_new", .one = write_query},
     {"w2 written again", "ldns_wire2pkt, ldns_pkt2buffer_wire", .one = write_again},
     {"items of w2", "ldns_wire2pkt", .one = read_items},
+    {"items of f64", "ldns_wire2pkt", .one = read_f64},
+    {"items of h64", "ldns_wire2pkt", .one = read_h64},
     {"owners of w2", "ldns_wire2pkt", .one = read_items},
     {"addresses of w2", "ldns_wire2pkt", .one = read_addresses},
     {"texts of w2", "ldns_rr2str", .one = read_texts},

@@ -41,8 +41,9 @@ enum { COOKIE = 8 };
  *     sub.example.com.          A     the question of the second
  *     h0.sub.example.com. 3600  A     10.0.0.0, and so on up to h499
  *
- * The query that is written asks for www.example.com, type A, with RD and without EDNS. The message that is read is w2.
+ * and the 20 RRSIG records of m40, after a question of type A for their owner. The query that is written asks for
+ * www.example.com, type A, with RD and without EDNS. The message that is read is w2, if the work names no other.
  */
-enum { ADDRESSES = 20, OWNERS = 500, ADDRESS_TTL = 300, OWNER_TTL = 3600, ROOM = 65535 };
+enum { ADDRESSES = 20, OWNERS = 500, SIGNATURES = 20, ADDRESS_TTL = 300, OWNER_TTL = 3600, ROOM = 65535 };
 
 #endif
