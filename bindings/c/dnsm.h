@@ -405,14 +405,15 @@ dnsm_status dnsm_data_name_octets(const uint8_t *message, size_t message_len, co
  */
 
 /* Writes the RDATA that a text represents, as in a zone file: what dnsm_data_text writes for RDATA of this type, or `\#` with a
- * length and hexadecimal digits (RFC 3597 section 5), which have to be RDATA of this type, too. Names are absolute. Allocates.
+ * length and hexadecimal digits (RFC 3597 section 5), which have to be RDATA of this type, too. Names are absolute. Allocates, and takes
+ * up to 96 KiB of stack.
  *
  * Errors: DNSM_NO_ROOM, DNSM_BAD_TEXT, and DNSM_NO_MEMORY. */
 dnsm_status dnsm_data_from_text(uint16_t type, const char *text, size_t text_len, uint8_t *out, size_t out_len, size_t *len);
 
 /* Writes the octets of the record that a text represents, as in a line of a zone file: owner, TTL in seconds, class, type, and
  * RDATA. Sets the item as for a record of the answer section at the start of these octets, so that dnsm_put_from takes both.
- * Allocates.
+ * Allocates, and takes as much stack.
  *
  * Errors: DNSM_NO_ROOM, DNSM_BAD_TEXT, and DNSM_NO_MEMORY. Then the item isn't written. */
 dnsm_status dnsm_record_from_text(const char *text, size_t text_len, uint8_t *out, size_t out_len, size_t *len, dnsm_item *item);
