@@ -1,8 +1,9 @@
 -- RDATA in presentation format. RFC 1035 sections 3.4.1 and 5.1, RFC 3597 section 5.
-use Rattle.std.specs.Prelude.{ℕ, ◌/◌, ◌%◌, false, List, [], ◌∷◌, ◌++◌, length, slice_index, Option, option_map, codes}
-use Rattle.std.specs.Fmt.{decimal, digit_glyph}
+use Rattle.std.specs.Prelude.{ℕ, false, List, [], ◌∷◌, ◌++◌, length, slice_index, Option, option_map, codes}
+use Rattle.std.specs.Fmt.{decimal}
 use Rattle.std.specs.List.{flat_map}
 use Rattle.std.specs.Option.{option_and_then}
+use Rattle.dns_print.specs.Digits.{hex_digits}
 use Rattle.dns_data.specs.A.{address_of}
 use Rattle.dns_data.specs.Soa.{mname_of, rname_of, serial_of, refresh_of, retry_of, expire_of, minimum_of}
 use Rattle.dns_data.specs.declared.a.A.{A}
@@ -30,7 +31,7 @@ soa_text name_text soa =
 
 -- an octet as two lowercase hexadecimal digits
 abbrev pub hex_octet : ℕ → List ℕ
-hex_octet octet = digit_glyph false (octet / 16) ∷ digit_glyph false (octet % 16) ∷ []
+hex_octet octet = hex_digits false octet
 
 -- a space and the octets in hexadecimal digits, if there are any
 abbrev pub hex_text : List ℕ → List ℕ

@@ -1,10 +1,8 @@
 //! RDATA in presentation format (RFC 1035 section 5.1; opaque data: RFC 3597 section 5).
-ghost use Rattle.std.specs.Prelude.{false, IfSome, OnErr, Some, ◌≡◌, ◌<◌, [], ◌∷◌};
-ghost use Rattle.std.specs.Fmt.{digit_glyph};
-ghost use Rattle.std.specs.List.{flat_map};
+ghost use Rattle.std.specs.Prelude.{IfSome, OnErr, Some};
 ghost use Rattle.dns_print.specs.Printing.{PrintsOnOk};
 ghost use Rattle.dns_data.specs.NameData.{nsdname_of, cname_of};
-ghost use Rattle.dns_data.specs.Printing.{address_text, absolute_text, soa_text, hex_octet, opaque_text};
+ghost use Rattle.dns_data.specs.Printing.{address_text, absolute_text, soa_text, opaque_text};
 ghost use Rattle.dns_data.specs.UnknownData.{unknown_octets};
 
 use crate::a::A;
@@ -12,15 +10,15 @@ use crate::name_data::{Cname, Ns};
 use crate::soa::Soa;
 use crate::unknown::UnknownRecordData;
 use dns_octets::Octets;
-use dns_print::{TextWriter, write_number, write_value};
+use dns_print::{TextWriter, write_hex, write_ipv4, write_number, write_value};
 use std::fmt;
 
 /// Prints four decimal numbers separated by dots.
 fn write_address<W: TextWriter>(f: &mut W, address: A) -> fmt::Result
-    ensures { PrintsOnOk W.takes f.old result (address_text address) f.new }
+    ensures text { PrintsOnOk W.takes f.old result (address_text address) f.new }
+    ensures err { OnErr result W.MayFail }
 {
-    let [a, b, c, d] = address.octets();
-    write_value(f, format_args!("{a}.{b}.{c}.{d}"))
+    write_ipv4(f, address.octets())
 }
 
 /// Four decimal numbers separated by dots.
@@ -87,50 +85,6 @@ impl<N: fmt::Display> fmt::Display for Soa<N> {
     }
 }
 
-/// The lowercase hexadecimal digit of a number.
-fn digit(number: u8) -> char
-    requires { number < 16 }
-    ensures glyph { result ≡ digit_glyph false number }
-    ensures ascii { result < 128 }
-{
-    char::from(if number < 10 {
-        b'0' + number
-    } else {
-        b'a' + (number - 10)
-    })
-}
-
-/// Prints a lowercase hexadecimal digit.
-fn write_digit<W: TextWriter>(f: &mut W, number: u8) -> fmt::Result
-    requires { number < 16 }
-    ensures text { PrintsOnOk W.takes f.old result (digit_glyph false number ∷ []) f.new }
-    ensures err { OnErr result W.MayFail }
-{
-    f.write_char(digit(number))
-}
-
-/// Prints an octet as two lowercase hexadecimal digits.
-#[tactic(auto, using(dns_print::proofs::theory::Prints::prints, std::proofs::lemmas::Grind::common_steps))]
-fn write_octet<W: TextWriter>(f: &mut W, octet: u8) -> fmt::Result
-    ensures text { PrintsOnOk W.takes f.old result (hex_octet octet) f.new }
-    ensures err { OnErr result W.MayFail }
-{
-    write_digit(f, octet / 16)?;
-    write_digit(f, octet % 16)
-}
-
-/// Prints each octet as two lowercase hexadecimal digits.
-#[tactic(auto, using(dns_print::proofs::theory::Prints::prints, std::proofs::lemmas::Grind::common_steps))]
-fn write_hex<W: TextWriter>(f: &mut W, octets: &[u8]) -> fmt::Result
-    ensures text { PrintsOnOk W.takes f.old result (flat_map hex_octet octets.now) f.new }
-    ensures err { OnErr result W.MayFail }
-{
-    for octet in octets {
-        write_octet(f, *octet)?;
-    }
-    Ok(())
-}
-
 /// Prints opaque data. Fails only if the writer does.
 #[tactic(auto, using(dns_print::proofs::theory::Prints::prints, std::proofs::lemmas::Grind::common_steps))]
 fn write_opaque<W: TextWriter>(f: &mut W, octets: &[u8]) -> fmt::Result
@@ -143,7 +97,7 @@ fn write_opaque<W: TextWriter>(f: &mut W, octets: &[u8]) -> fmt::Result
         return Ok(());
     }
     f.write_text(" ")?;
-    write_hex(f, octets)
+    write_hex(f, false, octets)
 }
 
 /// `\#`, the number of octets and, if there are any, the octets in hexadecimal digits, separated by

@@ -1,9 +1,8 @@
 -- What the octets of options encode, and the first option of a code.
-use Rattle.std.proofs.Common.{◌≡◌, ◌≢◌, ◌∙◌, ap, sym, subst, refl, ℕ, ◌-◌, ◌*◌, ◌/◌, ◌≤◌, min, [], get_or, Bool, true, false, cond, eqb, List, ◌∷◌, ◌++◌}
+use Rattle.std.proofs.Common.{◌≡◌, ◌∙◌, ap, sym, subst, refl, ℕ, ◌-◌, ◌*◌, ◌/◌, ◌≤◌, min, [], get_or, Bool, true, cond, eqb, List, ◌∷◌, ◌++◌}
 use Rattle.std.proofs.Common.{length, take, drop, replicate, take-append-drop, length-append, length-drop, arith, eq-eqb, Option, Some, None}
 use Rattle.std.specs.Prelude.{◌↔◌, ◌==◌, option_map}
 use Rattle.std.specs.List.{find}
-use Rattle.std.proofs.lemmas.Bool.{ne_eqb}
 use Rattle.std.proofs.lemmas.List.{take_all, take_at, drop_at, drop-replicate, length-replicate}
 use Rattle.dns_edns.specs.KnownOptions.{IsServerCookie, prefix_octets, zeros, family, address_bits, address_octets, client_subnet_option}
 use Rattle.dns_edns.specs.Options.{OptionItem}

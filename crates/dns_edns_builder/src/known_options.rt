@@ -10,68 +10,44 @@ ghost use Rattle.dns_edns_builder.specs.Additions.{Adds};
 
 use crate::builder::OptBuilder;
 use dns_edns::{SubnetAddr, address_prefix};
+use dns_iana::OptionCode;
 use dns_name::ToName;
 use dns_octets::AppendError;
-
-// The codes of the options in IANA's registry.
-const NSID: u16 = 3;
-
-const DAU: u16 = 5;
-
-const DHU: u16 = 6;
-
-const N3U: u16 = 7;
-
-const CLIENT_SUBNET: u16 = 8;
-
-const EXPIRE: u16 = 9;
-
-const COOKIE: u16 = 10;
-
-const TCP_KEEPALIVE: u16 = 11;
-
-const PADDING: u16 = 12;
-
-const CHAIN: u16 = 13;
-
-const KEY_TAG: u16 = 14;
-
-const EXTENDED_ERROR: u16 = 15;
 
 impl OptBuilder {
     /// Adds the identifier of the name server (NSID, RFC 5001).
     pub fn nsid(&mut self, identifier: &[u8]) -> Result<(), AppendError>
         ensures { Adds (nsid_option identifier.now) self.old self.new result }
     {
-        self.append(NSID, identifier)
+        self.append(OptionCode::NSID.to_int(), identifier)
     }
 
     /// Requests the identifier of the name server (NSID, RFC 5001).
     pub fn client_nsid(&mut self) -> Result<(), AppendError>
         ensures { Adds (nsid_option []) self.old self.new result }
     {
-        self.append(NSID, &[])
+        self.append(OptionCode::NSID.to_int(), &[])
     }
 
     /// Adds the numbers of the understood signature algorithms (DAU, RFC 6975).
     pub fn dau(&mut self, algorithms: &[u8]) -> Result<(), AppendError>
         ensures { Adds (dau_option algorithms.now) self.old self.new result }
     {
-        self.append(DAU, algorithms)
+        self.append(OptionCode::DAU.to_int(), algorithms)
     }
 
     /// Adds the numbers of the understood DS hash algorithms (DHU, RFC 6975).
     pub fn dhu(&mut self, algorithms: &[u8]) -> Result<(), AppendError>
         ensures { Adds (dhu_option algorithms.now) self.old self.new result }
     {
-        self.append(DHU, algorithms)
+        self.append(OptionCode::DHU.to_int(), algorithms)
     }
 
     /// Adds the numbers of the understood NSEC3 hash algorithms (N3U, RFC 6975).
     pub fn n3u(&mut self, algorithms: &[u8]) -> Result<(), AppendError>
         ensures { Adds (n3u_option algorithms.now) self.old self.new result }
     {
-        self.append(N3U, algorithms)
+        self.append(OptionCode::N3U.to_int(), algorithms)
     }
 
     /// Adds the subnet of a client: the first `source` bits of its address, and the number of bits
@@ -112,7 +88,7 @@ impl OptBuilder {
     {
         let prefix = address_prefix(address, source);
         self.append_joined(
-            CLIENT_SUBNET,
+            OptionCode::CLIENT_SUBNET.to_int(),
             &[0, family, source, scope],
             prefix.as_slice(),
         )
@@ -124,8 +100,8 @@ impl OptBuilder {
         ensures { Adds (expire_option seconds) self.old self.new result }
     {
         match seconds {
-            Some(seconds) => self.append(EXPIRE, &seconds.to_be_bytes()),
-            None => self.append(EXPIRE, &[]),
+            Some(seconds) => self.append(OptionCode::EXPIRE.to_int(), &seconds.to_be_bytes()),
+            None => self.append(OptionCode::EXPIRE.to_int(), &[]),
         }
     }
 
@@ -137,8 +113,8 @@ impl OptBuilder {
             self.old self.new result }
     {
         match server {
-            Some(server) => self.append_joined(COOKIE, &client, server),
-            None => self.append(COOKIE, &client),
+            Some(server) => self.append_joined(OptionCode::COOKIE.to_int(), &client, server),
+            None => self.append(OptionCode::COOKIE.to_int(), &client),
         }
     }
 
@@ -146,7 +122,7 @@ impl OptBuilder {
     pub fn initial_cookie(&mut self, client: [u8; 8]) -> Result<(), AppendError>
         ensures { Adds (cookie_option client None) self.old self.new result }
     {
-        self.append(COOKIE, &client)
+        self.append(OptionCode::COOKIE.to_int(), &client)
     }
 
     /// Adds the idle timeout of the connection in units of 100 milliseconds, or requests it with
@@ -155,8 +131,11 @@ impl OptBuilder {
         ensures { Adds (tcp_keepalive_option timeout) self.old self.new result }
     {
         match timeout {
-            Some(timeout) => self.append(TCP_KEEPALIVE, &timeout.to_be_bytes()),
-            None => self.append(TCP_KEEPALIVE, &[]),
+            Some(timeout) => self.append(
+                OptionCode::TCP_KEEPALIVE.to_int(),
+                &timeout.to_be_bytes(),
+            ),
+            None => self.append(OptionCode::TCP_KEEPALIVE.to_int(), &[]),
         }
     }
 
@@ -164,14 +143,14 @@ impl OptBuilder {
     pub fn padding(&mut self, len: u16) -> Result<(), AppendError>
         ensures { Adds (padding_option (zeros len)) self.old self.new result }
     {
-        self.append_zeros(PADDING, len)
+        self.append_zeros(OptionCode::PADDING.to_int(), len)
     }
 
     /// Adds padding of the given octets (RFC 7830).
     pub fn random_padding(&mut self, octets: &[u8]) -> Result<(), AppendError>
         ensures { Adds (padding_option octets.now) self.old self.new result }
     {
-        self.append(PADDING, octets)
+        self.append(OptionCode::PADDING.to_int(), octets)
     }
 
     /// Adds the closest trust point. The chain of signatures is requested from there on (CHAIN, RFC
@@ -180,8 +159,11 @@ impl OptBuilder {
         ensures { Adds (chain_option (N.name trust_point.now)) self.old self.new result }
     {
         match trust_point.as_flat_slice() {
-            Some(octets) => self.append(CHAIN, octets),
-            None => self.append(CHAIN, trust_point.as_parsed().uncompressed().as_slice()),
+            Some(octets) => self.append(OptionCode::CHAIN.to_int(), octets),
+            None => self.append(
+                OptionCode::CHAIN.to_int(),
+                trust_point.as_parsed().uncompressed().as_slice(),
+            ),
         }
     }
 
@@ -189,7 +171,7 @@ impl OptBuilder {
     pub fn key_tag(&mut self, tags: &[u16]) -> Result<(), AppendError>
         ensures { Adds (key_tag_option tags.now) self.old self.new result }
     {
-        self.append_numbers(KEY_TAG, tags)
+        self.append_numbers(OptionCode::KEY_TAG.to_int(), tags)
     }
 
     /// Adds an extended error: the code says why the query failed, and the text, if any, gives
@@ -199,8 +181,12 @@ impl OptBuilder {
             self.old self.new result }
     {
         match text {
-            Some(text) => self.append_joined(EXTENDED_ERROR, &code.to_be_bytes(), text.as_bytes()),
-            None => self.append(EXTENDED_ERROR, &code.to_be_bytes()),
+            Some(text) => self.append_joined(
+                OptionCode::EXTENDED_ERROR.to_int(),
+                &code.to_be_bytes(),
+                text.as_bytes(),
+            ),
+            None => self.append(OptionCode::EXTENDED_ERROR.to_int(), &code.to_be_bytes()),
         }
     }
 }

@@ -28,14 +28,15 @@ impl<N, D> From<ShortBuf> for RecordParseError<N, D> {
 }
 
 impl<N: fmt::Display, D: fmt::Display> RecordParseError<N, D> {
-    ghost use Rattle.std.specs.Prelude.{IfSome};
+    ghost use Rattle.std.specs.Prelude.{◌≡◌, IfSome, OnErr};
     ghost use Rattle.dns_print.specs.Printing.{PrintsOnOk};
     ghost use Rattle.dns_item.specs.RecordPrinting.{parse_error_text};
 
     /// Prints the text of the owner's or the RDATA's error, or that of missing octets.
     fn write<W: TextWriter>(&self, f: &mut W) -> fmt::Result
-        ensures { IfSome (parse_error_text N.output D.output self.now) (λ text.
+        ensures text { IfSome (parse_error_text N.output D.output self.now) (λ text.
             PrintsOnOk W.takes f.old result text f.new) }
+        ensures err { self.now ≡ RecordParseError.ShortBuf → OnErr result W.MayFail }
     {
         match self {
             RecordParseError::Name(error) => write_value(f, format_args!("{error}")),

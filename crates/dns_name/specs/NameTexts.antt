@@ -1,7 +1,8 @@
 -- Names as texts, in a profile of the master file format. RFC 1035 section 5.1.
-use Rattle.std.specs.Prelude.{◌≡◌, ℕ, Bool, IsTrue, not, ◌==◌, ◌&&◌, ◌||◌, ◌+◌, ◌-◌, ◌*◌, ◌/◌, ◌%◌, ◌<◌, ◌≤◌, if◌then◌else◌, ◌⊎◌, List, [], ◌∷◌, ◌++◌, map, All}
+use Rattle.std.specs.Prelude.{◌≡◌, ℕ, Bool, IsTrue, not, ◌==◌, ◌&&◌, ◌||◌, ◌+◌, ◌-◌, ◌*◌, ◌<◌, ◌≤◌, if◌then◌else◌, ◌⊎◌, List, [], ◌∷◌, ◌++◌, map, All}
 use Rattle.std.specs.Int.{is_in_range}
 use Rattle.std.specs.List.{flat_map, join_with_byte}
+pub use Rattle.dns_print.specs.Digits.{decimal_text}
 use Rattle.dns_name.specs.Names.{Labels, IsName, max_size}
 use Rattle.dns_name.specs.declared.name_error.PresentationError.{PresentationError}
 use Rattle.dns_name.specs.declared.name_error.PresentationError.TheVariants.{EmptyLabel, BadSymbol, BadEscape, LongLabel, LongName}
@@ -33,10 +34,6 @@ is_plain c = is_graphic c && not (is_special c)
 -- A decimal digit.
 abbrev pub is_digit : ℕ → Bool
 is_digit c = is_in_range 0x30 0x39 c
-
--- An octet as a backslash and three decimal digits.
-abbrev pub decimal_text : ℕ → List ℕ
-decimal_text o = backslash ∷ (zero_digit + o / 100) ∷ (zero_digit + o / 10 % 10) ∷ (zero_digit + o % 10) ∷ []
 
 -- How an octet of a label is printed.
 abbrev pub octet_text : ℕ → List ℕ

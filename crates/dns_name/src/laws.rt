@@ -1,7 +1,7 @@
 //! Theorems on names in octets and as texts, and on how the values of this crate compare and clone.
-//! The functions do nothing: each contract is a theorem over all octets and offsets, texts or
-//! values.
-ghost use Rattle.std.specs.Prelude.{◌≡◌, ◌≤◌, ◌↔◌, ℕ, List, length, IsTrue};
+//! The functions do nothing, or return a constant: each contract is a theorem over all octets and
+//! offsets, texts or values.
+ghost use Rattle.std.specs.Prelude.{◌≡◌, ◌+◌, ◌≤◌, ◌↔◌, ℕ, List, length, IsTrue};
 ghost use Rattle.dns_name.specs.Names.{IsLabel, max_size, pointer_end};
 ghost use Rattle.dns_name.specs.Laws.{NameOrFault, NameOrFaultNotBoth, OneName, OneFault, EncodedNamesAreNames};
 ghost use Rattle.dns_name.specs.Laws.{EndOrSkipFault, EndOrSkipFaultNotBoth, OneEnd, EncodedNamesEnd, SkipFaultsAreFaults, SkippingEndsAlike, SkippingFailsAlike};
@@ -12,6 +12,7 @@ use crate::cached_name::CachedName;
 use crate::head::Head;
 use crate::label::Label;
 use crate::label_iter::LabelIter;
+use crate::name::Name;
 use crate::name_error::{FromStrError, PresentationError};
 use crate::name_print::DisplayWithDot;
 use crate::parsed_name::ParsedName;
@@ -28,13 +29,16 @@ pub fn one_name_or_fault()
 {}
 
 /// The constants are the limits that the definitions of labels, names and pointers have (RFC 1035
-/// sections 2.3.4 and 4.1.4).
-pub fn name_limits()
+/// sections 2.3.4 and 4.1.4). Returns `Name::MAX_LEN`.
+pub fn name_limits() -> usize
     ensures label { (label : List ℕ) → 1 ≤ length label
         → IsLabel label ↔ (length label ≤ Label.MAX_LEN) }
     ensures size { Head.MAX_SIZE ≡ max_size }
+    ensures name { result ≡ max_size + 1 }
     ensures pointer { Head.POINTER_END ≡ pointer_end }
-{}
+{
+    Name::MAX_LEN
+}
 
 /// An encoded name has labels of 1 to 63 octets, and at most 255 octets in all.
 pub fn encoded_names()

@@ -3,7 +3,7 @@ ghost use Rattle.std.specs.Prelude.{◌≡◌, OnErr, Some, ℕ};
 ghost use Rattle.dns_name.specs.ParsedName.{label_octets, labels};
 ghost use Rattle.dns_name.specs.NameReading.{name_labels};
 ghost use Rattle.dns_name.specs.DottedNames.{dotted_labels};
-ghost use Rattle.dns_name.specs.NameTexts.{decimal_text, dotted_text, label_text, name_text, octet_text};
+ghost use Rattle.dns_name.specs.NameTexts.{dotted_text, label_text, name_text, octet_text};
 ghost use Rattle.dns_print.specs.Printing.{PrintsOnOk};
 
 use crate::label::Label;
@@ -11,20 +11,8 @@ use crate::name::Name;
 use crate::parsed_name::ParsedName;
 use crate::to_name::ToName;
 use dns_octets::Octets;
-use dns_print::TextWriter;
+use dns_print::{TextWriter, write_decimal};
 use std::fmt;
-
-/// Prints a backslash and the three decimal digits of an octet.
-#[tactic(auto, using(dns_print::proofs::theory::Prints::prints, std::proofs::lemmas::Grind::common_steps))]
-fn write_decimal<W: TextWriter>(writer: &mut W, octet: u8) -> fmt::Result
-    ensures text { PrintsOnOk W.takes writer.old result (decimal_text octet) writer.new }
-    ensures err { OnErr result W.MayFail }
-{
-    writer.write_char('\\')?;
-    writer.write_char(char::from(b'0' + octet / 100))?;
-    writer.write_char(char::from(b'0' + octet / 10 % 10))?;
-    writer.write_char(char::from(b'0' + octet % 10))
-}
 
 /// Prints an octet of a label in presentation format.
 #[tactic(auto, using(dns_print::proofs::theory::Prints::prints, std::proofs::lemmas::Grind::common_steps))]

@@ -1,5 +1,4 @@
-use Rattle.std.specs.Prelude.{Result, Ok, Err, ◌⊎◌}
-use Rattle.std.proofs.Common.{inl, inr}
+use Rattle.std.specs.Prelude.{Result, Ok, Err}
 use Rattle.dns_octets.specs.declared.error.AppendError.{AppendError}
 use Rattle.dns_octets.specs.declared.error.AppendError.TheVariants.{ShortBuf, OutOfMemory}
 

@@ -5,8 +5,10 @@
 //! its value may fail by itself.
 #![tactic(auto)]
 
+mod octet;
 mod value;
 mod writer;
 
+pub use octet::{write_decimal, write_hex, write_hex_digit, write_hex_octet};
 pub use value::{write_ipv4, write_number, write_value};
 pub use writer::TextWriter;

@@ -9,12 +9,10 @@ ghost use Rattle.dnsm_read.specs.Steps.{ReportsRecord};
 ghost use Rattle.dnsm_put.specs.Copies.{HasNumbers, IsItemIn};
 ghost use Rattle.dnsm_zone.specs.Lines.{AreData, AreRecord, HasWords, LacksData, LacksRecord};
 
+use dnsm_read::sections::ANSWER;
 use dnsm_read::{Item, walk};
 use dnsm_status::{CallError, buffers};
 use std::alloc::Global;
-
-/// The number of the answer section.
-const ANSWER: u8 = 1;
 
 /// Writes the octets of the RDATA of this type that a text represents, uncompressed: a word or more
 /// for each field; or `\#`, the number of octets, and these in hexadecimal digits (RFC 3597 section

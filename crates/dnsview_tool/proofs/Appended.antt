@@ -1,36 +1,16 @@
 -- Texts that are appended one after another.
-use Rattle.std.proofs.Common.{◌≡◌, ◌∙◌, ℕ, ◌+◌, ◌<◌, Option, Some, None, Result, Ok, Err, OnOk, IfSome, List, [], ◌∷◌, ◌++◌, take, length, get_or, ap, subst, sym, append_assoc, append-nil}
+use Rattle.std.proofs.Common.{◌≡◌, ◌∙◌, ℕ, ◌+◌, ◌<◌, Option, Result, OnOk, List, [], ◌∷◌, ◌++◌, take, length, get_or, ap, subst, sym, append_assoc, append-nil}
 use Rattle.std.specs.Io.KnownBytes.{Appends}
 use Rattle.std.specs.List.{concat, flat_map, AllZip}
 use Rattle.std.proofs.lemmas.Grind.{flat_map-append}
 use Rattle.std.proofs.lemmas.List.{take_more}
+use Rattle.dns_lines.proofs.theory.AppendedTexts.{appends_both, appends_none}
+use Rattle.dns_lines.proofs.theory.PrintedLines.{on_ok}
 use Rattle.dnsview_tool.specs.Printed.{Prints, PrintsEach}
-
--- a text is appended after another
-pub appends_both : (a b c : Option (List ℕ)) (xs ys : List ℕ) → Appends a b xs → Appends b c ys → Appends a c (xs ++ ys)
-appends_both None b c xs ys h k = tt
-appends_both (Some front) None c xs ys h k = absurd h
-appends_both (Some front) (Some bs) None xs ys h k = absurd k
-appends_both (Some front) (Some bs) (Some cs) xs ys h k = k ∙ ap (λ l. l ++ ys) h ∙ append_assoc front xs ys
-
--- nothing is appended if nothing changes
-pub appends_none : (a : Option (List ℕ)) → Appends a a []
-appends_none None = tt
-appends_none (Some xs) = sym (append-nil xs)
 
 -- an equal text is appended
 pub appends_same : (a b : Option (List ℕ)) (xs ys : List ℕ) → xs ≡ ys → Appends a b xs → Appends a b ys
 appends_same a b xs ys e h = subst (λ (l : List ℕ). Appends a b l) e h
-
--- a fact about `Ok` that implies another
-pub on_ok : {X E P Q : Type 0} (r : Result X E) → (P → Q) → OnOk r P → OnOk r Q
-on_ok (Ok x) f h = f h
-on_ok (Err e) f h = h
-
--- a value whose text is known is printed
-pub printed_as : {X E : Type 0} (a b : Option (List ℕ)) (output : Option (List ℕ)) (text : List ℕ) (r : Result X E) → output ≡ Some text
-    → OnOk r (IfSome output (Appends a b)) → OnOk r (Appends a b text)
-printed_as a b output text r is h = subst (λ (o : Option (List ℕ)). OnOk r (IfSome o (Appends a b))) is h
 
 -- one text more in a concatenation
 concat_more : (texts : List (List ℕ)) (text : List ℕ) → concat (texts ++ text ∷ []) ≡ concat texts ++ text

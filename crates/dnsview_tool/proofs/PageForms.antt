@@ -5,7 +5,7 @@ use Rattle.dnsview_rows.specs.declared.row.Row.{Row}
 use Rattle.dnsview_tool.specs.Printed.{Prints}
 use Rattle.dnsview_tool.specs.Pages.{page_limit, IsPage, IsPageOf}
 use Rattle.dnsview_tool.specs.Pages.IsPage.{full, brief}
-use Rattle.dnsview_tool.proofs.Appended.{on_ok}
+use Rattle.dns_lines.proofs.theory.PrintedLines.{on_ok}
 
 -- a text that is all that an empty list got
 pub whole_text : (IsText : List ℕ → Type 0) (old new : List ℕ) → old ≡ [] → Prints IsText (Some old) (Some new) → IsText new

@@ -11,7 +11,9 @@ use Rattle.std.specs.Io.KnownBytes.{Appends}
 use Rattle.dnsview_tool.specs.Printable.{are_printable}
 use Rattle.dnsview_tool.specs.Printed.{Prints, PrintsEach}
 use Rattle.dnsview_rows.specs.declared.row.Row.{Row}
-use Rattle.dnsview_tool.proofs.Appended.{appends_both, appends_none, appends_same, on_ok, printed_both, printed_same}
+use Rattle.dns_lines.proofs.theory.AppendedTexts.{appends_both, appends_none}
+use Rattle.dns_lines.proofs.theory.PrintedLines.{on_ok}
+use Rattle.dnsview_tool.proofs.Appended.{appends_same, printed_both, printed_same}
 use Rattle.dnsview_rows.specs.Rows.{row_octets}
 use Rattle.dnsview_tool.specs.declared.joined.Line.{Line}
 use Rattle.dnsview_tool.specs.Joined.{joined, line_of, line_row, line_rows, lines, PageLine}

@@ -11,7 +11,8 @@ use Rattle.dnsview_tool.specs.Printed.{Prints}
 use Rattle.dnsview_tool.specs.Digits.{octet_text}
 use Rattle.dnsview_tool.specs.Printable.{are_printable}
 use Rattle.dnsview_tool.specs.Texts.{columns, digits_text, line_octets, line_text, offset_text, spaces, IsLines, IsShort, Line}
-use Rattle.dnsview_tool.proofs.Appended.{appends_both, appends_same}
+use Rattle.dns_lines.proofs.theory.AppendedTexts.{appends_both}
+use Rattle.dnsview_tool.proofs.Appended.{appends_same}
 use Rattle.std.specs.Io.KnownBytes.{Appends}
 use Rattle.std.proofs.lemmas.List.Elements.{All-nil, All-push}
 

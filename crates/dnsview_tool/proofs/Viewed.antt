@@ -13,7 +13,7 @@ use Rattle.hex.specs.declared.error.FromHexError.{FromHexError}
 use Rattle.hex.proofs.HexLemmas.{decode_of-digits}
 use Rattle.dns_lines.specs.Digits.{unspaced}
 use Rattle.dnsview_rows.specs.declared.row.Row.{Row}
-use Rattle.dnsview_tool.proofs.Appended.{on_ok}
+use Rattle.dns_lines.proofs.theory.PrintedLines.{on_ok}
 use Rattle.dnsview_tool.specs.Pages.{IsPage}
 use Rattle.dnsview_tool.specs.Printed.{Prints, PrintsEach}
 use Rattle.dnsview_tool.specs.Texts.{IsRowText}

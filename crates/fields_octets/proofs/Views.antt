@@ -6,9 +6,8 @@ use Rattle.dns_data.specs.Layout.{DataAt}
 use Rattle.dns_data.specs.RecordData.{canonical}
 use Rattle.fields_octets.specs.declared.kind.Kind.{Kind}
 use Rattle.fields_octets.specs.declared.field_data.FieldData.{FieldData}
-use Rattle.fields_octets.specs.Data.{parts_of, offset_within}
-use Rattle.fields_octets.specs.EncodedData.{is_there, data_is_there}
-use Rattle.fields_octets.specs.FieldsLeft.{AreLeft, parts_from as fields_parts}
+use Rattle.fields_octets.specs.Data.{parts_of}
+use Rattle.fields_octets.specs.EncodedData.{data_is_there}
 use Rattle.fields_octets.specs.Forms.{form, formed}
 use Rattle.fields_octets.specs.Layouts.{layout_of}
 use Rattle.fields_octets.specs.Table.{Field, kinds, kinds_of}

@@ -1,36 +1,12 @@
 //! Addresses of IPv6 as std prints them (RFC 5952).
-ghost use Rattle.std.specs.Prelude.{OnErr, ◌≡◌, ◌+◌, ◌<◌, ◌≤◌, ◌++◌, [], ◌∷◌, codes, length};
-ghost use Rattle.std.specs.Char.{digit_char};
+ghost use Rattle.std.specs.Prelude.{OnErr, ◌≡◌, ◌+◌, ◌≤◌, ◌++◌, codes, length};
 ghost use Rattle.std.specs.Net.Addr.{ipv6_segments};
 ghost use Rattle.std.specs.Net.Text.{groups_text, hex, hex_groups_text, ipv6_text, longest_zero_run};
 ghost use Rattle.dns_print.specs.Printing.{PrintsOnOk};
 
-use dns_print::{TextWriter, write_ipv4};
+use dns_print::{TextWriter, write_hex_digit, write_ipv4};
 use std::fmt;
 use std::net::Ipv6Addr;
-
-/// The lowercase hexadecimal digit of a number.
-fn digit(number: u16) -> char
-    requires { number < 16 }
-    ensures glyph { result ≡ digit_char number }
-    ensures ascii { result < 128 }
-{
-    let number = number as u8;
-    char::from(if number < 10 {
-        b'0' + number
-    } else {
-        b'a' + (number - 10)
-    })
-}
-
-/// Prints a number as a hexadecimal digit.
-fn write_digit<W: TextWriter>(f: &mut W, number: u16) -> fmt::Result
-    requires { number < 16 }
-    ensures text { PrintsOnOk W.takes f.old result (digit_char number ∷ []) f.new }
-    ensures err { OnErr result W.MayFail }
-{
-    f.write_char(digit(number))
-}
 
 /// Prints a segment of an IPv6 address in hexadecimal digits, without leading zeros.
 #[tactic(auto, using(dns_print::proofs::theory::Prints::prints, crate::proofs::AddressTexts::hex_last, crate::proofs::AddressTexts::hex_more))]
@@ -39,10 +15,10 @@ fn write_segment<W: TextWriter>(f: &mut W, segment: u16) -> fmt::Result
     ensures err { OnErr result W.MayFail }
 {
     if segment < 16 {
-        return write_digit(f, segment);
+        return write_hex_digit(f, false, segment as u8);
     }
     write_segment(f, segment / 16)?;
-    write_digit(f, segment % 16)
+    write_hex_digit(f, false, (segment % 16) as u8)
 }
 
 /// Prints a segment after a colon.

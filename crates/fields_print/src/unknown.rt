@@ -11,9 +11,8 @@ ghost use Rattle.dns_name.specs.ParsedName.{label_octets, labels};
 ghost use Rattle.dns_print.specs.Printing.{PrintsOnOk};
 
 use dns_name::{Label, ParsedName};
-use dns_print::{TextWriter, write_number};
+use dns_print::{TextWriter, write_hex, write_hex_octet, write_number};
 use fields_octets::{Encoded, FieldData};
-use fields_text::write_hex_octet;
 use std::fmt;
 
 /// The number of octets of a field, uncompressed.
@@ -37,18 +36,6 @@ fn data_size(data: &FieldData<'_>) -> usize
     size
 }
 
-/// Prints octets in hexadecimal digits.
-#[tactic(auto, using(dns_print::proofs::theory::Prints::prints, std::proofs::lemmas::Grind::common_steps))]
-fn write_octets<W: TextWriter>(f: &mut W, octets: &[u8]) -> fmt::Result
-    ensures text { PrintsOnOk W.takes f.old result (flat_map hex_octet octets.now) f.new }
-    ensures err { OnErr result W.MayFail }
-{
-    for octet in octets {
-        write_hex_octet(f, false, *octet)?;
-    }
-    Ok(())
-}
-
 /// Prints a label after its length, in hexadecimal digits.
 #[tactic(auto, using(dns_print::proofs::theory::Prints::prints, std::proofs::lemmas::Grind::common_steps))]
 fn write_label<W: TextWriter>(f: &mut W, label: Label<'_>) -> fmt::Result
@@ -58,7 +45,7 @@ fn write_label<W: TextWriter>(f: &mut W, label: Label<'_>) -> fmt::Result
 {
     let octets = label.as_slice();
     write_hex_octet(f, false, octets.len() as u8)?;
-    write_octets(f, octets)
+    write_hex(f, false, octets)
 }
 
 /// Prints the octets of a name, uncompressed, in hexadecimal digits.
@@ -80,7 +67,7 @@ fn write_field<W: TextWriter>(f: &mut W, encoded: &Encoded<'_>) -> fmt::Result
     ensures err { OnErr result W.MayFail }
 {
     match encoded {
-        Encoded::Octets(octets) => write_octets(f, octets),
+        Encoded::Octets(octets) => write_hex(f, false, octets),
         Encoded::Name(name) | Encoded::UncompressedName(_, name) => write_name(f, name),
     }
 }
@@ -135,5 +122,5 @@ pub fn write_opaque<W: TextWriter>(f: &mut W, octets: &[u8]) -> fmt::Result
         return Ok(());
     }
     f.write_text(" ")?;
-    write_octets(f, octets)
+    write_hex(f, false, octets)
 }

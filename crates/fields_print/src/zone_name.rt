@@ -7,8 +7,7 @@ ghost use Rattle.dns_print.specs.Printing.{PrintsOnOk};
 ghost use Rattle.fields_print.specs.ZoneNames.{dotted_label, means_something, zone_label_text, zone_name_text, zone_octet_text};
 
 use dns_name::{Label, ParsedName};
-use dns_print::TextWriter;
-use fields_text::write_decimal;
+use dns_print::{TextWriter, write_decimal};
 use std::fmt;
 
 /// A name that prints as in a zone file: a dot follows each label, and the root is a single dot.

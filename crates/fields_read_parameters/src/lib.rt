@@ -10,7 +10,6 @@ mod parameter;
 mod parameter_key;
 mod parameter_value;
 mod protocols;
-mod string_octet;
 mod value_octets;
 
 pub use parameter::read_parameters;

@@ -5,9 +5,9 @@ ghost use Rattle.fields_read_parameters.specs.ProtocolNames.{BeginsName, BeginsN
 ghost use Rattle.fields_read_parameters.specs.PushedValues.{PushesValue};
 
 use crate::parameter_value::unquoted;
-use crate::string_octet::split_octet;
 use crate::value_octets::{ValueOctets, push_octets};
 use arrayvec::ArrayVec;
+use fields_text::split_octet;
 
 /// The octets of a name, whose length takes eight bits.
 type NameOctets = ArrayVec<u8, 255>;

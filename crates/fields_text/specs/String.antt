@@ -1,8 +1,9 @@
 -- Character strings and tags. RFC 1035 section 5.1; tags: RFC 8659 section 4.1.
-use Rattle.std.specs.Prelude.{ℕ, ◌+◌, ◌/◌, ◌%◌, ◌==◌, ◌||◌, ◌&&◌, not, length, Bool, if◌then◌else◌, List, [], ◌∷◌, ◌++◌}
+use Rattle.std.specs.Prelude.{ℕ, ◌==◌, ◌||◌, ◌&&◌, not, length, Bool, if◌then◌else◌, List, [], ◌∷◌, ◌++◌}
 use Rattle.std.specs.Char.{is_ascii_alphanumeric}
 use Rattle.std.specs.Int.{is_in_range}
 use Rattle.std.specs.List.{flat_map, list_all}
+pub use Rattle.dns_print.specs.Digits.{decimal_text}
 
 -- the ASCII codes of a quote and of a backslash
 abbrev pub quote : ℕ
@@ -10,10 +11,6 @@ quote = 0x22
 
 abbrev pub backslash : ℕ
 backslash = 0x5c
-
--- a backslash and the three decimal digits of an octet
-abbrev pub decimal_text : ℕ → List ℕ
-decimal_text octet = backslash ∷ (48 + octet / 100) ∷ (48 + octet / 10 % 10) ∷ (48 + octet % 10) ∷ []
 
 -- an octet of a quoted string: graphic ASCII characters and spaces as they are, but a quote or a backslash after a backslash; other octets by three digits
 abbrev pub string_octet : ℕ → List ℕ

@@ -4,8 +4,7 @@ ghost use Rattle.std.specs.List.{flat_map};
 ghost use Rattle.dns_print.specs.Printing.{PrintsOnOk};
 ghost use Rattle.fields_text.specs.Addresses.{eui_text, hyphen_pair, locator_text};
 
-use crate::hexadecimal::write_hex_octet;
-use dns_print::TextWriter;
+use dns_print::{TextWriter, write_hex_octet};
 use std::fmt;
 
 /// Octets that print as pairs of lowercase hexadecimal digits, separated by hyphens: an EUI-48 or

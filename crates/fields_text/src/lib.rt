@@ -23,11 +23,11 @@ mod time;
 
 pub use address::{Eui, Locator64, write_eui, write_locator};
 pub use base32::{Base32, write_base32};
-pub use hexadecimal::{Hex, write_hex, write_hex_octet};
+pub use hexadecimal::{Hex, write_hex};
 pub use location::Location;
 pub use number_word::read_number;
 pub use octets_word::{read_base64, read_hex};
-pub use string::{Quoted, Tag, write_decimal, write_quoted};
-pub use string_word::{push_string, read_string};
+pub use string::{Quoted, Tag, write_quoted};
+pub use string_word::{push_string, read_string, split_octet};
 pub use text_error::TextError;
 pub use time::{Timestamp, write_timestamp};

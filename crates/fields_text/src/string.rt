@@ -3,27 +3,15 @@ ghost use Rattle.std.specs.Prelude.{OnErr, Some, ◌≡◌, true};
 ghost use Rattle.std.specs.Char.{is_ascii_alphanumeric};
 ghost use Rattle.std.specs.List.{flat_map, list_all};
 ghost use Rattle.dns_print.specs.Printing.{PrintsOnOk};
-ghost use Rattle.fields_text.specs.String.{decimal_text, is_tag, quoted, string_octet};
+ghost use Rattle.fields_text.specs.String.{is_tag, quoted, string_octet};
 
-use dns_print::TextWriter;
+use dns_print::{TextWriter, write_decimal};
 use std::fmt;
 
 /// Octets that print in quotes. A backslash precedes a quote or a backslash. An octet that is neither
 /// a graphic ASCII character nor a space is printed as a backslash and three decimal digits.
 #[derive(Clone, Copy, Debug)]
 pub struct Quoted<'a>(pub &'a [u8]);
-
-/// Prints a backslash and the three decimal digits of an octet.
-#[tactic(auto, using(dns_print::proofs::theory::Prints::prints, std::proofs::lemmas::Grind::common_steps))]
-pub fn write_decimal<W: TextWriter>(f: &mut W, octet: u8) -> fmt::Result
-    ensures text { PrintsOnOk W.takes f.old result (decimal_text octet) f.new }
-    ensures err { OnErr result W.MayFail }
-{
-    f.write_char('\\')?;
-    f.write_char(char::from(b'0' + octet / 100))?;
-    f.write_char(char::from(b'0' + octet / 10 % 10))?;
-    f.write_char(char::from(b'0' + octet % 10))
-}
 
 /// Prints an octet of a quoted string.
 #[tactic(auto, using(dns_print::proofs::theory::Prints::prints, std::proofs::lemmas::Grind::common_steps))]

@@ -29,8 +29,9 @@ fn split_decimal(first: u8, text: &[u8]) -> Option<(u8, &[u8])>
     Some((value as u8, after))
 }
 
-/// The octet that the start of a text represents, and the text after it.
-fn split_octet(text: &[u8]) -> Option<(u8, &[u8])>
+/// The octet that a text begins with, and the text after it (RFC 1035 section 5.1). `None` if it
+/// begins with none: the text is empty, begins with a quote, or its backslash precedes no octet.
+pub fn split_octet(text: &[u8]) -> Option<(u8, &[u8])>
     ensures { MatchOption result (octet_at text.now ≡ None)
         (λ split. octet_at text.now ≡ Some (split.0, split.1.now)) }
 {

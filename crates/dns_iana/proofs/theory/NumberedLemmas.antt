@@ -18,10 +18,6 @@ module _ (word text : List ℕ) where
   same_length : {n : ℕ} (x : IsNumbered word text n) → length x.front ≡ length word
   same_length x = sym (length-map x.front _) ∙ ap length x.same ∙ length-map word _
 
-  -- the front is the text up to that length
-  front_is : {n : ℕ} (x : IsNumbered word text n) → take (length word) text ≡ x.front
-  front_is x = ap (λ k. take k text) (sym (same_length x)) ∙ ap (take (length x.front)) x.whole ∙ take-append_seam x.front x.digits
-
   -- the digits are the text after it
   digits_are : {n : ℕ} (x : IsNumbered word text n) → drop (length word) text ≡ x.digits
   digits_are x = ap (λ k. drop k text) (sym (same_length x)) ∙ ap (drop (length x.front)) x.whole ∙ drop-append_seam x.front x.digits

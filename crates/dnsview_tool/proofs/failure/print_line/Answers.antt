@@ -1,5 +1,7 @@
 use Rattle.std.proofs.Common.{◌++◌, ◌∷◌, [], codes, refl}
-use Rattle.dnsview_tool.proofs.Appended.{appends_both, appends_same, on_ok}
+use Rattle.dns_lines.proofs.theory.AppendedTexts.{appends_both}
+use Rattle.dns_lines.proofs.theory.PrintedLines.{on_ok}
+use Rattle.dnsview_tool.proofs.Appended.{appends_same}
 use Rattle.dnsview_tool.proofs.failure.print_line.Goals as goal
 
 pub returns : goal.returns

@@ -1,4 +1,5 @@
-use Rattle.dnsview_tool.proofs.Appended.{appends_both, printed_both}
+use Rattle.dns_lines.proofs.theory.AppendedTexts.{appends_both}
+use Rattle.dnsview_tool.proofs.Appended.{printed_both}
 use Rattle.dnsview_tool.proofs.html.print_cell.Goals as goal
 
 pub returns : goal.returns

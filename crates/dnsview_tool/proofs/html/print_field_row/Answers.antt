@@ -1,6 +1,7 @@
 use Rattle.std.proofs.Common.{ap}
 use Rattle.dnsview_tool.specs.Pages.{digits}
-use Rattle.dnsview_tool.proofs.Appended.{appends_both, appends_same, printed_both}
+use Rattle.dns_lines.proofs.theory.AppendedTexts.{appends_both}
+use Rattle.dnsview_tool.proofs.Appended.{appends_same, printed_both}
 use Rattle.dnsview_tool.proofs.html.print_field_row.Goals as goal
 
 pub returns : goal.returns

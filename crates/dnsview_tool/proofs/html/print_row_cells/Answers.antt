@@ -1,6 +1,7 @@
 use Rattle.std.proofs.Common.{◌<◌, ℕ, List, length, ap, arith}
 use Rattle.dnsview_rows.specs.Rows.{row_octets}
-use Rattle.dnsview_tool.proofs.Appended.{appends_both, appends_same}
+use Rattle.dns_lines.proofs.theory.AppendedTexts.{appends_both}
+use Rattle.dnsview_tool.proofs.Appended.{appends_same}
 use Rattle.dnsview_tool.proofs.PageTexts.{cell_within, cells_more}
 use Rattle.dnsview_tool.proofs.html.print_row_cells.Goals as goal
 

@@ -1,4 +1,5 @@
-use Rattle.dnsview_tool.proofs.Appended.{appends_both, appends_same, printed_both, printed_same}
+use Rattle.dns_lines.proofs.theory.AppendedTexts.{appends_both}
+use Rattle.dnsview_tool.proofs.Appended.{appends_same, printed_both, printed_same}
 use Rattle.dnsview_tool.proofs.html.print_top.Goals as goal
 
 pub returns : goal.returns

@@ -1,7 +1,7 @@
 use Rattle.std.proofs.Common.{ℕ, List, subst, sym}
 use Rattle.dnsview_tool.specs.Viewing.{Gives}
 use Rattle.dnsview_tool.specs.Viewing.IsPrinted.{bad_hex}
-use Rattle.dnsview_tool.proofs.Appended.{on_ok}
+use Rattle.dns_lines.proofs.theory.PrintedLines.{on_ok}
 use Rattle.dnsview_tool.proofs.Reported.{before_reporting, ends_in}
 use Rattle.dnsview_tool.proofs.Viewed.{keeps_same}
 use Rattle.dnsview_tool.proofs.program.print_input.Goals as goal

@@ -1,7 +1,7 @@
 use Rattle.std.proofs.Common.{◌∙◌, refl, sym}
 use Rattle.dnsview_tool.specs.Viewing.{IsPrinted}
 use Rattle.dnsview_tool.specs.Viewing.IsPrinted.{shown, empty}
-use Rattle.dnsview_tool.proofs.Appended.{on_ok}
+use Rattle.dns_lines.proofs.theory.PrintedLines.{on_ok}
 use Rattle.dnsview_tool.proofs.Reported.{before_reporting, ends_in}
 use Rattle.dnsview_tool.proofs.Viewed.{given_empty, given_some, keeps_same}
 use Rattle.dnsview_tool.proofs.program.print_message.Goals as goal

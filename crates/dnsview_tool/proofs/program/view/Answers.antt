@@ -1,6 +1,6 @@
 use Rattle.std.proofs.Common.{◌∙◌, sym}
 use Rattle.dnsview_tool.specs.Viewing.IsViewed.{help, version, wrong}
-use Rattle.dnsview_tool.proofs.Appended.{on_ok}
+use Rattle.dns_lines.proofs.theory.PrintedLines.{on_ok}
 use Rattle.dnsview_tool.proofs.Reported.{before_printing, before_reporting}
 use Rattle.dnsview_tool.proofs.Viewed.{keeps_same, viewed_other, viewed_view}
 use Rattle.dnsview_tool.proofs.program.view.Goals as goal

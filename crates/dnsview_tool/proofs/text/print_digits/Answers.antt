@@ -1,6 +1,7 @@
 use Rattle.std.proofs.Common.{◌∷◌, []}
 use Rattle.dnsview_tool.specs.Digits.{octet_text}
-use Rattle.dnsview_tool.proofs.Appended.{appended_more, appends_both}
+use Rattle.dns_lines.proofs.theory.AppendedTexts.{appends_both}
+use Rattle.dnsview_tool.proofs.Appended.{appended_more}
 use Rattle.dnsview_tool.proofs.text.print_digits.Goals as goal
 
 pub loop-octet-preserved : goal.loop-octet-preserved

@@ -3,7 +3,7 @@ use Rattle.std.specs.Fmt.{format_spec, padded_integral, styled_digits_output}
 use Rattle.std.specs.Prelude.{option_map}
 use Rattle.std.proofs.lemmas.Fmt.{hex_byte}
 use Rattle.dnsview_tool.specs.Digits.{octet_text}
-use Rattle.dnsview_tool.proofs.Appended.{printed_as}
+use Rattle.dns_lines.proofs.theory.PrintedLines.{printed_as}
 use Rattle.dnsview_tool.proofs.text.print_octet.Goals as goal
 
 pub returns : goal.returns

@@ -1,7 +1,8 @@
 use Rattle.std.proofs.Common.{◌∙◌, ◌++◌, ◌∷◌, [], Bool, MatchBool, refl, subst, sym}
 use Rattle.dnsview_rows.specs.Rows.{row_octets}
 use Rattle.dnsview_tool.specs.Texts.{IsLines, IsWords}
-use Rattle.dnsview_tool.proofs.Appended.{appends_both, on_ok}
+use Rattle.dns_lines.proofs.theory.AppendedTexts.{appends_both}
+use Rattle.dns_lines.proofs.theory.PrintedLines.{on_ok}
 use Rattle.dnsview_tool.proofs.Printables.{printable_same}
 use Rattle.dnsview_tool.proofs.text.print_row.Goals as goal
 

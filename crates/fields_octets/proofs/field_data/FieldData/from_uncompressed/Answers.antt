@@ -1,6 +1,5 @@
 use Rattle.std.proofs.Common.{◌∙◌, List, ℕ, ap, arith, length, sym}
 use Rattle.std.proofs.lemmas.Result.{err_from_is_err_and}
-use Rattle.fields_octets.specs.Data.{parts_of}
 use Rattle.fields_octets.specs.DataOrders.{octets_of_parts}
 use Rattle.fields_octets.specs.UncompressedData.UncompressedDataFault.{first, left_over, compressed}
 use Rattle.fields_octets.proofs.ComparedOctets.{seen_data, seen_fault, whole_data}

@@ -1,7 +1,0 @@
-use Rattle.std.proofs.Common.{take}
-use Rattle.std.specs.Fmt.{WritesInCalls}
-use Rattle.fields_text.specs.Hex.{hex_text}
-use Rattle.fields_text.proofs.hexadecimal.write_hex.Given as goal
-
-abbrev pub invariant-loop-octet : goal.invariant-loop-octet
-invariant-loop-octet g l = WritesInCalls g.W.TextWriter.takes l.fn.f (hex_text (take l.octet-index l.octets)) l.f
