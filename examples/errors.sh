@@ -64,6 +64,8 @@ refuses answer_short_query example_answer 'fewer than 12 octets' <<<0001
 run answer_table 0 "$(forty_addresses)" '' example_answer <<<"123401000001000000000001${asked}0001000100002904d0000000000000"
 run answer_truncated 0 "123483000001000000000000${asked}00010001" '' example_answer \
     <<<"123401000001000000000001${asked}000100010000290454000000000000"
+# 30 questions, which alone have 522 octets.
+refuses answer_many_questions example_answer 'no answer: limit exceeded' < <(printf '12340100001e000000000000'; printf "${asked}00010001%.0s" {1..30})
 full answer_full_disk 1 "$disk" example_answer <crates/example_answer/stdin
 refuses response_no_digits example_response 'Odd number of digits' <<<000
 refuses response_short_message example_response 'short message' <<<0001
@@ -90,6 +92,7 @@ refuses resolve_nxdomain example_resolve 'the rcode is NXDomain (3)' < <(resolvi
 refuses resolve_refused example_resolve 'the rcode is Refused (5)' < <(resolving 001c 8185 0000)
 refuses resolve_truncated example_resolve 'cut short' < <(resolving 0001 8380 0000)
 refuses resolve_other_type example_resolve 'no query for addresses' < <(resolving 000f 8180 0000)
+refuses resolve_alias_of_itself example_resolve 'no canonical name' < <(resolving 0001 8180 0001 | sed '2s/$/c00c0005000100000e100002c00c/')
 refuses resolve_unreadable example_resolve 'unreadable: ' < <(resolving 0001 8180 0001)
 full resolve_full_disk 1 "$disk" example_resolve <crates/example_resolve/stdin
 full resolve_query_full_disk 1 "$disk" example_resolve <<<www.example.com

@@ -1,24 +1,24 @@
 //! A case, and what the library makes of its RDATA.
 use crate::fields::write_values;
+use crate::key::Key;
 use dns_code::Rtype;
 use dns_data::{ComposeRecordData, ParseAnyRecordData};
-use dns_wire::{ParseError, Parser};
+use dns_wire::{AppendError, ParseError, Parser};
 use fields_octets::FieldData;
 use fields_print::DataText;
 use fields_read_records::from_text;
-use fields_read_words::split_words;
-use std::alloc::Global;
-use std::io;
+use std::alloc::{AllocError, Global};
+use std::fmt::Display;
 
 /// The parts of a case: the type of the RDATA, its octets, and where among them it starts; the type
 /// of RDATA that it is compared with, what precedes it in a record but its length; and a text of
 /// lines. `has_texts` says that checks were of texts alone, which have no type.
 #[derive(Drop)]
 pub(crate) struct Case {
-    pub(crate) rtype: u16,
+    pub(crate) rtype: Rtype,
     pub(crate) octets: Vec<u8>,
     pub(crate) start: usize,
-    pub(crate) other: u16,
+    pub(crate) other: Option<Rtype>,
     pub(crate) header: Vec<u8>,
     pub(crate) lines: Vec<u8>,
     pub(crate) has_lines: bool,
@@ -29,15 +29,45 @@ impl Case {
     /// A case with no part yet.
     pub(crate) fn new(alloc: Global) -> Case {
         Case {
-            rtype: 0,
+            rtype: Rtype::from_int(0),
             octets: Vec::new(alloc),
             start: 0,
-            other: 0,
+            other: None,
             header: Vec::new(alloc),
             lines: Vec::new(alloc),
             has_lines: false,
             has_texts: false,
         }
+    }
+
+    /// Takes octets of a part after those that the case has.
+    pub(crate) fn take_part(&mut self, key: Key, octets: &[u8]) -> Result<(), AllocError> {
+        match key {
+            Key::Line => self.take_text_line(octets),
+            Key::LineOctets => self.lines.extend_from_slice(octets),
+            Key::Header => self.header.extend_from_slice(octets),
+            Key::After => {
+                let taken = self.octets.extend_from_slice(octets);
+                self.start = self.octets.len();
+                taken
+            }
+            _ => self.octets.extend_from_slice(octets),
+        }
+    }
+
+    /// Takes a further line of the text.
+    fn take_text_line(&mut self, text: &[u8]) -> Result<(), AllocError> {
+        if self.has_lines && self.lines.push(b'\n').is_err() {
+            return Err(AllocError);
+        }
+        self.has_lines = true;
+        self.lines.extend_from_slice(text)
+    }
+
+    /// Takes the lines away. The next line begins another text.
+    pub(crate) fn end_lines(&mut self) {
+        self.has_lines = false;
+        self.lines.clear();
     }
 
     /// The octets of the RDATA.
@@ -57,116 +87,120 @@ impl Case {
     /// The RDATA. An error if an octet is left over.
     pub(crate) fn data(&self) -> Result<FieldData<'_>, ParseError> {
         let mut parser = self.parser();
-        let data = FieldData::parse_any_rdata(Rtype::from_int(self.rtype), &mut parser)?;
-        if parser.remaining() == 0 {
-            Ok(data)
-        } else {
-            Err(ParseError::ShortInput)
+        let data = FieldData::parse_any_rdata(self.rtype, &mut parser);
+        if data.is_ok() && parser.remaining() > 0 {
+            return Err(ParseError::ShortInput);
         }
+        data
     }
 
     /// The fields of the RDATA by name, or why there are none.
-    pub(crate) fn fields(&self, alloc: Global) -> io::Result<String> {
-        let mut shown = Vec::new(alloc);
+    pub(crate) fn fields(&self, alloc: Global) -> Result<String, AllocError> {
         match self.data() {
-            Ok(data) => write_values(alloc, &mut shown, &data)?,
-            Err(error) => return error_text(alloc, error),
+            Ok(data) => fields_text(alloc, &data),
+            Err(error) => error.to_string(alloc),
         }
-        let text = std::str::from_utf8(shown.as_slice()).unwrap_or("octets that are no text");
-        Ok(String::from_str(alloc, text.strip_prefix(' ').unwrap_or(text))?)
     }
 
     /// The text of the RDATA, or why there is none.
-    pub(crate) fn text(&self, alloc: Global) -> io::Result<String> {
+    pub(crate) fn text(&self, alloc: Global) -> Result<String, AllocError> {
         match self.data() {
-            Ok(data) => Ok(format!(in alloc; "{}", DataText(&data))?),
-            Err(error) => error_text(alloc, error),
+            Ok(data) => DataText(&data).to_string(alloc),
+            Err(error) => error.to_string(alloc),
         }
     }
 
     /// The digits of the RDATA as it is written, or why it can't be read.
-    pub(crate) fn written(&self, alloc: Global) -> io::Result<String> {
-        match self.data() {
-            Ok(data) => digits_written(alloc, &data),
-            Err(error) => error_text(alloc, error),
-        }
+    pub(crate) fn written(&self, alloc: Global) -> Result<String, AllocError> {
+        digits_written(alloc, self.data())
     }
 
     /// The digits of the canonical form of the RDATA, or why it can't be read.
-    pub(crate) fn canonical(&self, alloc: Global) -> io::Result<String> {
-        let mut target = Vec::new(alloc);
+    pub(crate) fn canonical(&self, alloc: Global) -> Result<String, AllocError> {
         match self.data() {
-            Ok(data) => match data.compose_canonical_rdata(&mut target) {
-                Ok(()) => Ok(hex::encode(alloc, target.as_slice())?),
-                Err(error) => Ok(format!(in alloc; "{error}")?),
-            },
-            Err(error) => error_text(alloc, error),
+            Ok(data) => {
+                let mut target = Vec::new(alloc);
+                let composed = data.compose_canonical_rdata(&mut target);
+                digits_composed(alloc, target.as_slice(), composed)
+            }
+            Err(error) => error.to_string(alloc),
         }
     }
 
     /// Why the RDATA can't be read. Otherwise what is wrong.
-    pub(crate) fn error(&self, alloc: Global) -> io::Result<String> {
+    pub(crate) fn error(&self, alloc: Global) -> Result<String, AllocError> {
         let mut parser = self.parser();
-        let start = parser.pos();
-        match FieldData::parse_any_rdata(Rtype::from_int(self.rtype), &mut parser) {
-            Ok(_) => Ok(String::from_str(alloc, "no error")?),
-            Err(_) if parser.pos() != start => Ok(String::from_str(alloc, "the parser moved")?),
-            Err(error) => error_text(alloc, error),
-        }
-    }
-
-    /// The first number of octets of the RDATA that are neither read and written as they were, nor
-    /// end too early for a parser that doesn't move.
-    pub(crate) fn bad_cut(&self, alloc: Global) -> io::Result<Option<usize>> {
-        for len in 0..self.rdata().len() {
-            let cut = self.rdata().get(..len).unwrap_or(&[]);
-            if !is_kept(alloc, Rtype::from_int(self.rtype), cut)? {
-                return Ok(Some(len));
-            }
-        }
-        Ok(None)
-    }
-
-    /// The digits of the RDATA that a text reads as, or why it can't be read.
-    pub(crate) fn read_line(&self, alloc: Global, text: &str) -> io::Result<String> {
-        match split_words(alloc, text) {
-            Ok(words) => self.read_words(alloc, words.as_slice()),
-            Err(error) => Ok(format!(in alloc; "{error}")?),
+        match FieldData::parse_any_rdata(self.rtype, &mut parser) {
+            Ok(_) => String::from_str(alloc, "no error"),
+            Err(_) if parser.pos() != self.start => String::from_str(alloc, "the parser moved"),
+            Err(error) => error.to_string(alloc),
         }
     }
 
     /// The digits of the RDATA that words read as, or why they can't be read.
-    pub(crate) fn read_words(&self, alloc: Global, words: &[&str]) -> io::Result<String> {
-        match from_text(alloc, Rtype::from_int(self.rtype), words) {
-            Ok(data) => digits_written(alloc, &data),
-            Err(error) => Ok(format!(in alloc; "{error}")?),
+    pub(crate) fn read_words(&self, alloc: Global, words: &[&str]) -> Result<String, AllocError> {
+        digits_written(alloc, from_text(alloc, self.rtype, words))
+    }
+
+    /// The first number of octets of the RDATA that are neither read and written as they were, nor
+    /// end too early for a parser that doesn't move.
+    pub(crate) fn cut(&self, alloc: Global) -> Result<String, AllocError> {
+        for len in 0..self.rdata().len() {
+            let cut = self.rdata().get(..len).unwrap_or(&[]);
+            if !is_kept(alloc, self.rtype, cut) {
+                return format!(in alloc; "not at {len} octets");
+            }
         }
+        String::from_str(alloc, "kept or short")
     }
 }
 
-/// The digits of RDATA as it is written.
-pub(crate) fn digits_written<D: ComposeRecordData>(alloc: Global, data: &D) -> io::Result<String> {
-    let mut target = Vec::new(alloc);
-    match data.compose_rdata(&mut target) {
-        Ok(()) => Ok(hex::encode(alloc, target.as_slice())?),
-        Err(error) => Ok(format!(in alloc; "{error}")?),
+/// The fields of RDATA by name. A vector is written, which fails only if memory is out.
+fn fields_text(alloc: Global, data: &FieldData<'_>) -> Result<String, AllocError> {
+    let mut shown = Vec::new(alloc);
+    if write_values(alloc, &mut shown, data).is_err() {
+        return Err(AllocError);
+    }
+    let text = std::str::from_utf8(shown.as_slice()).unwrap_or("octets that are no text");
+    String::from_str(alloc, text.trim_ascii_start())
+}
+
+/// The digits of RDATA as it is written, or why there is none.
+pub(crate) fn digits_written<D: ComposeRecordData + Drop, E: Display + Drop>(
+    alloc: Global,
+    data: Result<D, E>,
+) -> Result<String, AllocError> {
+    match data {
+        Ok(data) => {
+            let mut target = Vec::new(alloc);
+            let composed = data.compose_rdata(&mut target);
+            digits_composed(alloc, target.as_slice(), composed)
+        }
+        Err(error) => error.to_string(alloc),
     }
 }
 
-/// An error as text.
-pub(crate) fn error_text(alloc: Global, error: ParseError) -> io::Result<String> {
-    Ok(format!(in alloc; "{error}")?)
+/// The digits of what was composed, or why it wasn't.
+pub(crate) fn digits_composed(
+    alloc: Global,
+    octets: &[u8],
+    composed: Result<(), AppendError>,
+) -> Result<String, AllocError> {
+    match composed {
+        Ok(()) => hex::encode(alloc, octets),
+        Err(error) => error.to_string(alloc),
+    }
 }
 
 /// Whether octets are read and written as they were; or they end too early, and the parser doesn't
 /// move.
-fn is_kept(alloc: Global, rtype: Rtype, octets: &[u8]) -> io::Result<bool> {
+fn is_kept(alloc: Global, rtype: Rtype, octets: &[u8]) -> bool {
     let mut parser = Parser::new(octets);
     match FieldData::parse_any_rdata(rtype, &mut parser) {
         Ok(data) => {
             let mut target = Vec::new(alloc);
-            Ok(data.compose_rdata(&mut target).is_ok() && target.as_slice() == octets)
+            data.compose_rdata(&mut target).is_ok() && target.as_slice() == octets
         }
-        Err(error) => Ok(error == ParseError::ShortInput && parser.pos() == 0),
+        Err(error) => matches!(error, ParseError::ShortInput) && parser.pos() == 0,
     }
 }

@@ -1,10 +1,12 @@
-//! The lines of a case.
+//! The lines of a case: its parts, and its checks, which compare what is wanted with what is shown.
 use crate::case::Case;
-use crate::records::read_line;
-use crate::texts::{NO_TEXT, check_text};
+use crate::key::{Form, Key, key_and_form, label_of, needs_no_type};
+use crate::options::option_parts;
+use crate::rewriting::rewritten;
+use crate::shown::shown;
 use cases_files::{Report, key_of, octets_of};
 use fields_read::read_type;
-use std::alloc::Global;
+use std::alloc::{AllocError, Global};
 use std::io;
 use std::io::Write;
 
@@ -15,17 +17,61 @@ pub(crate) fn take_line<W: Write + Drop>(
     case: &mut Case,
     line: &str,
 ) -> io::Result<()> {
-    let (key, text) = key_of(line);
+    let (word, text) = key_of(line);
+    let Some((key, form)) = key_and_form(word) else {
+        return report.bad_line(line);
+    };
+    case.has_texts = case.has_texts || needs_no_type(key);
+    match octets_given(alloc, form, text)? {
+        Some(octets) => take_octets(alloc, report, case, key, line, octets.as_slice()),
+        None => report.bad_line(label_of(key, word, line)),
+    }
+}
+
+/// The octets that a line gives after its first word. `None` if they are malformed.
+fn octets_given(alloc: Global, form: Form, text: &str) -> Result<Option<Vec<u8>>, AllocError> {
+    let digits = match form {
+        Form::Text => return Ok(Some(Vec::from_slice(alloc, text.as_bytes())?)),
+        Form::Digits => text,
+        Form::WordAndDigits => key_of(text).1,
+        Form::Option => match option_parts(text) {
+            Some((_, digits, _)) => digits,
+            None => return Ok(None),
+        },
+    };
+    octets_of(alloc, digits)
+}
+
+/// Takes what a line of this key says, which gives these octets.
+fn take_octets<W: Write + Drop>(
+    alloc: Global,
+    report: &mut Report<'_, W>,
+    case: &mut Case,
+    key: Key,
+    line: &str,
+    octets: &[u8],
+) -> io::Result<()> {
+    let (word, text) = key_of(line);
     match key {
-        "type" | "other" => take_type(report, case, line),
-        "after" | "octets" | "header" => take_octets(alloc, report, case, line),
-        "line" | "line-octets" => {
-            if !case.take_text_line(alloc, key, text)? {
-                report.bad_line(line)?;
-            }
-            Ok(())
+        Key::Type | Key::Other => take_type(report, case, key, line),
+        Key::After | Key::Octets | Key::Header | Key::Line | Key::LineOctets => {
+            Ok(case.take_part(key, octets)?)
         }
-        _ => check_line(alloc, report, case, line),
+        Key::Fields => check_each(alloc, report, case, FIELDS, octets),
+        Key::Copied => check_each(alloc, report, case, COPIES, octets),
+        Key::Text => {
+            check(alloc, report, case, (key, word), text, octets)?;
+            check(alloc, report, case, (Key::Reads, line), text, octets)
+        }
+        Key::Record => {
+            check(alloc, report, case, (key, word), text, octets)?;
+            check(alloc, report, case, (Key::ReadsRecord, line), text, octets)
+        }
+        Key::PrintText | Key::PrintRewritten => check_printed(alloc, report, case, key, word),
+        _ => {
+            let label = label_of(key, word, line);
+            check(alloc, report, case, (key, label), text, octets)
+        }
     }
 }
 
@@ -33,252 +79,113 @@ pub(crate) fn take_line<W: Write + Drop>(
 fn take_type<W: Write + Drop>(
     report: &mut Report<'_, W>,
     case: &mut Case,
+    key: Key,
     line: &str,
 ) -> io::Result<()> {
-    let (key, word) = key_of(line);
-    let Some(rtype) = read_type(word) else {
-        return report.bad_line(key);
+    let (word, text) = key_of(line);
+    let Some(rtype) = read_type(text) else {
+        return report.bad_line(word);
     };
-    if key == "type" {
-        case.rtype = rtype.to_int();
-    } else {
-        case.other = rtype.to_int();
+    match key {
+        Key::Type => case.rtype = rtype,
+        _ => case.other = Some(rtype),
     }
     Ok(())
 }
 
-/// Takes octets after those that the case has.
-fn take_octets<W: Write + Drop>(
+/// The checks of fields: their values; that the RDATA is written as it was, and can be copied; and
+/// that each part that it begins with is read and written, or too short.
+const FIELDS: &[(Key, &str)] = &[
+    (Key::Fields, "fields"),
+    (Key::AsItWas, "written as it was"),
+    (Key::Made, "made from its values"),
+    (Key::Copies, "copied"),
+    (Key::Cut, "cut"),
+];
+
+/// The checks of copies: that the RDATA that is made from the values of the fields is written as
+/// the RDATA is, and that copies own it.
+const COPIES: &[(Key, &str)] = &[(Key::Made, "made from its values"), (Key::Copies, "copied")];
+
+/// Makes these checks in turn.
+fn check_each<W: Write + Drop>(
     alloc: Global,
     report: &mut Report<'_, W>,
     case: &mut Case,
-    line: &str,
+    checks: &[(Key, &str)],
+    octets: &[u8],
 ) -> io::Result<()> {
-    let (key, text) = key_of(line);
-    let Some(octets) = octets_of(alloc, text)? else {
-        return report.bad_line(key);
-    };
-    if key == "header" {
-        return Ok(case.header.extend_from_slice(octets.as_slice())?);
-    }
-    case.octets.extend_from_slice(octets.as_slice())?;
-    if key == "after" {
-        case.start = case.octets.len();
+    for (key, label) in checks {
+        check(alloc, report, case, (*key, *label), "", octets)?;
     }
     Ok(())
 }
 
-/// Checks what a line says of the case.
-fn check_line<W: Write + Drop>(
+/// Prints the text of the RDATA, which has to read as these octets; or the message of the octets,
+/// written again from its fields, which has to be written so again.
+fn check_printed<W: Write + Drop>(
     alloc: Global,
     report: &mut Report<'_, W>,
     case: &mut Case,
-    line: &str,
+    key: Key,
+    word: &str,
 ) -> io::Result<()> {
-    if check_text(alloc, report, case, line)? {
-        return Ok(());
-    }
-    let (key, text) = key_of(line);
-    match key {
-        "fields" => check_fields(alloc, report, case, text),
-        "copied" => check_copied(alloc, report, case),
-        "text" => {
-            let shown = case.text(alloc)?;
-            report.check(key, text.as_bytes(), shown.as_bytes())?;
-            check_reads(alloc, report, case, line)
-        }
-        "error" => {
-            let shown = case.error(alloc)?;
-            report.check(key, text.as_bytes(), shown.as_bytes())
-        }
-        "written" => {
-            let shown = case.written(alloc)?;
-            check_octets(alloc, report, line, shown.as_str())
-        }
-        "canonical" => {
-            let shown = case.canonical(alloc)?;
-            check_octets(alloc, report, line, shown.as_str())
-        }
-        _ => check_words(alloc, report, case, line),
-    }
+    let (name, printed) = match key {
+        Key::PrintText => ("text", case.text(alloc)),
+        _ => ("rewritten", rewritten(alloc, case.octets.as_slice())),
+    };
+    let printed = printed?;
+    writeln!(report.writer, "{name} {printed}")?;
+    check(alloc, report, case, (key, word), "", printed.as_bytes())
 }
 
-/// Checks what a line says of texts of the case's RDATA, or of its record.
-fn check_words<W: Write + Drop>(
+/// Compares what a check of this key wants with what the library makes. Prints the label if they
+/// differ. The lines of the text end there.
+fn check<W: Write + Drop>(
     alloc: Global,
     report: &mut Report<'_, W>,
     case: &mut Case,
-    line: &str,
+    (key, label): (Key, &str),
+    text: &str,
+    octets: &[u8],
 ) -> io::Result<()> {
-    let (key, text) = key_of(line);
+    let wanted = wanted(alloc, case, key, text, octets)?;
+    let shown = shown(alloc, case, key, text, octets)?;
+    case.end_lines();
+    report.check(label, wanted.as_bytes(), shown.as_bytes())
+}
+
+/// What a check of this key wants, after which the line has this text and these octets.
+fn wanted(
+    alloc: Global,
+    case: &Case,
+    key: Key,
+    text: &str,
+    octets: &[u8],
+) -> Result<String, AllocError> {
     match key {
-        "reads" => check_reads(alloc, report, case, line),
-        "print-text" => print_text(alloc, report, case),
-        "reads-octets" | "refuses-octets" => check_long(alloc, report, case, line),
-        "refuses" => {
-            let shown = case.read_line(alloc, text)?;
-            report.check(line, b"bad word", shown.as_bytes())
+        Key::Refuses | Key::RefusesWords | Key::RefusesRecord | Key::NoWords => {
+            String::from_str(alloc, "bad word")
         }
-        "refuses-words" => {
-            let shown = read_words(alloc, case, text)?;
-            report.check(line, b"bad word", shown.as_bytes())
+        Key::Copies => String::from_str(alloc, "copied"),
+        Key::Cut => String::from_str(alloc, "kept or short"),
+        Key::AsItWas | Key::Reads | Key::Question => hex::encode(alloc, case.rdata()),
+        Key::Written | Key::Canonical => hex::encode(alloc, octets),
+        Key::Made | Key::PrintText => case.written(alloc),
+        Key::ReadsRecord => case.record_digits(alloc),
+        Key::Order | Key::CanonicalOrder | Key::RecordOrder | Key::CanonicalRecordOrder => {
+            String::from_str(alloc, key_of(text).0)
         }
-        _ => check_record(alloc, report, case, line),
+        Key::NoQuestion => String::from_str(alloc, error_and_text(text).0),
+        Key::Option => match option_parts(text) {
+            Some((_, _, wanted)) => String::from_str(alloc, wanted),
+            None => String::from_str(alloc, "no option"),
+        },
+        _ => String::from_utf8_lossy(alloc, octets),
     }
 }
 
-/// Checks what a line says of the record, or of how RDATA and records compare.
-fn check_record<W: Write + Drop>(
-    alloc: Global,
-    report: &mut Report<'_, W>,
-    case: &Case,
-    line: &str,
-) -> io::Result<()> {
-    let (key, text) = key_of(line);
-    match key {
-        "record" => {
-            let shown = case.record_text(alloc)?;
-            report.check(key, text.as_bytes(), shown.as_bytes())?;
-            let wanted = case.record_digits(alloc)?;
-            let shown = read_line(alloc, text)?;
-            report.check(line, wanted.as_bytes(), shown.as_bytes())
-        }
-        "refuses-record" => {
-            let shown = read_line(alloc, text)?;
-            report.check(line, b"bad word", shown.as_bytes())
-        }
-        "order" | "canonical-order" | "record-order" | "canonical-record-order" => {
-            check_order(alloc, report, case, line)
-        }
-        _ => report.bad_line(line),
-    }
-}
-
-/// Checks how the RDATA or the record compares with another one: a word, and the other's octets.
-fn check_order<W: Write + Drop>(
-    alloc: Global,
-    report: &mut Report<'_, W>,
-    case: &Case,
-    line: &str,
-) -> io::Result<()> {
-    let (key, text) = key_of(line);
-    let (word, digits) = key_of(text);
-    let Some(octets) = octets_of(alloc, digits)? else {
-        return report.bad_line(line);
-    };
-    let shown = if key.ends_with("record-order") {
-        case.record_order(alloc, key, octets.as_slice())?
-    } else {
-        case.order(alloc, key, octets.as_slice())?
-    };
-    report.check(line, word.as_bytes(), shown.as_bytes())
-}
-
-/// Checks the fields; that the RDATA is written as it was, and can be copied; and that each part
-/// that it begins with is read and written, or too short.
-fn check_fields<W: Write + Drop>(
-    alloc: Global,
-    report: &mut Report<'_, W>,
-    case: &Case,
-    wanted: &str,
-) -> io::Result<()> {
-    let shown = case.fields(alloc)?;
-    report.check("fields", wanted.as_bytes(), shown.as_bytes())?;
-    let octets = hex::encode(alloc, case.rdata())?;
-    let written = case.written(alloc)?;
-    report.check("written as it was", octets.as_bytes(), written.as_bytes())?;
-    check_copied(alloc, report, case)?;
-    let shown = match case.bad_cut(alloc)? {
-        Some(len) => format!(in alloc; "not at {len} octets")?,
-        None => String::from_str(alloc, "kept or short")?,
-    };
-    report.check("cut", b"kept or short", shown.as_bytes())
-}
-
-/// Checks that the RDATA that is made from the values of the fields is written as the RDATA is, and
-/// that copies own it.
-fn check_copied<W: Write + Drop>(
-    alloc: Global,
-    report: &mut Report<'_, W>,
-    case: &Case,
-) -> io::Result<()> {
-    let written = case.written(alloc)?;
-    let made = case.made(alloc)?;
-    report.check("made from its values", written.as_bytes(), made.as_bytes())?;
-    let copied = case.copied(alloc)?;
-    report.check("copied", b"copied", copied.as_bytes())
-}
-
-/// Checks that a text reads as the octets of the RDATA.
-fn check_reads<W: Write + Drop>(
-    alloc: Global,
-    report: &mut Report<'_, W>,
-    case: &Case,
-    line: &str,
-) -> io::Result<()> {
-    let (_, text) = key_of(line);
-    let wanted = hex::encode(alloc, case.rdata())?;
-    let shown = case.read_line(alloc, text)?;
-    report.check(line, wanted.as_bytes(), shown.as_bytes())
-}
-
-/// Prints the text of the RDATA. Checks that it reads as these octets.
-fn print_text<W: Write + Drop>(
-    alloc: Global,
-    report: &mut Report<'_, W>,
-    case: &Case,
-) -> io::Result<()> {
-    let text = case.text(alloc)?;
-    writeln!(report.writer, "text {text}")?;
-    let wanted = case.written(alloc)?;
-    let shown = case.read_line(alloc, text.as_str())?;
-    report.check("print-text", wanted.as_bytes(), shown.as_bytes())
-}
-
-/// Checks what a text reads as that is given by its octets, which may be many.
-fn check_long<W: Write + Drop>(
-    alloc: Global,
-    report: &mut Report<'_, W>,
-    case: &Case,
-    line: &str,
-) -> io::Result<()> {
-    let (key, digits) = key_of(line);
-    let Some(octets) = octets_of(alloc, digits)? else {
-        return report.bad_line(line);
-    };
-    let shown = match std::str::from_utf8(octets.as_slice()) {
-        Ok(text) => case.read_line(alloc, text)?,
-        Err(_) => String::from_str(alloc, NO_TEXT)?,
-    };
-    if key == "refuses-octets" {
-        return report.check(line, b"bad word", shown.as_bytes());
-    }
-    let wanted = hex::encode(alloc, case.rdata())?;
-    report.check(line, wanted.as_bytes(), shown.as_bytes())
-}
-
-/// What words read as that have `|` between them.
-fn read_words(alloc: Global, case: &Case, line: &str) -> io::Result<String> {
-    let mut words = Vec::new(alloc);
-    for word in line.split('|') {
-        words.push(word)?;
-    }
-    case.read_words(alloc, words.as_slice())
-}
-
-/// Checks the octets of a line, which a case may have in upper case and with spaces.
-fn check_octets<W: Write + Drop>(
-    alloc: Global,
-    report: &mut Report<'_, W>,
-    line: &str,
-    shown: &str,
-) -> io::Result<()> {
-    let (key, text) = key_of(line);
-    match octets_of(alloc, text)? {
-        Some(octets) => {
-            let wanted = hex::encode(alloc, octets.as_slice())?;
-            report.check(key, wanted.as_bytes(), shown.as_bytes())
-        }
-        None => report.bad_line(key),
-    }
+/// An error, and after `|` the text that has it.
+pub(crate) fn error_and_text(text: &str) -> (&str, &str) {
+    text.split_once('|').unwrap_or((text, ""))
 }

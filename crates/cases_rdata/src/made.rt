@@ -1,32 +1,32 @@
 //! RDATA that is made again: from the values of its fields, and as copies that own it.
-use crate::case::{Case, digits_written, error_text};
-use dns_data::RecordData;
+use crate::case::{Case, digits_written};
+use dns_data::{ComposeRecordData, RecordData};
 use dns_wire::{AppendError, FlattenInto, OctetsFrom};
 use fields_octets::{FieldData, Fields, OwnedFieldData, Value, fields_of};
 use fields_values::{NewValue, from_values};
-use std::alloc::Global;
-use std::io;
+use std::alloc::{AllocError, Global};
 
 impl Case {
     /// The digits of the RDATA that is made from the values of the fields, or why there is none.
-    pub(crate) fn made(&self, alloc: Global) -> io::Result<String> {
+    pub(crate) fn made(&self, alloc: Global) -> Result<String, AllocError> {
         match self.data() {
             Ok(data) => made_again(alloc, &data),
-            Err(error) => error_text(alloc, error),
+            Err(error) => error.to_string(alloc),
         }
     }
 
     /// Whether copies own the RDATA: "copied", or what is wrong.
-    pub(crate) fn copied(&self, alloc: Global) -> io::Result<&'static str> {
-        match self.data() {
+    pub(crate) fn copied(&self, alloc: Global) -> Result<String, AllocError> {
+        let word = match self.data() {
             Ok(data) => copies(alloc, &data),
-            Err(_) => Ok("malformed"),
-        }
+            Err(_) => "malformed",
+        };
+        String::from_str(alloc, word)
     }
 }
 
 /// The digits of the RDATA that is made from the values of these fields.
-fn made_again(alloc: Global, data: &FieldData<'_>) -> io::Result<String> {
+fn made_again(alloc: Global, data: &FieldData<'_>) -> Result<String, AllocError> {
     let mut fields = data.fields();
     // No record type has more fields than RRSIG (RFC 4034 section 3.1).
     let values = [
@@ -42,10 +42,7 @@ fn made_again(alloc: Global, data: &FieldData<'_>) -> io::Result<String> {
     ];
     let count = fields_of(data.rtype().to_int()).len();
     let values = values.get(..count).unwrap_or(&[]);
-    match from_values(alloc, data.rtype(), values) {
-        Ok(made) => digits_written(alloc, &made),
-        Err(error) => Ok(format!(in alloc; "{error}")?),
-    }
+    digits_written(alloc, from_values(alloc, data.rtype(), values))
 }
 
 /// The value of the next field, as it takes it. Zero if there is none.
@@ -81,36 +78,46 @@ fn address(octets: &[u8]) -> NewValue<'_> {
 }
 
 /// Copies RDATA in each way: "copied", or which copy isn't the same.
-fn copies(alloc: Global, data: &FieldData<'_>) -> io::Result<&'static str> {
-    if !is_copy(alloc, OwnedFieldData::from_field_data(alloc, data), data)? {
-        return Ok("not by from_field_data");
+fn copies(alloc: Global, data: &FieldData<'_>) -> &'static str {
+    if !is_copy(alloc, OwnedFieldData::from_field_data(alloc, data), data) {
+        return "not by from_field_data";
     }
-    if !is_copy(alloc, OwnedFieldData::try_octets_from(alloc, *data), data)? {
-        return Ok("not by try_octets_from");
+    if !is_copy(alloc, OwnedFieldData::try_octets_from(alloc, *data), data) {
+        return "not by try_octets_from";
     }
-    if !is_copy(alloc, data.try_flatten_into(alloc), data)? {
-        return Ok("not by try_flatten_into");
+    if !is_copy(alloc, data.try_flatten_into(alloc), data) {
+        return "not by try_flatten_into";
     }
-    Ok("copied")
+    "copied"
 }
 
 /// Whether a copy and a clone of it are the same RDATA.
-fn is_copy(
-    alloc: Global,
-    copy: Result<OwnedFieldData, AppendError>,
-    data: &FieldData<'_>,
-) -> io::Result<bool> {
+fn is_copy(alloc: Global, copy: Result<OwnedFieldData, AppendError>, data: &FieldData<'_>) -> bool {
     let Ok(copy) = copy else {
-        return Ok(false);
+        return false;
     };
-    let clone = copy.clone()?;
-    Ok(is_same(alloc, &copy, data)? && is_same(alloc, &clone, data)?)
+    is_same(alloc, &copy, data) && is_clone(alloc, copy.clone(), data)
+}
+
+/// Whether a clone is the same RDATA.
+fn is_clone(
+    alloc: Global,
+    clone: Result<OwnedFieldData, AllocError>,
+    data: &FieldData<'_>,
+) -> bool {
+    match clone {
+        Ok(clone) => is_same(alloc, &clone, data),
+        Err(_) => false,
+    }
 }
 
 /// Whether RDATA has the type of other RDATA, is equal to it, and is written as it is.
-fn is_same(alloc: Global, owned: &OwnedFieldData, data: &FieldData<'_>) -> io::Result<bool> {
-    if owned.rtype() != data.rtype() || owned.as_field_data() != *data {
-        return Ok(false);
-    }
-    Ok(digits_written(alloc, owned)? == digits_written(alloc, data)?)
+fn is_same(alloc: Global, owned: &OwnedFieldData, data: &FieldData<'_>) -> bool {
+    let mut target = Vec::new(alloc);
+    let mut other = Vec::new(alloc);
+    owned.rtype() == data.rtype()
+        && owned.as_field_data() == *data
+        && owned.compose_rdata(&mut target).is_ok()
+        && data.compose_rdata(&mut other).is_ok()
+        && target.as_slice() == other.as_slice()
 }

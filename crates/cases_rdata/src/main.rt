@@ -9,13 +9,14 @@
 mod case;
 mod checks;
 mod fields;
+mod key;
 mod made;
 mod options;
 mod orders;
 mod questions;
 mod records;
 mod rewriting;
-mod texts;
+mod shown;
 
 use crate::case::Case;
 use crate::checks::take_line;
@@ -65,7 +66,7 @@ fn check_case<'a, W: Write + Drop>(
     for line in lines {
         take_line(alloc, report, &mut case, line.trim_ascii_start())?;
     }
-    if case.rtype == 0 && !case.has_texts {
+    if case.rtype.to_int() == 0 && !case.has_texts {
         report.bad_line("no type")?;
     }
     if report.counts.checks == checks {

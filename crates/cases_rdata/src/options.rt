@@ -1,23 +1,43 @@
 //! What options are read as.
+use cases_files::key_of;
 use dns_code::OptionCode;
 use dns_edns::{ClientSubnet, Cookie, ExtendedError, KnownOptData, SubnetAddr};
-use std::alloc::Global;
-use std::io;
+use dns_print::write_hex;
+use std::alloc::{AllocError, Global};
+use std::fmt;
+
+/// Octets that print as two lowercase hexadecimal digits each.
+#[derive(Clone, Copy)]
+struct Digits<'a>(&'a [u8]);
+
+impl fmt::Display for Digits<'_> {
+    fn fmt<W: fmt::Write>(&self, f: &mut fmt::Formatter<W>) -> fmt::Result {
+        write_hex(f, false, self.0)
+    }
+}
+
+/// The code of an option, the digits of its octets, and after `=` what it is read as. `None` if the
+/// code is malformed.
+pub(crate) fn option_parts(text: &str) -> Option<(u16, &str, &str)> {
+    let (option, wanted) = text.split_once(" = ").unwrap_or((text, ""));
+    let (code, digits) = key_of(option);
+    Some((code.parse::<u16>().ok()?, digits, wanted))
+}
 
 /// What an option is read as, or why it can't be read. Addresses and octets are in digits.
-pub(crate) fn option_text(alloc: Global, code: u16, octets: &[u8]) -> io::Result<String> {
+pub(crate) fn option_text(alloc: Global, code: u16, octets: &[u8]) -> Result<String, AllocError> {
     match KnownOptData::parse(OptionCode::from_int(code), octets) {
         Ok(Some(known)) => known_text(alloc, &known),
-        Ok(None) => Ok(String::from_str(alloc, "another kind")?),
-        Err(error) => Ok(format!(in alloc; "{error}")?),
+        Ok(None) => String::from_str(alloc, "another kind"),
+        Err(error) => error.to_string(alloc),
     }
 }
 
 /// The text of an option of a known kind.
-fn known_text(alloc: Global, known: &KnownOptData<'_>) -> io::Result<String> {
+fn known_text(alloc: Global, known: &KnownOptData<'_>) -> Result<String, AllocError> {
     match known {
-        KnownOptData::Nsid(octets) => octets_text(alloc, "NSID", octets),
-        KnownOptData::Padding(octets) => octets_text(alloc, "padding", octets),
+        KnownOptData::Nsid(octets) => format!(in alloc; "NSID {}", Digits(octets)),
+        KnownOptData::Padding(octets) => format!(in alloc; "padding {}", Digits(octets)),
         KnownOptData::ClientSubnet(subnet) => subnet_text(alloc, subnet),
         KnownOptData::Cookie(cookie) => cookie_text(alloc, cookie),
         KnownOptData::ExtendedError(error) => error_text(alloc, error),
@@ -28,46 +48,37 @@ fn known_text(alloc: Global, known: &KnownOptData<'_>) -> io::Result<String> {
     }
 }
 
-/// A kind and octets.
-fn octets_text(alloc: Global, kind: &str, octets: &[u8]) -> io::Result<String> {
-    let digits = hex::encode(alloc, octets)?;
-    Ok(format!(in alloc; "{kind} {digits}")?)
-}
-
 /// A kind, and a number if there is one.
-fn number_text(alloc: Global, kind: &str, number: Option<u32>) -> io::Result<String> {
+fn number_text(alloc: Global, kind: &str, number: Option<u32>) -> Result<String, AllocError> {
     match number {
-        Some(number) => Ok(format!(in alloc; "{kind} {number}")?),
-        None => Ok(format!(in alloc; "{kind} of no number")?),
+        Some(number) => format!(in alloc; "{kind} {number}"),
+        None => format!(in alloc; "{kind} of no number"),
     }
 }
 
 /// A subnet.
-fn subnet_text(alloc: Global, subnet: &ClientSubnet) -> io::Result<String> {
-    let digits = match &subnet.address {
-        SubnetAddr::V4(octets) => hex::encode(alloc, octets)?,
-        SubnetAddr::V6(octets) => hex::encode(alloc, octets)?,
+fn subnet_text(alloc: Global, subnet: &ClientSubnet) -> Result<String, AllocError> {
+    let address = match &subnet.address {
+        SubnetAddr::V4(octets) => Digits(octets),
+        SubnetAddr::V6(octets) => Digits(octets),
     };
-    Ok(format!(in alloc; "subnet {digits}/{} scope {}", subnet.source, subnet.scope)?)
+    format!(in alloc; "subnet {address}/{} scope {}", subnet.source, subnet.scope)
 }
 
 /// The cookies of a client and of a server, if there is one.
-fn cookie_text(alloc: Global, cookie: &Cookie<'_>) -> io::Result<String> {
-    let client = hex::encode(alloc, &cookie.client)?;
+fn cookie_text(alloc: Global, cookie: &Cookie<'_>) -> Result<String, AllocError> {
+    let client = Digits(&cookie.client);
     match cookie.server {
-        Some(server) => {
-            let server = hex::encode(alloc, server)?;
-            Ok(format!(in alloc; "cookie {client} server {server}")?)
-        }
-        None => Ok(format!(in alloc; "cookie {client}")?),
+        Some(server) => format!(in alloc; "cookie {client} server {}", Digits(server)),
+        None => format!(in alloc; "cookie {client}"),
     }
 }
 
 /// The code of an error, the octets after it, and their text if it is one.
-fn error_text(alloc: Global, error: &ExtendedError<'_>) -> io::Result<String> {
-    let octets = hex::encode(alloc, error.text_octets)?;
+fn error_text(alloc: Global, error: &ExtendedError<'_>) -> Result<String, AllocError> {
+    let octets = Digits(error.text_octets);
     match error.text() {
-        Some(text) => Ok(format!(in alloc; "error {} {octets} \"{text}\"", error.code)?),
-        None => Ok(format!(in alloc; "error {} {octets} no text", error.code)?),
+        Some(text) => format!(in alloc; "error {} {octets} \"{text}\"", error.code),
+        None => format!(in alloc; "error {} {octets} no text", error.code),
     }
 }

@@ -1,47 +1,35 @@
 //! Messages written again from the fields of their records.
-use crate::case::Case;
-use cases_files::Report;
 use dns_build::{AnswerBuilder, CopyRecordsError, MessageBuilder, PushError, copy_records};
 use dns_code::Rcode;
 use dns_read::Message;
 use dns_target::TreeCompressor;
 use fields_octets::FieldData;
-use std::alloc::Global;
-use std::io;
-use std::io::Write;
+use std::alloc::{AllocError, Global};
 
-/// Prints the message of the octets, written again from its fields. Checks that it is written so
-/// again.
-pub(crate) fn check_rewritten<W: Write + Drop>(
-    alloc: Global,
-    report: &mut Report<'_, W>,
-    case: &Case,
-    line: &str,
-) -> io::Result<()> {
-    let octets = Vec::from_slice(alloc, case.octets.as_slice())?;
-    let shown = rewritten_digits(alloc, octets)?;
-    writeln!(report.writer, "rewritten {shown}")?;
-    let octets = hex::decode(alloc, shown.as_str()).unwrap_or(Vec::new(alloc));
-    let again = rewritten_digits(alloc, octets)?;
-    report.check(line, shown.as_bytes(), again.as_bytes())
+/// The digits of the message in these octets, written again from its fields; or why it can't be.
+pub(crate) fn rewritten(alloc: Global, octets: &[u8]) -> Result<String, AllocError> {
+    let Ok(message) = Message::from_slice(octets) else {
+        return String::from_str(alloc, "short message");
+    };
+    match written_again(alloc, &message) {
+        Ok(written) => hex::encode(alloc, written.as_slice()),
+        Err(error) => error.to_string(alloc),
+    }
 }
 
-/// The digits of the message that is written again, or why it can't be.
-fn rewritten_digits(alloc: Global, octets: Vec<u8>) -> io::Result<String> {
-    let Ok(message) = Message::from_octets(octets) else {
-        return Ok(String::from_str(alloc, "short message")?);
-    };
-    match rewritten(alloc, &message) {
-        Ok(written) => Ok(hex::encode(alloc, written.as_slice())?),
-        Err(error) => Ok(format!(in alloc; "{error}")?),
+/// The same of the message in these digits.
+pub(crate) fn rewritten_again(alloc: Global, digits: &[u8]) -> Result<String, AllocError> {
+    match hex::decode(alloc, digits) {
+        Ok(octets) => rewritten(alloc, octets.as_slice()),
+        Err(_) => rewritten(alloc, &[]),
     }
 }
 
 /// The message with its header, its question and its records. Leaves out records whose RDATA is
 /// malformed.
-fn rewritten(
+fn written_again(
     alloc: Global,
-    message: &Message<Vec<u8>>,
+    message: &Message<&[u8]>,
 ) -> Result<Message<Vec<u8>>, CopyRecordsError> {
     let builder = begun(alloc, message)?;
     let copied = copy_records(message, builder, |record| {
@@ -53,7 +41,7 @@ fn rewritten(
 /// A builder with the header of a message and its questions.
 fn begun(
     alloc: Global,
-    message: &Message<Vec<u8>>,
+    message: &Message<&[u8]>,
 ) -> Result<AnswerBuilder<TreeCompressor<Vec<u8>>>, PushError> {
     let target = TreeCompressor::new(alloc, Vec::new(alloc));
     let mut builder = MessageBuilder::from_target(target)?.start_answer(message, Rcode::NOERROR)?;

@@ -10,6 +10,8 @@
 mod message;
 mod opt;
 mod part;
+mod reading;
+mod returned;
 mod run;
 
 use crate::message::check_call;

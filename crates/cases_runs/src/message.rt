@@ -2,9 +2,10 @@
 ghost use Rattle.std.specs.Prelude.{◌<◌, IfOk, IsTrue, length};
 
 use crate::opt::opt_line;
+use crate::returned::write_call;
 use crate::run::{Run, words_of};
 use cases_files::{Report, key_of, octets_of};
-use dns_edit::{EditError, TtlChange, age_ttls, cap_ttls, change_ttls, min_ttl};
+use dns_edit::{EditError, TtlChange, age_ttls, cap_ttls, change_ttls};
 use dns_item::Ttl;
 use dns_read::Message;
 use dnsview_tool::{file_of, rows};
@@ -27,6 +28,15 @@ pub(crate) enum Call {
     Age,
     Cap,
     ChangeCap,
+    RemoveLast,
+    LastAddress,
+    HasAddress,
+    Questions,
+    Answer,
+    Authority,
+    Additional,
+    Items,
+    Limited,
 }
 
 impl Call {
@@ -45,6 +55,15 @@ impl Call {
             "age" => Some(Call::Age),
             "cap" => Some(Call::Cap),
             "change-cap" => Some(Call::ChangeCap),
+            "remove-last" => Some(Call::RemoveLast),
+            "last-address" => Some(Call::LastAddress),
+            "has-address" => Some(Call::HasAddress),
+            "questions" => Some(Call::Questions),
+            "answer" => Some(Call::Answer),
+            "authority" => Some(Call::Authority),
+            "additional" => Some(Call::Additional),
+            "items" => Some(Call::Items),
+            "limited" => Some(Call::Limited),
             _ => None,
         }
     }
@@ -65,7 +84,10 @@ pub(crate) fn check_call<W: Write + Drop>(
         Call::Opt => opt_line(alloc, run.input.as_slice())?,
         Call::File => file_shown(alloc, text)?,
         Call::Rows => rows_shown(alloc, text)?,
-        _ => message_shown(alloc, run, call, text)?,
+        Call::Age | Call::Cap | Call::ChangeCap | Call::RemoveLast => {
+            changed_shown(alloc, run, call, text)?
+        }
+        _ => message_shown(alloc, run, call)?,
     };
     report.check(line, text.as_bytes(), shown.as_bytes())
 }
@@ -101,59 +123,13 @@ fn rows_shown(alloc: Global, text: &str) -> io::Result<String> {
 }
 
 /// What a call returns for the message of a case.
-fn message_shown(alloc: Global, run: &Run<'_>, call: Call, text: &str) -> io::Result<String> {
-    let Ok(message) = Message::from_slice(run.message.as_slice()) else {
-        return Ok(String::from_str(alloc, "short message")?);
-    };
-    match call {
-        Call::Rcode => Ok(format!(in alloc; "{}", message.opt_rcode().to_int())?),
-        Call::Canonical => canonical_shown(alloc, &message),
-        Call::Sole => sole_shown(alloc, &message),
-        Call::Least => least_shown(alloc, &message),
-        Call::Age | Call::Cap | Call::ChangeCap => changed_shown(alloc, run, call, text),
-        _ => Ok(String::from_str(alloc, pair_word(run, call, &message))?),
-    }
+fn message_shown(alloc: Global, run: &Run<'_>, call: Call) -> Result<String, AllocError> {
+    let mut text = String::new(alloc);
+    write_call(&mut text, run, call)?;
+    Ok(text)
 }
 
-/// The canonical name, or "none".
-fn canonical_shown(alloc: Global, message: &Message<&[u8]>) -> io::Result<String> {
-    match message.canonical_name() {
-        Some(name) => Ok(format!(in alloc; "{name}.")?),
-        None => Ok(String::from_str(alloc, "none")?),
-    }
-}
-
-/// The type of the sole question, or why there is none.
-fn sole_shown(alloc: Global, message: &Message<&[u8]>) -> io::Result<String> {
-    match message.sole_question() {
-        Ok(question) => Ok(format!(in alloc; "{}", question.qtype().to_int())?),
-        Err(error) => Ok(format!(in alloc; "{error}")?),
-    }
-}
-
-/// The least TTL in seconds, "none", or why it can't be read.
-fn least_shown(alloc: Global, message: &Message<&[u8]>) -> io::Result<String> {
-    match min_ttl(message) {
-        Ok(Some(ttl)) => Ok(format!(in alloc; "{}", ttl.as_secs())?),
-        Ok(None) => Ok(String::from_str(alloc, "none")?),
-        Err(error) => Ok(format!(in alloc; "{error}")?),
-    }
-}
-
-/// Whether the message is an answer to the other one, or their questions are the same.
-fn pair_word(run: &Run<'_>, call: Call, message: &Message<&[u8]>) -> &'static str {
-    let Ok(other) = Message::from_slice(run.other.as_slice()) else {
-        return "short message";
-    };
-    let holds = match call {
-        Call::IsAnswer => message.is_answer(&other),
-        _ => message.question().same_questions(&other.question()),
-    };
-    if holds { "yes" } else { "no" }
-}
-
-/// A number of seconds, and after `=` the message with its TTLs changed by it, or why they can't
-/// be.
+/// A number of seconds, and after `=` the message that is changed by it, or why it can't be.
 fn changed_shown(alloc: Global, run: &Run<'_>, call: Call, text: &str) -> io::Result<String> {
     let (number, _) = text.split_once(' ').unwrap_or((text, ""));
     let Ok(seconds) = number.parse::<u32>() else {
@@ -172,11 +148,22 @@ fn changed_shown(alloc: Global, run: &Run<'_>, call: Call, text: &str) -> io::Re
     }
 }
 
-/// Changes the TTLs of a message by a call.
+/// Changes a message by a call.
 fn change(message: &mut Message<Vec<u8>>, call: Call, seconds: u32) -> Result<(), EditError> {
     match call {
         Call::Age => age_ttls(message, seconds),
         Call::Cap => cap_ttls(message, Ttl::from_secs(seconds)),
-        _ => change_ttls(message, TtlChange::Cap(Ttl::from_secs(seconds))),
+        Call::ChangeCap => change_ttls(message, TtlChange::Cap(Ttl::from_secs(seconds))),
+        _ => {
+            remove_last(message);
+            Ok(())
+        }
+    }
+}
+
+/// Removes the last additional record, if there is one.
+fn remove_last(message: &mut Message<Vec<u8>>) {
+    if message.header_counts().arcount() > 0 {
+        message.remove_last_additional();
     }
 }

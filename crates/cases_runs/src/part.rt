@@ -16,18 +16,17 @@ pub(crate) fn check_part<W: Write + Drop>(
     let output = std::str::from_utf8(ended.output.as_slice()).unwrap_or("octets that are no text");
     let text = plain(alloc, rest)?;
     let text = text.as_str();
-    match key {
-        "starts" => check_holds(report, line, output.starts_with(text)),
-        "has" => check_holds(report, line, output.contains(text)),
-        "ends" => check_holds(report, line, output.ends_with(text)),
-        "most" => {
-            let most = rest.parse::<usize>().unwrap_or(0);
-            check_holds(report, line, output.len() <= most)
-        }
-        "count" => check_count(alloc, report, line, output, text),
-        "line" => check_line(report, line, output, text),
-        _ => Ok(()),
-    }
+    let holds = match key {
+        "starts" => output.starts_with(text),
+        "has" => output.contains(text),
+        "ends" => output.ends_with(text),
+        "most" => output.len() <= rest.parse::<usize>().unwrap_or(0),
+        "count" => return check_count(alloc, report, line, output, text),
+        "line" => return check_line(report, line, output, text),
+        _ => return Ok(()),
+    };
+    let shown = if holds { "yes" } else { "no" };
+    report.check(line, b"yes", shown.as_bytes())
 }
 
 /// A text with line feeds for `\n`, tabs for `\t` and spaces for `\s`.
@@ -35,16 +34,6 @@ fn plain(alloc: Global, text: &str) -> Result<String, AllocError> {
     let text = text.replace(alloc, "\\n", "\n")?;
     let text = text.replace(alloc, "\\t", "\t")?;
     text.replace(alloc, "\\s", " ")
-}
-
-/// Checks that a condition holds.
-fn check_holds<W: Write + Drop>(
-    report: &mut Report<'_, W>,
-    line: &str,
-    holds: bool,
-) -> io::Result<()> {
-    let shown = if holds { "yes" } else { "no" };
-    report.check(line, b"yes", shown.as_bytes())
 }
 
 /// Checks how often a text is printed: a number and the text.

@@ -1,7 +1,9 @@
 //! What is printed to standard error if something fails: printable ASCII, whatever the reason is.
 use dnsview_tool::{print_unopened, tool};
+use std::alloc::Global;
 use std::io;
 use std::io::{Read, Write};
+use std::process::Abort;
 
 /// Why something fails, with an octet outside ASCII, an escape and a line feed.
 const REASON: &str = "no \u{e9}\x1b\n";
@@ -50,14 +52,23 @@ fn says_that_reading_failed(rt: HostRuntime) {
     assert!(rt; output.is_empty());
 }
 
-#[test]
-fn says_that_printing_failed(rt: HostRuntime) {
-    let mut errors = Vec::new(rt.alloc());
-    let mut input = b"00".as_slice();
-    let status = tool(rt.alloc(), &[], &mut input, &mut Broken, &mut errors).expect(&rt, "memory");
+/// Fails unless a view that these arguments ask for says why it can't be printed.
+fn assert_printing_fails(rt: &impl Abort, alloc: Global, words: &[String]) {
+    let mut errors = Vec::new(alloc);
+    let mut input = b"000000000000000100000000".as_slice();
+    let status = tool(alloc, words, &mut input, &mut Broken, &mut errors).expect(rt, "memory");
     let expected = b"dnsview: printing failed: no \\195\\169\\027\\010\n";
     assert_eq!(rt; status, 3);
     assert_eq!(rt; errors.as_slice(), expected.as_slice());
+}
+
+#[test]
+fn says_that_printing_failed(rt: HostRuntime) {
+    assert_printing_fails(&rt, rt.alloc(), &[]);
+    for word in ["--short", "--html"] {
+        let word = String::from_str(rt.alloc(), word).expect(&rt, "memory");
+        assert_printing_fails(&rt, rt.alloc(), &[word]);
+    }
 }
 
 /// A failure of standard error itself is the caller's.

@@ -36,65 +36,39 @@ fn assert_builder<T: Composer>(
     assert_octets(rt, row, builder.as_slice(), expected);
 }
 
-/// Checks that `start_answer` and `start_error` push the readable questions.
-fn assert_answers<T: Composer>(rt: &impl Abort, first: T, second: T) {
-    let message = Message::from_slice(&UNREADABLE).expect(rt, "a message");
-    let given = over(rt, first).start_answer(&message, Rcode::REFUSED);
-    assert_builder(rt, "Start an answer", given.ok(), &REFUSED);
-    let given = over(rt, second).start_error(&message, Rcode::REFUSED);
-    assert_builder(rt, "Start an answer: start_error", Some(given), &REFUSED);
-}
-
-/// Checks that `try_start_answer` pushes the readable questions.
-fn assert_tries<T: Composer>(rt: &impl Abort, target: T) {
-    let message = Message::from_slice(&UNREADABLE).expect(rt, "a message");
-    let given = over(rt, target).try_start_answer(&message, Rcode::REFUSED);
-    assert_builder(
-        rt,
-        "Start an answer: try_start_answer",
-        given.ok(),
-        &REFUSED,
-    );
-}
-
+/// `start_answer`, `try_start_answer` and `start_error` push the readable questions.
 #[test]
 fn answers_the_readable_questions(rt: HostRuntime) {
     let alloc = rt.alloc();
-    assert_answers(&rt, Vec::new(alloc), Vec::new(alloc));
-    assert_tries(&rt, Vec::new(alloc));
+    let message = Message::from_slice(&UNREADABLE).expect(&rt, "a message");
+    let given = over(&rt, Vec::new(alloc)).start_answer(&message, Rcode::REFUSED);
+    assert_builder(&rt, "Start an answer", given.ok(), &REFUSED);
+    let given = over(&rt, Vec::new(alloc)).try_start_answer(&message, Rcode::REFUSED);
+    let row = "Start an answer: try_start_answer";
+    assert_builder(&rt, row, given.ok(), &REFUSED);
+    let given = over(&rt, Vec::new(alloc)).start_error(&message, Rcode::REFUSED);
+    assert_builder(&rt, "Start an answer: start_error", Some(given), &REFUSED);
 }
 
-/// Checks `try_start_answer` and `start_answer` on targets that have the capacity for one question
-/// of `READABLE`, but not for two.
-fn assert_refuses<T: Composer>(rt: &impl Abort, first: T, second: T) {
-    let message = Message::from_slice(&READABLE).expect(rt, "a message");
-    let given = over(rt, first).try_start_answer(&message, Rcode::NOERROR);
-    assert_builder(
-        rt,
-        "Start an answer without room: try_start_answer",
-        given.err(),
-        &SERVFAIL,
-    );
-    let given = over(rt, second).start_answer(&message, Rcode::NOERROR);
-    let is_refused = matches!(given.err(), Some(PushError::ShortBuf));
-    assert_holds(rt, "Start an answer without room: start_answer", is_refused);
-}
-
-/// Checks `start_error` on such a target.
-fn assert_reports<T: Composer>(rt: &impl Abort, target: T) {
-    let message = Message::from_slice(&READABLE).expect(rt, "a message");
-    let given = over(rt, target).start_error(&message, Rcode::NOERROR);
-    assert_builder(
-        rt,
-        "Start an answer without room: start_error",
-        Some(given),
-        &SERVFAIL,
-    );
+/// A target with the capacity for one question of `READABLE`, but not for two.
+fn short() -> ArrayVec<u8, 40> {
+    ArrayVec::new()
 }
 
 #[test]
 fn keeps_the_questions_before_a_refused_one(rt: HostRuntime) {
-    let target = ArrayVec::<u8, 40>::new;
-    assert_refuses(&rt, target(), target());
-    assert_reports(&rt, target());
+    let message = Message::from_slice(&READABLE).expect(&rt, "a message");
+    let given = over(&rt, short()).try_start_answer(&message, Rcode::NOERROR);
+    let row = "Start an answer without room: try_start_answer";
+    assert_builder(&rt, row, given.err(), &SERVFAIL);
+    let given = over(&rt, short()).start_error(&message, Rcode::NOERROR);
+    let row = "Start an answer without room: start_error";
+    assert_builder(&rt, row, Some(given), &SERVFAIL);
+    let given = over(&rt, short()).start_answer(&message, Rcode::NOERROR);
+    let is_refused = matches!(given.err(), Some(PushError::ShortBuf));
+    assert_holds(
+        &rt,
+        "Start an answer without room: start_answer",
+        is_refused,
+    );
 }

@@ -2,8 +2,7 @@
 //! expected values come from outside this library.
 //!
 //! Nothing is exported. A module tests what it is named after; `asserts` and `steps` have what many
-//! tests use, and `encoding` what `tests_plain` writes in place of the library. The rows of a table
-//! have names, which failures print.
+//! tests use. The rows of a table have names, which failures print.
 #![tactic(auto)]
 
 #[cfg(test)]
@@ -16,8 +15,6 @@ mod builders;
 mod compressors;
 #[cfg(test)]
 mod copies;
-#[cfg(test)]
-mod encoding;
 #[cfg(test)]
 mod long_inputs;
 #[cfg(test)]

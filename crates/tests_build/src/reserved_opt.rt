@@ -1,10 +1,7 @@
 //! OPT records whose octets are reserved before other records are pushed (RFC 6891 section 6.1).
-use crate::asserts::{assert_holds, assert_limit, assert_octets};
+use crate::asserts::{assert_holds, assert_limit, assert_octets, over};
 use arrayvec::ArrayVec;
-use dns_build::{
-    AdditionalBuilder, AnswerBuilder, Builder, BuilderStage, MessageBuilder, OptBuilder, PushError,
-    ReservedOpt,
-};
+use dns_build::{AnswerBuilder, Builder, BuilderStage, MessageBuilder, OptBuilder, PushError};
 use dns_code::{Header, OptRcode, OptionCode, Rcode};
 use dns_data::A;
 use dns_wire::{Composer, Name};
@@ -73,7 +70,7 @@ const ROWS: &[Row] = &[
 
 /// A builder of an empty message with a limit.
 fn limited<T: Composer>(rt: &impl Abort, target: T, limit: usize) -> MessageBuilder<T> {
-    let mut builder = MessageBuilder::from_target(target).expect(rt, "a capacity for the header");
+    let mut builder = over(rt, target);
     builder.set_push_limit(limit);
     builder
 }
@@ -109,47 +106,26 @@ fn push_answers<T: Composer>(rt: &impl Abort, row: &str, builder: &mut AnswerBui
     40
 }
 
-/// Reserves an OPT record without options.
-fn reserved<T: Composer, S: BuilderStage>(
-    rt: &impl Abort,
-    alloc: Global,
-    row: &str,
-    builder: &mut Builder<T, S>,
-) -> ReservedOpt {
-    let opt = gathered(rt, alloc, builder, None);
-    builder.reserve_opt(opt).expect(rt, row)
-}
-
-/// Pushes the reserved record. Fails unless the message has `len` octets then, and the builder this
-/// limit.
-fn assert_pushed<T: Composer>(
-    rt: &impl Abort,
-    row: &str,
-    mut builder: AdditionalBuilder<T>,
-    reserved: ReservedOpt,
-    limit: Option<usize>,
-    len: usize,
-) {
-    builder.push_reserved(reserved).expect(rt, row);
-    assert_holds(rt, row, builder.as_slice().len() == len);
-    assert_limit(rt, row, &builder, limit);
-    assert_holds(rt, row, builder.as_message().opt().is_some());
-}
-
-/// Reserves the record of a row and pushes answers, and then the record.
+/// Reserves the record of a row and pushes answers, and then the record with the rcode 19. Fails
+/// unless the message and the limit are those of the row.
 fn assert_reserves<T: Composer>(
     rt: &impl Abort,
     row: &Row,
     mut builder: MessageBuilder<T>,
     opt: OptBuilder,
 ) {
-    let reserved = builder.reserve_opt(opt).expect(rt, row.name);
+    let mut reserved = builder.reserve_opt(opt).expect(rt, row.name);
     assert_limit(rt, row.name, &builder, Some(row.lowered));
     let mut builder = builder.answer();
     let answers = push_answers(rt, row.name, &mut builder);
     assert_holds(rt, row.name, answers == row.answers);
-    let builder = builder.additional();
-    assert_pushed(rt, row.name, builder, reserved, Some(row.limit), row.len);
+    reserved.set_rcode(OptRcode::from_parts(Rcode::NXDOMAIN, 1));
+    let mut builder = builder.additional();
+    builder.push_reserved(reserved).expect(rt, row.name);
+    assert_holds(rt, row.name, builder.as_slice().len() == row.len);
+    assert_limit(rt, row.name, &builder, Some(row.limit));
+    let rcode = builder.as_message().opt_rcode().to_int();
+    assert_holds(rt, row.name, rcode == 19);
 }
 
 #[test]
@@ -164,44 +140,16 @@ fn leaves_the_octets_of_the_record(rt: HostRuntime) {
     }
 }
 
-#[test]
-fn needs_no_limit(rt: HostRuntime) {
-    let row = "No limit";
-    let builder = MessageBuilder::new_vec(rt.alloc()).expect(&rt, "memory");
-    let mut builder = builder.answer();
-    let opt = reserved(&rt, rt.alloc(), row, &mut builder);
-    assert_limit(&rt, row, &builder, None);
-    assert_holds(&rt, row, push_answers(&rt, row, &mut builder) == 40);
-    let len = 12 + 40 * 15 + 11;
-    assert_pushed(&rt, row, builder.additional(), opt, None, len);
-}
-
-/// Fails unless the message is empty, and the builder has this limit.
-fn assert_empty<T: Composer, S: BuilderStage>(
-    rt: &impl Abort,
-    row: &str,
-    builder: &Builder<T, S>,
-    limit: usize,
-) {
-    assert_limit(rt, row, builder, Some(limit));
-    assert_octets(rt, row, builder.as_slice(), &[0; 12]);
-}
-
-/// Fails unless a record of 11 octets after a header section of 12 exceeds the limit.
-fn assert_exceeds(rt: &impl Abort, alloc: Global, row: &str, limit: usize) {
-    let mut builder = limited(rt, Vec::new(alloc), limit);
-    let opt = gathered(rt, alloc, &builder, None);
-    let refused = builder.reserve_opt(opt).err();
-    assert_holds(rt, row, matches!(refused, Some(PushError::LimitExceeded)));
-    assert_empty(rt, row, &builder, limit);
-}
-
+/// A record of 11 octets after a header section of 12 exceeds the limit of 22. Nothing changes.
 #[test]
 fn refuses_more_than_the_limit(rt: HostRuntime) {
-    let alloc = rt.alloc();
-    assert_exceeds(&rt, alloc, "One octet too many", 22);
-    assert_exceeds(&rt, alloc, "More than the limit", 10);
-    assert_exceeds(&rt, alloc, "None", 0);
+    let row = "One octet too many";
+    let mut builder = limited(&rt, ArrayVec::<u8, 23>::new(), 22);
+    let opt = gathered(&rt, rt.alloc(), &builder, None);
+    let refused = builder.reserve_opt(opt).err();
+    assert_holds(&rt, row, matches!(refused, Some(PushError::LimitExceeded)));
+    assert_limit(&rt, row, &builder, Some(22));
+    assert_octets(&rt, row, builder.as_slice(), &[0; 12]);
 }
 
 /// The limit has 512 octets and the target 16, so the record exceeds the target.
@@ -209,33 +157,30 @@ fn refuses_more_than_the_limit(rt: HostRuntime) {
 fn restores_the_limit_on_error(rt: HostRuntime) {
     let row = "A short target";
     let mut builder = limited(&rt, ArrayVec::<u8, 16>::new(), 512).additional();
-    let opt = reserved(&rt, rt.alloc(), row, &mut builder);
-    assert_limit(&rt, row, &builder, Some(501));
-    let refused = builder.push_reserved(opt).err();
+    let opt = OptBuilder::new(rt.alloc(), builder.header());
+    let reserved = builder.reserve_opt(opt).expect(&rt, row);
+    let refused = builder.push_reserved(reserved).err();
     assert_holds(&rt, row, matches!(refused, Some(PushError::ShortBuf)));
-    assert_empty(&rt, row, &builder, 512);
+    assert_limit(&rt, row, &builder, Some(512));
+    assert_octets(&rt, row, builder.as_slice(), &[0; 12]);
 }
 
 /// QR, RD, and the rcode 3 in the header. The record has the upper bits of the rcode 19.
 static WITH_RCODE: [u8; 23] =
     *b"\x00\x00\x81\x03\x00\x00\x00\x00\x00\x00\x00\x01\x00\x00\x29\x04\xd0\x01\x00\x00\x00\x00\x00";
 
-/// The header of a response with the rcode REFUSED and RD.
-fn refusal(mut header: Header) -> Header {
-    header.set_qr(true);
-    header.set_rd(true);
-    header.set_rcode(Rcode::REFUSED);
-    header
-}
-
+/// QR, RD and REFUSED are set while the record is reserved. The rcode 19 replaces REFUSED.
 #[test]
 fn takes_the_rcode_alone(rt: HostRuntime) {
     let row = "The rcode 19";
-    let mut builder = limited(&rt, Vec::new(rt.alloc()), 512);
-    let mut opt = reserved(&rt, rt.alloc(), row, &mut builder);
-    builder.set_header(refusal(builder.header()));
-    opt.set_rcode(OptRcode::checked_from_int(19).expect(&rt, row));
+    let mut builder = over(&rt, ArrayVec::<u8, 23>::new());
+    let opt = gathered(&rt, rt.alloc(), &builder, None);
+    let mut reserved = builder.reserve_opt(opt).expect(&rt, row);
+    builder.set_header(Header::for_message_slice(
+        b"\x00\x00\x81\x05\x00\x00\x00\x00\x00\x00\x00\x00",
+    ));
+    reserved.set_rcode(OptRcode::from_parts(Rcode::NXDOMAIN, 1));
     let mut builder = builder.additional();
-    builder.push_reserved(opt).expect(&rt, row);
+    builder.push_reserved(reserved).expect(&rt, row);
     assert_octets(&rt, row, builder.as_slice(), &WITH_RCODE);
 }

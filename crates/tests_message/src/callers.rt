@@ -24,7 +24,7 @@ use dns_message::name::{Name, ParsedName};
 use dns_message::question::ComposeQuestion;
 use dns_message::record::{ComposeRecord, Record, Ttl};
 use dns_message::script::{Call, Stage, run};
-use dns_message::target::{Composer, HashCompressor};
+use dns_message::target::HashCompressor;
 use dns_message::wire::{AppendError, Octets};
 use std::alloc::{AllocError, Global};
 use std::process::Abort;
@@ -227,29 +227,21 @@ fn compressed<Q: ComposeQuestion, R: ComposeRecord>(
     }
 }
 
-type AddressCall = Call<(Name<[u8; 13]>, Rtype), (Name<[u8; 13]>, u32, A)>;
-
-/// The calls that push a question for the addresses of a name, and an answer.
-fn address_calls(alloc: Global, name: Name<[u8; 13]>) -> Result<Vec<AddressCall>, AllocError> {
-    let mut calls = Vec::new(alloc);
-    calls.push(Call::ToQuestion)?;
-    calls.push(Call::PushQuestion((name, Rtype::A)))?;
-    calls.push(Call::ToAnswer)?;
-    calls.push(Call::PushRecord((name, 3600, A::from_octets(203, 0, 113, 1))))?;
-    Ok(calls)
-}
-
-/// Fails unless the message of the stage has this number of octets.
-fn assert_len<T: Composer>(rt: &impl Abort, stage: Stage<T>, len: usize) {
-    assert_holds(rt, "one pointer", stage.as_slice().len() == len);
-}
+/// A question for the addresses of example.com., and an answer whose owner is a pointer.
+const ONE_POINTER: &[u8] =
+    b"\x00\x00\x00\x00\x00\x01\x00\x01\x00\x00\x00\x00\x07example\x03com\x00\x00\x01\x00\x01\xC0\x0C\x00\x01\x00\x01\x00\x00\x0E\x10\x00\x04\xCB\x00\x71\x01";
 
 #[test]
 fn spells_a_name_once(rt: HostRuntime) {
     let name = Name::from_octets(*b"\x07example\x03com\x00").expect(&rt, "a name");
-    let calls = address_calls(rt.alloc(), name).expect(&rt, "memory");
+    let calls = [
+        Call::ToQuestion,
+        Call::PushQuestion((name, Rtype::A)),
+        Call::ToAnswer,
+        Call::PushRecord((name, 3600u32, A::from_octets(203, 0, 113, 1))),
+    ];
     let stage = compressed(rt.alloc(), &calls).expect(&rt, "memory");
-    assert_len(&rt, stage, 12 + 13 + 4 + 2 + 10 + 4);
+    assert_octets(&rt, "one pointer", stage.as_slice(), ONE_POINTER);
 }
 
 /// The message with one OPT record, which a closure gathers.
@@ -267,6 +259,10 @@ fn opt_message<F: FnOnce(&mut OptBuilder) -> Result<(), AppendError>>(
     Ok(builder.into_message())
 }
 
+/// An OPT record with a payload size of 1,232, rcode 23, DO, and option 3 without octets.
+const GATHERED: &[u8] =
+    b"\x00\x00\x00\x07\x00\x00\x00\x00\x00\x00\x00\x01\x00\x00\x29\x04\xD0\x01\x00\x80\x00\x00\x04\x00\x03\x00\x00";
+
 #[test]
 fn reads_what_was_gathered(rt: HostRuntime) {
     let rcode = OptRcode::checked_from_int(23).expect(&rt, "an rcode");
@@ -278,15 +274,5 @@ fn reads_what_was_gathered(rt: HostRuntime) {
     });
     let message = message.expect(&rt, "memory");
     assert_holds(&rt, "the rcode", message.opt_rcode() == rcode);
-    assert_gathered(&rt, &message);
-}
-
-/// Fails unless the message has an OPT record with these fields and one option.
-fn assert_gathered(rt: &impl Abort, message: &Message<Vec<u8>>) {
-    let opt = message.opt().expect(rt, "a record");
-    let is_gathered = opt.udp_payload_size() == 1232 && opt.version() == 0 && opt.dnssec_ok();
-    assert_holds(rt, "the fields", is_gathered);
-    let mut options = opt.opt().iter();
-    let is_one = options.next().is_some() && options.next().is_none();
-    assert_holds(rt, "one option", is_one);
+    assert_octets(&rt, "the record", message.as_slice(), GATHERED);
 }

@@ -41,12 +41,13 @@ fn data_of_line(alloc: Global, rtype: Rtype, line: &str) -> Result<OwnedFieldDat
 
 #[test]
 fn reads_a_line(rt: HostRuntime) {
-    let data = data_of_line(rt.alloc(), Rtype::MX, "10 b.a.example. ; the exchange");
-    let mut octets = Vec::new(rt.alloc());
+    let alloc = rt.alloc();
+    let data = data_of_line(alloc, Rtype::MX, "10 b.a.example. ; the exchange");
+    let mut octets = Vec::new(alloc);
     let data = data.expect(&rt, "MX data");
     data.compose_rdata(&mut octets).expect(&rt, "memory");
     let expected = b"\x00\x0A\x01b\x01a\x07example\x00";
     assert_octets(&rt, "the RDATA", &octets, expected);
-    let error = data_of_line(rt.alloc(), Rtype::MX, "ten b.a.example.").err();
+    let error = data_of_line(alloc, Rtype::MX, "ten b.a.example.").err();
     assert_holds(&rt, "a bad word", error == Some(TextError::BadWord));
 }

@@ -1,11 +1,22 @@
 //! Input that comes in parts or fails, and output that fails. The program `dnsmsg` then exits with
 //! status 3, and prints that it failed if it can.
 use crate::asserts::assert_holds;
-use crate::runs::{Run, prints, status_of};
+use dns_message::tool;
 use std::alloc::Global;
 use std::io;
 use std::io::{ErrorKind, Read, Write};
 use std::process::Abort;
+
+/// A run of `dnsmsg`: the arguments, separated by spaces, standard input, what is printed, and the
+/// exit status.
+#[derive(Clone, Copy)]
+struct Run<'a> {
+    name: &'a str,
+    words: &'a str,
+    input: &'a [u8],
+    printed: &'a str,
+    status: u8,
+}
 
 const BUILD: Run<'_> = Run {
     name: "a built message",
@@ -90,26 +101,41 @@ impl Write for Gap {
     }
 }
 
-/// Whether the run prints what it has to if its input is read octet by octet.
-fn is_read(rt: &impl Abort, alloc: Global, case: Run<'_>) -> bool {
-    let (octets, fails) = (case.input, false);
-    let cut = Cut { octets, fails };
-    let printed = case.printed.as_bytes();
-    prints(rt, alloc, case.words, cut, printed, case.status)
+/// Runs `dnsmsg` with the arguments of a run. Returns the exit status.
+fn status_of<R: Read + Drop, W: Write + Drop>(
+    rt: &impl Abort,
+    alloc: Global,
+    words: &str,
+    reader: R,
+    writer: W,
+) -> u8 {
+    let mut strings = Vec::new(alloc);
+    for word in words.split_whitespace() {
+        let word = String::from_str(alloc, word).expect(rt, "memory");
+        strings.push(word).expect(rt, "memory");
+    }
+    tool(alloc, &strings, reader, writer)
 }
 
-/// Whether the run fails if reading fails after these octets.
-fn fails_after(rt: &impl Abort, alloc: Global, case: Run<'_>, octets: &[u8]) -> bool {
-    let fails = true;
-    let cut = Cut { octets, fails };
-    prints(rt, alloc, case.words, cut, b"failed\n", 3)
+/// Whether the run prints what it has to if these octets are read one by one; or if reading fails
+/// after them, that it failed.
+fn is_read(rt: &impl Abort, alloc: Global, case: Run<'_>, octets: &[u8], fails: bool) -> bool {
+    let (printed, status) = if fails {
+        ("failed\n", 3)
+    } else {
+        (case.printed, case.status)
+    };
+    let mut output = Vec::new(alloc);
+    let ended = status_of(rt, alloc, case.words, Cut { octets, fails }, &mut output);
+    output.as_slice() == printed.as_bytes() && ended == status
 }
 
 /// Fails unless the run fails wherever reading fails.
 fn assert_cut_input(rt: &impl Abort, alloc: Global, case: Run<'_>) {
-    assert_holds(rt, case.name, is_read(rt, alloc, case));
+    let is_whole = is_read(rt, alloc, case, case.input, false);
+    assert_holds(rt, case.name, is_whole);
     for len in 0..=case.input.len() {
-        let is_cut = fails_after(rt, alloc, case, &case.input[..len]);
+        let is_cut = is_read(rt, alloc, case, &case.input[..len], true);
         assert!(rt; is_cut, "{}: cut after {len} octets", case.name);
     }
 }
@@ -117,8 +143,9 @@ fn assert_cut_input(rt: &impl Abort, alloc: Global, case: Run<'_>) {
 /// The input is read octet by octet. Reading may fail after each of them.
 #[test]
 fn fails_where_input_is_cut(rt: HostRuntime) {
-    assert_cut_input(&rt, rt.alloc(), BUILD);
-    assert_cut_input(&rt, rt.alloc(), SHOW);
+    let alloc = rt.alloc();
+    assert_cut_input(&rt, alloc, BUILD);
+    assert_cut_input(&rt, alloc, SHOW);
 }
 
 /// Whether the writer gets what is printed before the steps that fail, followed by `after`, and
@@ -166,8 +193,9 @@ fn assert_cut_output(rt: &impl Abort, alloc: Global, case: Run<'_>) {
 /// program prints `failed` if it can.
 #[test]
 fn fails_where_output_is_not_written(rt: HostRuntime) {
-    assert_cut_output(&rt, rt.alloc(), BUILD);
-    assert_cut_output(&rt, rt.alloc(), BAD_LINE);
-    assert_cut_output(&rt, rt.alloc(), SHOW);
-    assert_cut_output(&rt, rt.alloc(), USAGE);
+    let alloc = rt.alloc();
+    assert_cut_output(&rt, alloc, BUILD);
+    assert_cut_output(&rt, alloc, BAD_LINE);
+    assert_cut_output(&rt, alloc, SHOW);
+    assert_cut_output(&rt, alloc, USAGE);
 }

@@ -1,11 +1,11 @@
 //! Tests over `dns_message` alone: the examples of the pages and modules, input and output of the
-//! program `dnsmsg` that fail, lists of calls that end with the same octets, and calls that
-//! allocate. What `dnsmsg` prints is in the cases of `cases_runs`.
+//! program `dnsmsg` that fail, and calls that allocate. What `dnsmsg` prints, and lists of calls that
+//! end with the same octets, are in the cases of `cases_runs`.
 //!
 //! Nothing is exported. `callers`, `tour` and `typed` have proved callers, `ptr`, `fields`, `made`
-//! and `own` the examples of three modules. `input_output` tests `dnsmsg`, `script` lists of calls,
-//! `memory` calls that allocate, and `options` values that are printed. `asserts` and `runs` have
-//! what many tests use. The rows of a table have names, which failures print.
+//! and `own` the examples of three modules. `input_output` tests `dnsmsg`, `script` a list of calls,
+//! `memory` calls that allocate, and `options` values that are printed. `asserts` has what many
+//! tests use. The rows of a table have names, which failures print.
 #![tactic(auto)]
 
 #[cfg(test)]
@@ -26,8 +26,6 @@ mod options;
 mod own;
 #[cfg(test)]
 mod ptr;
-#[cfg(test)]
-mod runs;
 #[cfg(test)]
 mod script;
 #[cfg(test)]

@@ -7,9 +7,9 @@ ghost use Rattle.tests_message.specs.Hosts.{host_layout};
 ghost use Rattle.tests_message.specs.declared.own.TheConstants.{FIELDS};
 
 use crate::asserts::{assert_holds, assert_octets};
-use dns_message::builder::{AnswerBuilder, MessageBuilder};
+use dns_message::builder::MessageBuilder;
 use dns_message::code::Rtype;
-use dns_message::data::{ParseRecordData, UnknownRecordData};
+use dns_message::data::ParseRecordData;
 use dns_message::fields::{DataOf, Kind, RecordFields, Value};
 use dns_message::message::Message;
 use dns_message::name::Name;
@@ -68,13 +68,6 @@ fn greatest_weight<Octs: Octets>(message: &Message<Octs>) -> u64 {
     greatest
 }
 
-/// Three hosts and their weights.
-const HOSTS: &[&[u8]] = &[
-    b"\x00\x02\x01a\x00",
-    b"\x00\x05\x01b\x00",
-    b"\x00\x03\x01c\x00",
-];
-
 #[test]
 fn reads_its_own_type_alone(rt: HostRuntime) {
     let mut parser = Parser::new(b"\x00\x02\x01a\x00");
@@ -85,22 +78,14 @@ fn reads_its_own_type_alone(rt: HostRuntime) {
     assert_holds(&rt, "octets left over", parser.remaining() == 0);
 }
 
-/// Pushes a host with this RDATA.
-fn push_host(rt: &impl Abort, builder: &mut AnswerBuilder<Vec<u8>>, octets: &[u8]) {
-    let data = UnknownRecordData::from_octets(Rtype::from_int(65280), octets);
-    let data = data.expect(rt, "data");
-    let owner = Name::from_octets(*b"\x07example\x00").expect(rt, "a name");
-    builder.push((owner, 60u32, data)).expect(rt, "memory");
-}
+/// Three hosts of the root, with weights of 2, 5 and 3.
+const HOSTS: &[u8] =
+    b"\x00\x00\x00\x00\x00\x00\x00\x03\x00\x00\x00\x00\x00\xFF\x00\x00\x01\x00\x00\x00\x3C\x00\x05\x00\x02\x01a\x00\x00\xFF\x00\x00\x01\x00\x00\x00\x3C\x00\x05\x00\x05\x01b\x00\x00\xFF\x00\x00\x01\x00\x00\x00\x3C\x00\x05\x00\x03\x01c\x00";
 
 #[test]
 fn finds_the_greatest_weight(rt: HostRuntime) {
-    let builder = MessageBuilder::new_vec(rt.alloc()).expect(&rt, "memory");
-    let mut builder = builder.answer();
-    for octets in HOSTS {
-        push_host(&rt, &mut builder, octets);
-    }
-    let greatest = greatest_weight(&builder.into_message());
+    let message = Message::from_slice(HOSTS).expect(&rt, "a message");
+    let greatest = greatest_weight(&message);
     assert_holds(&rt, "the greatest weight", greatest == 5);
 }
 
@@ -124,15 +109,17 @@ fn doubled<Octs: Octets>(
     builder.into_message()
 }
 
+/// A host.
+const HOST: &[u8] =
+    b"\x00\x00\x00\x00\x00\x00\x00\x01\x00\x00\x00\x00\x07example\x00\xFF\x00\x00\x01\x00\x00\x00\x3C\x00\x05\x00\x02\x01a\x00";
+
 /// Two hosts with the same RDATA.
 const DOUBLED: &[u8] =
     b"\x00\x00\x00\x00\x00\x00\x00\x02\x00\x00\x00\x00\x07example\x00\xFF\x00\x00\x01\x00\x00\x00\x3C\x00\x05\x00\x02\x01a\x00\x05other\x00\xFF\x00\x00\x01\x00\x00\x0E\x10\x00\x05\x00\x02\x01a\x00";
 
 #[test]
 fn copies_hosts(rt: HostRuntime) {
-    let builder = MessageBuilder::new_vec(rt.alloc()).expect(&rt, "memory");
-    let mut builder = builder.answer();
-    push_host(&rt, &mut builder, b"\x00\x02\x01a\x00");
-    let doubled = doubled(&rt, rt.alloc(), &builder.into_message());
+    let message = Message::from_slice(HOST).expect(&rt, "a message");
+    let doubled = doubled(&rt, rt.alloc(), &message);
     assert_octets(&rt, "a host twice", doubled.as_slice(), DOUBLED);
 }

@@ -2,12 +2,12 @@
 ghost use Rattle.std.specs.Prelude.{[], ◌∷◌, refl};
 ghost use Rattle.dns_message.specs.Data.{CompressibleName, DomainName, End, only};
 
-use crate::asserts::assert_holds;
+use crate::asserts::{assert_holds, assert_octets};
 use dns_message::builder::MessageBuilder;
 use dns_message::code::Rtype;
 use dns_message::data::laws::{names_are_bounded, parts_compose};
 use dns_message::data::{ComposeRecordData, ParseRecordData, RecordData};
-use dns_message::message::RecordIter;
+use dns_message::message::{Message, RecordIter};
 use dns_message::name::{Name, ParsedName, ToName, ToNameExt};
 use dns_message::target::{Composer, TreeCompressor};
 use dns_message::wire::{AppendError, ParseError, Parser};
@@ -53,19 +53,32 @@ impl<'a> ParseRecordData<'a> for Ptr<ParsedName<'a>> {
     ghost laid_out = { λ _. refl };
 }
 
+/// A PTR record of example.com. that leads to itself, by a pointer.
+const ONE_POINTER: &[u8] =
+    b"\x00\x00\x00\x00\x00\x00\x00\x01\x00\x00\x00\x00\x07example\x03com\x00\x00\x0C\x00\x01\x00\x00\x00\x3C\x00\x02\xC0\x0C";
+
+/// The name example.com.
+fn example_com(rt: &impl Abort) -> Name<[u8; 13]> {
+    Name::from_octets(*b"\x07example\x03com\x00").expect(rt, "a name")
+}
+
 #[test]
-fn reads_its_own_data_back(rt: HostRuntime) {
-    let name = Name::from_octets(*b"\x07example\x03com\x00").expect(&rt, "a name");
-    let target = TreeCompressor::new(rt.alloc(), Vec::new(rt.alloc()));
+fn pushes_its_own_data(rt: HostRuntime) {
+    let alloc = rt.alloc();
+    let name = example_com(&rt);
+    let target = TreeCompressor::new(alloc, Vec::new(alloc));
     let builder = MessageBuilder::from_target(target).expect(&rt, "memory");
     let mut builder = builder.answer();
     let pushed = builder.push((name, 60u32, Ptr(name)));
     pushed.expect(&rt, "memory");
-    let message = builder.into_message();
-    let is_short = message.as_slice().len() == 12 + 13 + 10 + 2;
-    assert_holds(&rt, "one pointer", is_short);
+    assert_octets(&rt, "one pointer", builder.as_slice(), ONE_POINTER);
+}
+
+#[test]
+fn reads_its_own_data_back(rt: HostRuntime) {
+    let message = Message::from_slice(ONE_POINTER).expect(&rt, "a message");
     let answers = message.answer().expect(&rt, "answers");
-    assert_one_pointer(&rt, answers.limit_to(), &name);
+    assert_one_pointer(&rt, answers.limit_to(), &example_com(&rt));
 }
 
 /// Fails unless one PTR record remains, whose RDATA is this name.

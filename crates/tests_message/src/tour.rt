@@ -21,7 +21,7 @@ use arrayvec::ArrayVec;
 use dns_message::builder::{MessageBuilder, PushError};
 use dns_message::code::{Class, Rcode, Rtype};
 use dns_message::data::A;
-use dns_message::edit::{age_ttls, min_ttl};
+use dns_message::edit::age_ttls;
 use dns_message::message::Message;
 use dns_message::name::{Name, ParsedName, ToName, ToNameExt};
 use dns_message::question::Question;
@@ -66,16 +66,14 @@ fn address_query<N: ToName + Drop>(alloc: Global, name: N) -> Result<Message<Vec
     Ok(builder.into_message())
 }
 
+/// A query for the addresses of example.com.
+const QUERY: &[u8; 29] =
+    b"\x00\x00\x00\x00\x00\x01\x00\x00\x00\x00\x00\x00\x07example\x03com\x00\x00\x01\x00\x01";
+
 #[test]
 fn asks_for_an_address(rt: HostRuntime) {
     let query = address_query(rt.alloc(), example_com(&rt)).expect(&rt, "memory");
-    assert_holds(&rt, "the length", query.as_slice().len() == 29);
-    let mut questions = query.question();
-    let question = questions.next().expect(&rt, "a question");
-    let question = question.expect(&rt, "a question");
-    let is_it = begins_with(b"\x07EXAMPLE\x03com\x00", question.qname());
-    assert_holds(&rt, "the name", is_it);
-    assert_holds(&rt, "one question", questions.next().is_none());
+    assert_octets(&rt, "the query", query.as_slice(), QUERY);
 }
 
 /// The addresses in the answer section that can be read, in order. Returns `None` if the section
@@ -109,14 +107,14 @@ fn response<Octs: Octets, R: ComposeRecord + Drop>(
     Ok(response.into_message())
 }
 
+/// The response to the query, with an address and a TTL of an hour.
+const RESPONSE: &[u8; 45] =
+    b"\x00\x00\x80\x00\x00\x01\x00\x01\x00\x00\x00\x00\x07example\x03com\x00\x00\x01\x00\x01\xC0\x0C\x00\x01\x00\x01\x00\x00\x0E\x10\x00\x04\xC0\x00\x02\x01";
+
 #[test]
-fn answers_with_an_address(rt: HostRuntime) {
-    let name = example_com(&rt);
-    let query = address_query(rt.alloc(), name).expect(&rt, "memory");
-    let answer = (name, 3600u32, A::from_octets(192, 0, 2, 1));
-    let response = response(rt.alloc(), &query, answer).expect(&rt, "memory");
-    assert_holds(&rt, "the length", response.as_slice().len() == 29 + 16);
-    let found = addresses(rt.alloc(), &response).expect(&rt, "answers");
+fn finds_the_addresses(rt: HostRuntime) {
+    let message = Message::from_slice(RESPONSE).expect(&rt, "a message");
+    let found = addresses(rt.alloc(), &message).expect(&rt, "answers");
     let is_one = found.len() == 1 && found[0].octets() == [192, 0, 2, 1];
     assert_holds(&rt, "the address", is_one);
 }
@@ -132,14 +130,17 @@ fn after_seconds(mut response: Message<Vec<u8>>, age: u32) -> Option<Message<Vec
 }
 
 #[test]
-fn lowers_a_ttl(rt: HostRuntime) {
-    let name = example_com(&rt);
-    let query = address_query(rt.alloc(), name).expect(&rt, "memory");
-    let answer = (name, 3600u32, A::from_octets(192, 0, 2, 1));
+fn answers_and_lowers_the_ttl(rt: HostRuntime) {
+    let query = Message::from_slice(QUERY).expect(&rt, "a query");
+    let answer = (example_com(&rt), 3600u32, A::from_octets(192, 0, 2, 1));
     let response = response(rt.alloc(), &query, answer).expect(&rt, "memory");
+    assert_octets(&rt, "the response", response.as_slice(), RESPONSE);
     let later = after_seconds(response, 600).expect(&rt, "a message that is accepted");
-    let is_lower = min_ttl(&later) == Ok(Some(Ttl::from_secs(3000)));
-    assert_holds(&rt, "the TTL", is_lower);
+    // 3,000 is 0x0BB8.
+    let mut expected = *RESPONSE;
+    expected[37] = 0x0B;
+    expected[38] = 0xB8;
+    assert_octets(&rt, "the TTL", later.as_slice(), &expected);
 }
 
 /// The query for the records of a name and a type, in a buffer of 512 octets. Nothing is allocated.
@@ -159,8 +160,9 @@ fn query_in_buffer<N: ToName + Drop>(
 #[test]
 fn asks_in_a_buffer(rt: HostRuntime) {
     let query = query_in_buffer(example_com(&rt), Rtype::NS).expect(&rt, "a capacity");
-    assert_holds(&rt, "the length", query.as_slice().len() == 29);
-    assert_holds(&rt, "the type", query.qtype() == Some(Rtype::NS));
+    let mut expected = *QUERY;
+    expected[26] = 2;
+    assert_octets(&rt, "the query", query.as_slice(), &expected);
 }
 
 /// The line of an address record of class IN with a TTL of an hour.
@@ -174,8 +176,9 @@ fn address_line(alloc: Global, owner: Name<Vec<u8>>, address: A) -> Result<Strin
 
 #[test]
 fn prints_a_record(rt: HostRuntime) {
-    let owner = Name::vec_from_str(rt.alloc(), "example.com").expect(&rt, "a name");
-    let line = address_line(rt.alloc(), owner, A::from_octets(192, 0, 2, 1));
+    let alloc = rt.alloc();
+    let owner = Name::vec_from_str(alloc, "example.com").expect(&rt, "a name");
+    let line = address_line(alloc, owner, A::from_octets(192, 0, 2, 1));
     let line = line.expect(&rt, "memory");
     let expected = b"example.com. 3600 IN A 192.0.2.1";
     assert_octets(&rt, "the line", line.as_bytes(), expected);
@@ -222,9 +225,10 @@ fn rcode_name(rcode: Rcode) -> &'static str
 
 #[test]
 fn names_questions_and_codes(rt: HostRuntime) {
-    let question = Question::new(Name::root_slice(), Rtype::AAAA, Class::IN);
+    let root = Name::root_slice();
+    let question = Question::new(root, Rtype::AAAA, Class::IN);
     assert_holds(&rt, "type AAAA", asks_for_addresses(&question));
-    let question = Question::new(Name::root_slice(), Rtype::A, Class::CH);
+    let question = Question::new(root, Rtype::A, Class::CH);
     assert_holds(&rt, "class CH", !asks_for_addresses(&question));
     let name = rcode_name(Rcode::NXDOMAIN);
     assert_holds(&rt, "a registered rcode", name == "NXDomain");

@@ -120,17 +120,17 @@ fn assert_reported(rt: &impl Abort, alloc: Global, address: A) {
 
 #[test]
 fn reads_back_by_types(rt: HostRuntime) {
+    let alloc = rt.alloc();
     let address = A::from_octets(192, 0, 2, 1);
-    assert_reported(&rt, rt.alloc(), address);
-    let owner = Name::vec_from_str(rt.alloc(), "a.").expect(&rt, "a name");
-    let read = address_reported(rt.alloc(), owner, address).expect(&rt, "memory");
+    assert_reported(&rt, alloc, address);
+    let owner = Name::vec_from_str(alloc, "a.").expect(&rt, "a name");
+    let read = address_reported(alloc, owner, address).expect(&rt, "memory");
     assert_octets(&rt, "the first address", &read.octets(), &[192, 0, 2, 1]);
 }
 
 #[test]
 fn leaves_nothing(rt: HostRuntime) {
-    let owner = Name::vec_from_str(rt.alloc(), "a.").expect(&rt, "a name");
-    let pushed = (owner, Ttl::from_secs(60), A::from_octets(192, 0, 2, 1));
+    let pushed = (Name::root_slice(), 60u32, A::from_octets(192, 0, 2, 1));
     let builder = MessageBuilder::new_vec(rt.alloc()).expect(&rt, "memory");
     let mut builder = builder.answer();
     push_in_vain(&mut builder, pushed).expect(&rt, "memory");

@@ -26,7 +26,6 @@ use crate::hostile::messages::{
 };
 use crate::hostile::plain::Plain;
 use crate::hostile::plain_lines::lines_of;
-use crate::hostile::plain_searches::line_count;
 use crate::hostile::searches::{
     assert_copies, assert_distinguished, assert_question_searches, assert_record_searches,
 };
@@ -64,15 +63,8 @@ fn assert_shows(rt: &impl Abort, alloc: Global, row: &str, plain: &Plain<'_>) {
         &mut output,
     );
     let text = str::from_utf8(&output).expect(rt, row);
-    let lines = text.lines().count();
-    assert_same(
-        rt,
-        row,
-        "status and lines",
-        (status, lines),
-        (0, line_count(plain)),
-    );
-    let expected = lines_of(rt, alloc, plain);
+    let expected = lines_of(alloc, plain);
+    assert_same(rt, row, "status", status, 0);
     assert_same(rt, row, "text", text, expected.as_str());
 }
 
@@ -119,15 +111,16 @@ fn reads_a_name_in_data_with_replaced_octets(rt: HostRuntime) {
 /// Without a header section there is no message.
 #[test]
 fn reads_messages_that_are_cut(rt: HostRuntime) {
+    let alloc = rt.alloc();
     for len in 0..=45 {
-        let row = format!(in rt.alloc(); "cut after {len} octets");
+        let row = format!(in alloc; "cut after {len} octets");
         let row = row.expect(&rt, "memory");
         let octets = &POSITIVE_RESPONSE[..len];
         if len < 12 {
             let is_short = Message::from_octets(octets).is_err();
             assert_same(&rt, &row, "no message", is_short, true);
         } else {
-            assert_all(&rt, rt.alloc(), &row, octets);
+            assert_all(&rt, alloc, &row, octets);
         }
     }
 }
@@ -135,10 +128,11 @@ fn reads_messages_that_are_cut(rt: HostRuntime) {
 /// Longest name, One octet too long: names of at most 255 octets, and of more.
 #[test]
 fn reads_long_questions(rt: HostRuntime) {
+    let alloc = rt.alloc();
     for last in 59..=63 {
-        let row = format!(in rt.alloc(); "a last label of {last} octets");
+        let row = format!(in alloc; "a last label of {last} octets");
         let row = row.expect(&rt, "memory");
-        assert_all(&rt, rt.alloc(), &row, &long_question(last));
+        assert_all(&rt, alloc, &row, &long_question(last));
     }
 }
 
@@ -151,9 +145,10 @@ fn reads_messages_at_the_bounds(rt: HostRuntime) {
 
 #[test]
 fn reads_messages_drawn_at_random(rt: HostRuntime) {
+    let alloc = rt.alloc();
     for seed in 1..=64 {
-        let row = format!(in rt.alloc(); "random message {seed}");
+        let row = format!(in alloc; "random message {seed}");
         let row = row.expect(&rt, "memory");
-        assert_all(&rt, rt.alloc(), &row, random_message(seed).as_slice());
+        assert_all(&rt, alloc, &row, random_message(seed).as_slice());
     }
 }

@@ -1,6 +1,6 @@
-//! Tests of reading messages: sections, cursors, iterators and searches. The expected values come
-//! from outside this library. Canonical names, sole questions, answers to queries, OPT records and
-//! changed TTLs are in the cases of `cases_runs`.
+//! Tests of reading messages: headers, octets, clones, loops, and untrusted input. The expected
+//! values come from outside this library. What sections and searches yield, and changed TTLs, are in
+//! the cases of `cases_runs`.
 //!
 //! Nothing is exported. A module tests what it is named after, and `hostile` untrusted input beside
 //! a plain reader; `asserts` has what many of the others use, and `callers` proved callers. The
@@ -14,16 +14,8 @@ mod callers;
 #[cfg(test)]
 mod hostile;
 #[cfg(test)]
-mod largest;
+mod iterators;
 #[cfg(test)]
 mod messages;
-#[cfg(test)]
-mod questions;
-#[cfg(test)]
-mod record_iter;
-#[cfg(test)]
-mod records;
-#[cfg(test)]
-mod searches;
 #[cfg(test)]
 mod ttls;

@@ -1,16 +1,13 @@
-//! Proved callers that change TTLs in place, and the texts of errors. Messages are in the cases of
-//! `cases_runs`.
+//! Proved callers that change TTLs in place. Messages are in the cases of `cases_runs`.
 ghost use Rattle.std.specs.Prelude.{◌↔◌, IsTrue, OnOk};
 ghost use Rattle.dns_read.specs.Message.{message_octets};
 ghost use Rattle.dns_edit.specs.Acceptance.{AcceptsTtls};
 ghost use Rattle.dns_edit.specs.Fields.{NamesAreFields};
 ghost use Rattle.tests_read.specs.Ttls.{KeepsNames, KeepsData};
 
-use crate::asserts::assert_octets;
 use dns_edit::laws::{names_are_fields, names_read_alike, never_both, rdata_reads_alike};
 use dns_edit::{EditError, age_ttls};
 use dns_read::Message;
-use dns_wire::ParseError;
 
 /// Lowers the TTLs of a response. Returns whether they can be changed in place.
 fn lowers_ttls(response: &mut Message<Vec<u8>>, age: u32) -> bool
@@ -43,13 +40,4 @@ fn knows_the_names()
     ensures { NamesAreFields }
 {
     names_are_fields();
-}
-
-const CUT: EditError = EditError::Parse(ParseError::ShortInput);
-
-#[test]
-fn errors_have_texts(rt: HostRuntime) {
-    let text = format!(in rt.alloc(); "{}; {CUT}", EditError::Pointer).expect(&rt, "memory");
-    let expected = b"pointer to no earlier label; unexpected end of input";
-    assert_octets(&rt, "texts", text.as_bytes(), expected);
 }

@@ -100,6 +100,19 @@ pub(crate) fn assert_data<D: ComposeRecordData>(
     assert_octets(rt, row, target.as_slice(), expected);
 }
 
+/// Fails unless the canonical form of the RDATA has these octets.
+pub(crate) fn assert_canonical_data<D: ComposeRecordData>(
+    rt: &impl Abort,
+    row: &str,
+    data: &D,
+    expected: &[u8],
+) {
+    let mut target = ArrayVec::<u8, 64>::new();
+    let composed = data.compose_canonical_rdata(&mut target);
+    assert_holds(rt, row, composed.is_ok());
+    assert_octets(rt, row, target.as_slice(), expected);
+}
+
 /// Fails unless the value is printed as `text`.
 pub(crate) fn assert_prints<T: Display>(
     rt: &impl Abort,

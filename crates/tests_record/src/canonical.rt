@@ -27,7 +27,7 @@ fn assert_canonical<T: Composer>(rt: &impl Abort, row: &str, mut target: T) {
     );
 }
 
-/// Canonical record: in lower case and without a pointer, on each target that doesn't compress.
+/// Canonical record: in lower case and without a pointer, on each target.
 #[test]
 fn composes_a_canonical_record(rt: HostRuntime) {
     let alloc = rt.alloc();
@@ -35,22 +35,10 @@ fn composes_a_canonical_record(rt: HostRuntime) {
     assert_canonical(&rt, "an array vector", ArrayVec::<u8, 39>::new());
     let target = StreamTarget::new_vec(alloc).expect(&rt, "memory");
     assert_canonical(&rt, "a stream target", target);
-}
-
-/// Canonical record: in lower case and without a pointer, on a static and a tree compressor.
-#[test]
-fn composes_a_canonical_record_on_compressors(rt: HostRuntime) {
-    let alloc = rt.alloc();
     let target = StaticCompressor::new(Vec::new(alloc));
     assert_canonical(&rt, "a static compressor", target);
     let target = TreeCompressor::new(alloc, Vec::new(alloc));
     assert_canonical(&rt, "a tree compressor", target);
-}
-
-/// Canonical record: in lower case and without a pointer, on compressors with hashes.
-#[test]
-fn composes_a_canonical_record_on_compressors_with_hashes(rt: HostRuntime) {
-    let alloc = rt.alloc();
     let target = HashCompressor::new(alloc, Vec::new(alloc));
     assert_canonical(&rt, "a hash compressor", target);
     let target = FingerprintCompressor::new(alloc, Vec::new(alloc));

@@ -75,22 +75,10 @@ fn converts_addresses(rt: HostRuntime) {
     assert_octets(&rt, "address", &address.octets(), &[1, 2, 3, 4]);
 }
 
-/// A zone that was converted.
-fn zone(rt: &impl Abort, alloc: Global) -> Soa<VecName> {
-    let source = Soa::new(name_of(rt, EXAMPLE_COM), Name::root_slice(), 1, 2, 3, 4, 5);
-    converted(rt, alloc, source)
-}
-
-#[test]
-fn converts_the_names_of_a_zone(rt: HostRuntime) {
-    let zone = zone(&rt, rt.alloc());
-    assert_octets(&rt, "first name", zone.mname().as_slice(), EXAMPLE_COM);
-    assert_octets(&rt, "second name", zone.rname().as_slice(), b"\x00");
-}
-
-#[test]
-fn converts_the_numbers_of_a_zone(rt: HostRuntime) {
-    let zone = zone(&rt, rt.alloc());
+/// Fails unless the zone has these names and numbers.
+fn assert_zone(rt: &impl Abort, zone: &Soa<VecName>) {
+    assert_octets(rt, "first name", zone.mname().as_slice(), EXAMPLE_COM);
+    assert_octets(rt, "second name", zone.rname().as_slice(), b"\x00");
     let numbers = [
         zone.serial(),
         zone.refresh(),
@@ -98,7 +86,14 @@ fn converts_the_numbers_of_a_zone(rt: HostRuntime) {
         zone.expire(),
         zone.minimum(),
     ];
-    assert_numbers(&rt, "numbers", &numbers, &[1, 2, 3, 4, 5]);
+    assert_numbers(rt, "numbers", &numbers, &[1, 2, 3, 4, 5]);
+}
+
+#[test]
+fn converts_a_zone(rt: HostRuntime) {
+    let source = Soa::new(name_of(&rt, EXAMPLE_COM), Name::root_slice(), 1, 2, 3, 4, 5);
+    let zone: Soa<VecName> = converted(&rt, rt.alloc(), source);
+    assert_zone(&rt, &zone);
 }
 
 #[test]

@@ -18,17 +18,12 @@ fn takes<'a, D: ParseRecordData<'a> + Drop>(
 }
 
 #[test]
-fn takes_its_own_type_alone(rt: HostRuntime) {
+fn takes_whole_data_of_its_own_type(rt: HostRuntime) {
     let octets = [0; 24];
     let taken = takes::<A>(Rtype::A, &octets) == Ok(true);
     assert_holds(&rt, "an address", taken);
     let taken = takes::<Cname<ParsedName<'_>>>(Rtype::NS, &octets) == Ok(false);
     assert_holds(&rt, "a server as an alias", taken);
-}
-
-#[test]
-fn refuses_a_cut_zone_and_takes_opaque_data(rt: HostRuntime) {
-    let octets = [0; 24];
     let short = Err(ParseError::ShortInput);
     let taken = takes::<Soa<ParsedName<'_>>>(Rtype::SOA, &octets[..21]) == short;
     assert_holds(&rt, "a zone that is cut", taken);
@@ -84,11 +79,6 @@ fn prints_errors(rt: HostRuntime) {
     assert_prints(&rt, alloc, "RDATA", &data, "record data too long");
     let memory = TextError::OutOfMemory;
     assert_prints(&rt, alloc, "a text", &memory, "out of memory");
-}
-
-#[test]
-fn prints_errors_of_buffers_and_options(rt: HostRuntime) {
-    let alloc = rt.alloc();
     let short = ReadingError::from(ShortBuf);
     assert_prints(&rt, alloc, "a buffer", &short, "unexpected end of buffer");
     assert_prints(

@@ -61,7 +61,7 @@ const MESSAGE: &[u8; 52] =
     b"\x00\x00\x00\x00\x00\x00\x00\x01\x00\x00\x00\x00\x04host\x07example\x00\x00\x0D\x00\x01\x00\x00\x0E\x10\x00\x10\x08DEC-2060\x06TOPS20";
 
 #[test]
-fn composes_its_strings(rt: HostRuntime) {
+fn composes_its_strings_and_reads_them_back(rt: HostRuntime) {
     let hinfo = Hinfo {
         cpu: string(&rt, b"\x08DEC-2060"),
         os: string(&rt, b"\x06TOPS20"),
@@ -69,10 +69,6 @@ fn composes_its_strings(rt: HostRuntime) {
     let owner = name_of(&rt, b"\x04host\x07example\x00");
     let record = Record::new(owner, Class::IN, Ttl::HOUR, hinfo);
     assert_answer(&rt, rt.alloc(), "an answer", record, MESSAGE);
-}
-
-#[test]
-fn reads_its_own_data_back(rt: HostRuntime) {
     let message = message_of(&rt, MESSAGE);
     let hinfo: Hinfo<'_> = first_data(&rt, &message);
     assert_octets(&rt, "hardware", hinfo.cpu.as_slice(), b"\x08DEC-2060");

@@ -4,9 +4,10 @@ ghost use Rattle.std.proofs.Common.{rules};
 ghost use Rattle.std.specs.Int.{to_be_bytes, w16};
 ghost use Rattle.dns_message.specs.Data.{Octets, UncompressedName, Fixed, UncompressedDomainName, End, only};
 
-use crate::asserts::{assert_answer, assert_holds, assert_octets, first_data, message_of, name_of};
+use crate::asserts::{
+    assert_answer, assert_canonical_data, assert_holds, first_data, message_of, name_of,
+};
 use crate::fields::{compose_fields, number_of};
-use arrayvec::ArrayVec;
 use dns_message::code::{Class, Rtype};
 use dns_message::data::laws::names_are_bounded;
 use dns_message::data::{ComposeRecordData, ParseRecordData, RecordData};
@@ -76,12 +77,15 @@ impl<'a> ParseRecordData<'a> for Lp<ParsedName<'a>> {
 const MESSAGE: &[u8; 46] =
     b"\x00\x00\x00\x00\x00\x00\x00\x01\x00\x00\x00\x00\x07Example\x00\x00\x6B\x00\x01\x00\x00\x0E\x10\x00\x0F\x00\x0A\x03L64\x07Example\x00";
 
+/// Its name is never compressed, and keeps its letter case in canonical form.
 #[test]
-fn never_compresses_its_name(rt: HostRuntime) {
+fn composes_its_name_as_it_is(rt: HostRuntime) {
     let lp = Lp {
         preference: 10,
         fqdn: name_of(&rt, b"\x03L64\x07Example\x00"),
     };
+    let canonical = b"\x00\x0A\x03L64\x07Example\x00";
+    assert_canonical_data(&rt, "canonical form", &lp, canonical);
     let owner = name_of(&rt, b"\x07Example\x00");
     let record = Record::new(owner, Class::IN, Ttl::HOUR, lp);
     assert_answer(&rt, rt.alloc(), "an answer", record, MESSAGE);
@@ -105,17 +109,4 @@ fn refuses_a_pointer(rt: HostRuntime) {
     let error = Lp::parse_rdata(Rtype::from_int(107), &mut parser).err();
     let is_form = error == Some(ParseError::Form(FormError::BAD_POINTER));
     assert_holds(&rt, "a pointer", is_form);
-}
-
-#[test]
-fn keeps_its_case_in_canonical_form(rt: HostRuntime) {
-    let lp = Lp {
-        preference: 10,
-        fqdn: name_of(&rt, b"\x03L64\x07Example\x00"),
-    };
-    let mut target = ArrayVec::<u8, 64>::new();
-    let composed = lp.compose_canonical_rdata(&mut target);
-    assert_holds(&rt, "composed", composed.is_ok());
-    let canonical = b"\x00\x0A\x03L64\x07Example\x00";
-    assert_octets(&rt, "canonical form", target.as_slice(), canonical);
 }

@@ -41,10 +41,7 @@ fn many_parameters(rt: HostRuntime) {
 
 /// These words, and `MANY` times another one.
 fn many<'a>(rt: &impl Abort, alloc: Global, first: &[&'a str], word: &'a str) -> Vec<&'a str> {
-    let mut words = Vec::new(alloc);
-    for own in first {
-        words.push(*own).expect(rt, "there is memory");
-    }
+    let mut words = Vec::from_slice(alloc, first).expect(rt, "there is memory");
     for _ in 0..MANY {
         words.push(word).expect(rt, "there is memory");
     }

@@ -8,6 +8,8 @@ use dns_message::fields::{
 };
 use dns_message::make::{aaaa, caa, ds, https, mx, srv, text, txt};
 use dns_wire::{Name, ToName};
+use fields_print::SmallTypeMap;
+use fields_text::Tag;
 use std::alloc::Global;
 use std::process::Abort;
 
@@ -210,18 +212,33 @@ fn prints_errors(rt: HostRuntime) {
     assert_prints(&rt, alloc, "memory", &memory, "out of memory");
 }
 
+/// RFC 4034 section 4.3: A, MX, RRSIG, NSEC and TYPE1234, of which the first block has four.
+const TYPES: &[u8] =
+    b"\x00\x06\x40\x01\x00\x00\x00\x03\x04\x1b\x00\x00\x00\x00\x00\x00\x00\x00\x00\x00\x00\x00\x00\x00\x00\x00\x00\x00\x00\x00\x00\x00\x00\x00\x00\x00\x20";
+
 #[test]
 fn finds_types(rt: HostRuntime) {
-    // RFC 4034 section 4.3: A, MX, RRSIG, NSEC and TYPE1234, and the first block alone
-    let octets =
-        b"\x00\x06\x40\x01\x00\x00\x00\x03\x04\x1b\x00\x00\x00\x00\x00\x00\x00\x00\x00\x00\x00\x00\x00\x00\x00\x00\x00\x00\x00\x00\x00\x00\x00\x00\x00\x00\x20";
-    let map = TypeMap(octets);
+    let map = TypeMap(TYPES);
     let mut sum: u32 = 0;
     for rtype in map.types() {
         sum = sum.wrapping_add(u32::from(rtype.to_int()));
     }
     assert_eq!(rt; sum, 1 + 15 + 46 + 47 + 1234);
     assert!(rt; map.contains(Rtype::from_int(1234)) && !map.contains(Rtype::NS));
-    let cut = TypeMap(&octets[..9]);
+    let cut = TypeMap(TYPES.get(..9).unwrap_or(TYPES));
     assert!(rt; cut.contains(Rtype::NSEC) && !cut.contains(Rtype::from_int(1234)));
+}
+
+/// The types of maps are printed each after a space, and tags as they are.
+#[test]
+fn prints_types_and_tags(rt: HostRuntime) {
+    let alloc = rt.alloc();
+    let text = " A MX RRSIG NSEC TYPE1234";
+    assert_prints(&rt, alloc, "types", &TypeMap(TYPES), text);
+    // RFC 2535 section 5.2
+    let map = SmallTypeMap::from_octets(b"\x40\x01").expect(&rt, "a map");
+    assert_prints(&rt, alloc, "a small map", &map, " A MX");
+    // RFC 8659 section 4
+    let tag = Tag::from_octets(b"issue").expect(&rt, "a tag");
+    assert_prints(&rt, alloc, "a tag", &tag, "issue");
 }

@@ -1,7 +1,5 @@
 //! Assertions, and values that many tests use. The `row` of an assertion is the name of a row of a
 //! table, or says what a test compares.
-ghost use Rattle.std.specs.Prelude.{◌≡◌};
-
 use dns_wire::{Name, ParsedName, Parser};
 use std::alloc::Global;
 use std::fmt::{Debug, Display};
@@ -50,11 +48,4 @@ pub(crate) fn parser_at<'a>(rt: &impl Abort, message: &'a [u8], offset: usize) -
     let mut parser = Parser::new(message);
     parser.seek(offset).expect(rt, "an offset in a message");
     parser
-}
-
-/// The octets in a `Vec`.
-pub(crate) fn in_memory(rt: &impl Abort, alloc: Global, octets: &[u8]) -> Vec<u8>
-    ensures { result.items ≡ octets.now }
-{
-    Vec::from_slice(alloc, octets).expect(rt, "memory")
 }

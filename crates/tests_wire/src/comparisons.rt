@@ -1,6 +1,6 @@
 //! Comparisons and hashes of labels and names.
 use crate::asserts::{assert_same, name_at, name_of};
-use dns_wire::{Label, Name, ParsedName, Parser, ToName, ToNameExt};
+use dns_wire::{Label, ParsedName, Parser, ToName, ToNameExt};
 use std::cmp::Ordering;
 use std::hash::{DefaultHasher, Hash, Hasher};
 use std::process::Abort;
@@ -36,25 +36,16 @@ fn next_name(rt: &impl Abort, parser: &mut Parser<'static>) -> ParsedName<'stati
     ParsedName::parse(parser).expect(rt, "a name of the RFC")
 }
 
-/// Fails unless a name is less than the one after it.
-fn assert_less(rt: &impl Abort, row: &str, before: ParsedName<'_>, name: ParsedName<'_>) {
-    let orders = [
-        before.name_cmp(&name),
-        compare(&before, &name),
-        name.name_cmp(&before),
-    ];
-    let expected = [Ordering::Less, Ordering::Less, Ordering::Greater];
-    assert_same(rt, row, orders, expected);
-    assert_same(rt, row, before < name, true);
-}
-
 #[test]
 fn orders_names_from_the_root(rt: HostRuntime) {
     let mut parser = Parser::new(CANONICAL_ORDER);
     let mut before = next_name(&rt, &mut parser);
     for row in PRINTED {
         let name = next_name(&rt, &mut parser);
-        assert_less(&rt, row, before, name);
+        let orders = [before.name_cmp(&name), compare(&before, &name)];
+        assert_same(&rt, row, orders, [Ordering::Less; 2]);
+        let orders = (name.name_cmp(&before), before < name);
+        assert_same(&rt, row, orders, (Ordering::Greater, true));
         before = name;
     }
     assert_same(&rt, "octets left over", parser.remaining(), 0);
@@ -102,36 +93,21 @@ const CASES: &[Case] = &[
     },
 ];
 
-/// Fails unless the names are equal as the case says.
-fn assert_equality(rt: &impl Abort, case: &Case, name: ParsedName<'_>, other: ParsedName<'_>) {
-    let equal = [
-        name.octets_eq(&other),
-        name.name_eq(&other),
-        name == other,
-        hash_of(&name) == hash_of(&other),
-    ];
-    let expected = [case.is_same, case.is_equal, case.is_equal, case.is_equal];
-    assert_same(rt, case.name, equal, expected);
-}
-
-/// Fails unless the names compare as the case says.
-fn assert_orders(rt: &impl Abort, case: &Case, name: ParsedName<'_>, other: ParsedName<'_>) {
-    let orders = [
-        name.name_cmp(&other),
-        compare(&name, &other),
-        name.lowercase_composed_cmp(&other),
-    ];
-    let expected = [case.by_labels, case.by_labels, case.by_octets];
-    assert_same(rt, case.name, orders, expected);
-}
-
 #[test]
 fn ignores_letter_case_but_for_octets_eq(rt: HostRuntime) {
     let name = name_at(&rt, NAMES, 0);
     for case in CASES {
         let other = name_at(&rt, NAMES, case.offset);
-        assert_equality(&rt, case, name, other);
-        assert_orders(&rt, case, name, other);
+        let is_same = name.octets_eq(&other);
+        assert_same(&rt, case.name, is_same, case.is_same);
+        let equal = [
+            name.name_eq(&other),
+            name == other,
+            hash_of(&name) == hash_of(&other),
+        ];
+        assert_same(&rt, case.name, equal, [case.is_equal; 3]);
+        let orders = (name.name_cmp(&other), name.lowercase_composed_cmp(&other));
+        assert_same(&rt, case.name, orders, (case.by_labels, case.by_octets));
     }
 }
 
@@ -194,55 +170,33 @@ const BASES: &[Base] = &[
     },
 ];
 
-/// Fails unless www.dE., which a pointer leads to, starts and ends with the base as the case says.
-fn assert_base(rt: &impl Abort, case: &Base, pointer: &ParsedName<'_>) {
-    let base = name_of(rt, case.octets);
-    assert_same(rt, case.name, pointer.starts_with(&base), case.starts);
-    assert_same(rt, case.name, pointer.ends_with(&base), case.ends);
-}
-
-/// Fails unless www.dE., in octets of its own, starts and ends with the base as the case says.
-fn assert_base_of_own_octets(rt: &impl Abort, case: &Base, own: &Name<&[u8]>) {
-    let base = name_of(rt, case.octets);
-    assert_same(rt, case.name, own.starts_with(&&base), case.starts);
-    let ends = own.ends_with(&base.as_parsed());
-    assert_same(rt, case.name, ends, case.ends);
-}
-
+/// www.dE., which a pointer leads to, and in octets of its own.
 #[test]
 fn starts_and_ends_by_whole_labels(rt: HostRuntime) {
     let pointer = name_at(&rt, NAMES, 8);
     let own = name_of(&rt, b"\x03www\x02dE\x00");
     for case in BASES {
-        assert_base(&rt, case, &pointer);
-        assert_base_of_own_octets(&rt, case, &own);
+        let base = name_of(&rt, case.octets);
+        let starts = [pointer.starts_with(&base), own.starts_with(&&base)];
+        assert_same(&rt, case.name, starts, [case.starts; 2]);
+        let ends = [pointer.ends_with(&base), own.ends_with(&base.as_parsed())];
+        assert_same(&rt, case.name, ends, [case.ends; 2]);
     }
 }
 
-/// The name in an array of octets.
-fn held_name(rt: &impl Abort, octets: [u8; 3]) -> Name<[u8; 3]> {
-    Name::from_octets(octets).expect(rt, "a name")
-}
-
 #[test]
-fn compares_across_buffers(rt: HostRuntime) {
-    let name = held_name(&rt, *b"\x01A\x00");
-    let other = name_of(&rt, b"\x01b\x00");
-    assert_same(&rt, "equality", name.name_eq(&other), false);
-    let order = name.name_cmp(&other);
-    assert_same(&rt, "order", order, Ordering::Less);
-}
-
-#[test]
-fn compares_and_hashes_names_in_arrays(rt: HostRuntime) {
-    let name = held_name(&rt, *b"\x01A\x00");
-    let same = held_name(&rt, *b"\x01a\x00");
-    let answers = [name == same, name <= same];
-    assert_same(&rt, "equality", answers, [true; 2]);
-    let order = name.partial_cmp(&same);
-    assert_same(&rt, "order", order, Some(Ordering::Equal));
-    let hashes = [hash_of(&same), hash_of(&name.as_parsed())];
-    assert_same(&rt, "hashes", hashes, [hash_of(&name); 2]);
+fn compares_names_of_their_own_octets(rt: HostRuntime) {
+    let name = name_of(&rt, b"\x01A\x00");
+    let same = name_of(&rt, b"\x01a\x00");
+    let answers = [
+        name == same,
+        name <= same,
+        hash_of(&name) == hash_of(&same),
+        name.name_eq(&same.as_parsed()),
+    ];
+    assert_same(&rt, "equality", answers, [true; 4]);
+    let orders = [Some(compare(&name, &same)), name.partial_cmp(&same)];
+    assert_same(&rt, "order", orders, [Some(Ordering::Equal); 2]);
 }
 
 /// The first label of the name in these octets.
@@ -251,14 +205,17 @@ fn first_label<'a>(rt: &impl Abort, octets: &'a [u8]) -> Label<'a> {
     labels.next().expect(rt, "a label")
 }
 
+/// In ASCII, the bracket is between the upper-case and the lower-case letters.
 #[test]
 fn compares_labels_lowercased(rt: HostRuntime) {
     let label = first_label(&rt, b"\x02aB\x00");
     let same = first_label(&rt, b"\x02Ab\x00");
-    let equal = [label == same, hash_of(&label) == hash_of(&same)];
-    assert_same(&rt, "equality", equal, [true; 2]);
-    assert_same(&rt, "order", compare(&label, &same), Ordering::Equal);
-    // In ASCII, the bracket is between the upper-case and the lower-case letters.
     let bracket = first_label(&rt, b"\x02a[\x00");
-    assert_same(&rt, "a bracket", bracket < label, true);
+    let answers = [
+        label == same,
+        hash_of(&label) == hash_of(&same),
+        bracket < label,
+    ];
+    assert_same(&rt, "equality, and a bracket", answers, [true; 3]);
+    assert_same(&rt, "order", compare(&label, &same), Ordering::Equal);
 }

@@ -92,22 +92,23 @@ fn plain_octets(rt: &impl Abort, alloc: Global, rule: PlainRule, names: &[&[u8]]
     plain.octets
 }
 
-/// Fails unless the names take `len` octets on an empty target, and are these octets.
+/// Fails unless the names take `len` octets on an empty target, and are the plain encoding.
 fn assert_written<T: Composer>(
     rt: &impl Abort,
-    row: &str,
+    alloc: Global,
+    rule: PlainRule,
     mut target: T,
     names: &[&[u8]],
-    octets: &[u8],
     len: Option<usize>,
 ) {
     for name in names {
-        let answer = append_name(rt, &mut target, name);
-        assert_same(rt, row, answer, Ok(()));
+        append_name(rt, &mut target, name).expect(rt, "memory");
     }
-    let written = (names, Some(target.as_slice().len()));
-    assert_same(rt, row, written, (names, len));
-    assert_octets(rt, row, target.as_slice(), octets);
+    let octets = target.as_slice();
+    let written = (names, Some(octets.len()));
+    assert_same(rt, "the shortest compression", written, (names, len));
+    let plain = plain_octets(rt, alloc, rule, names);
+    assert_octets(rt, "the plain encoding", octets, &plain);
 }
 
 /// Checks that each compressor writes the names in as many octets as their shortest compression
@@ -120,40 +121,36 @@ fn assert_shortest(rt: &impl Abort, alloc: Global, names: &[&[u8]]) -> usize {
 
 /// Fails unless the names take `len` octets on each compressor, and are the plain encoding.
 fn assert_len(rt: &impl Abort, alloc: Global, names: &[&[u8]], len: Option<usize>) {
-    let octets = plain_octets(rt, alloc, PlainRule::Static, names);
     let offsets = StaticCompressor::new(Vec::new(alloc));
-    assert_written(rt, "a static compressor", offsets, names, &octets, len);
-    let octets = plain_octets(rt, alloc, PlainRule::Hash, names);
+    assert_written(rt, alloc, PlainRule::Static, offsets, names, len);
     let hash = HashCompressor::new(alloc, Vec::new(alloc));
-    assert_written(rt, "a hash compressor", hash, names, &octets, len);
-    let octets = plain_octets(rt, alloc, PlainRule::Tree, names);
+    assert_written(rt, alloc, PlainRule::Hash, hash, names, len);
     let tree = TreeCompressor::new(alloc, Vec::new(alloc));
-    assert_written(rt, "a tree compressor", tree, names, &octets, len);
+    assert_written(rt, alloc, PlainRule::Tree, tree, names, len);
     let fingerprints = FingerprintCompressor::new(alloc, Vec::new(alloc));
-    let row = "a fingerprint compressor";
-    assert_written(rt, row, fingerprints, names, &octets, len);
+    assert_written(rt, alloc, PlainRule::Tree, fingerprints, names, len);
 }
 
-/// Checks the same for each list of these names and one more. Returns the number of their
+/// Checks the same for each list of these two names and one more. Returns the number of their
 /// compressions.
-fn assert_longer(rt: &impl Abort, alloc: Global, names: &[&[u8]]) -> usize {
+fn assert_three(rt: &impl Abort, alloc: Global, first: &[u8], second: &[u8]) -> usize {
     let mut count: usize = 0;
-    for &name in NAMES {
-        let mut list = Vec::from_slice(alloc, names).expect(rt, "memory");
-        list.push(name).expect(rt, "memory");
-        count = count.saturating_add(assert_shortest(rt, alloc, &list));
+    for &third in NAMES {
+        count = count.saturating_add(assert_shortest(rt, alloc, &[first, second, third]));
     }
     count
 }
 
-/// Checks the same for each list of this name, any other and one more. Returns the number of their
-/// compressions.
-fn assert_longest(rt: &impl Abort, alloc: Global, first: &[u8]) -> usize {
-    let mut count: usize = 0;
+/// Checks the same for each list of this name and one more, and of these and yet another. Returns
+/// the numbers of their compressions.
+fn assert_two_and_three(rt: &impl Abort, alloc: Global, first: &[u8]) -> (usize, usize) {
+    let mut two: usize = 0;
+    let mut three: usize = 0;
     for &second in NAMES {
-        count = count.saturating_add(assert_longer(rt, alloc, &[first, second]));
+        two = two.saturating_add(assert_shortest(rt, alloc, &[first, second]));
+        three = three.saturating_add(assert_three(rt, alloc, first, second));
     }
-    count
+    (two, three)
 }
 
 /// The number of compressions that all lists of no name, of one, of two and of three names have,
@@ -170,19 +167,17 @@ const COUNTS: [usize; 4] = [1, 13, 226, 4519];
 fn none_is_shorter_than_what_is_written(rt: HostRuntime) {
     let alloc = rt.alloc();
     let none = assert_shortest(&rt, alloc, &[]);
-    let one = assert_longer(&rt, alloc, &[]);
+    let mut one: usize = 0;
     let mut two: usize = 0;
     let mut three: usize = 0;
     for &first in NAMES {
-        two = two.saturating_add(assert_longer(&rt, alloc, &[first]));
-        three = three.saturating_add(assert_longest(&rt, alloc, first));
+        one = one.saturating_add(assert_shortest(&rt, alloc, &[first]));
+        let (pairs, triples) = assert_two_and_three(&rt, alloc, first);
+        two = two.saturating_add(pairs);
+        three = three.saturating_add(triples);
     }
-    assert_same(
-        &rt,
-        "the numbers of compressions",
-        [none, one, two, three],
-        COUNTS,
-    );
+    let counts = [none, one, two, three];
+    assert_same(&rt, "the numbers of compressions", counts, COUNTS);
 }
 
 /// A list of names, and the octets of each of its compressions.

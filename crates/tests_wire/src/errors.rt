@@ -1,62 +1,81 @@
 //! The text of each error.
 use crate::asserts::assert_prints;
+use dns_code::{Flags, HeaderCounts, class, rtype};
+use dns_wire::name::{FromStrError, PresentationError};
 use dns_wire::{AppendError, FormError, ParseError, ShortBuf};
 use std::alloc::AllocError;
 
-struct Case {
-    name: &'static str,
-    error: ParseError,
-    text: &'static str,
-}
+/// Errors of reading octets, and their texts.
+const FAULTS: &[(ParseError, &str)] = &[
+    (ParseError::ShortInput, "unexpected end of input"),
+    (ParseError::Form(FormError::BAD_LABEL), "bad label"),
+    (ParseError::Form(FormError::BAD_POINTER), "bad pointer"),
+    (ParseError::Form(FormError::LONG_NAME), "long name"),
+    (
+        ParseError::Form(FormError::TRAILING_DATA),
+        "trailing data in option",
+    ),
+    (ParseError::Form(FormError::NO_QUESTION), "no question"),
+    (
+        ParseError::Form(FormError::MULTIPLE_QUESTIONS),
+        "multiple questions",
+    ),
+];
 
-const CASES: &[Case] = &[
-    Case {
-        name: "missing octets",
-        error: ParseError::ShortInput,
-        text: "unexpected end of input",
-    },
-    Case {
-        name: "a label of a reserved type",
-        error: ParseError::Form(FormError::BAD_LABEL),
-        text: "bad label",
-    },
-    Case {
-        name: "a pointer that doesn't lead back",
-        error: ParseError::Form(FormError::BAD_POINTER),
-        text: "bad pointer",
-    },
-    Case {
-        name: "a name of more than 255 octets",
-        error: ParseError::Form(FormError::LONG_NAME),
-        text: "long name",
-    },
-    Case {
-        name: "octets left over",
-        error: ParseError::Form(FormError::TRAILING_DATA),
-        text: "trailing data in option",
-    },
-    Case {
-        name: "no question",
-        error: ParseError::Form(FormError::NO_QUESTION),
-        text: "no question",
-    },
-    Case {
-        name: "several questions",
-        error: ParseError::Form(FormError::MULTIPLE_QUESTIONS),
-        text: "multiple questions",
-    },
+/// Errors of reading a name from a text, and their texts.
+const NAME_ERRORS: &[(FromStrError, &str)] = &[
+    (
+        FromStrError::Presentation(PresentationError::EmptyLabel),
+        "empty label",
+    ),
+    (
+        FromStrError::Presentation(PresentationError::BadSymbol),
+        "illegal symbol",
+    ),
+    (
+        FromStrError::Presentation(PresentationError::BadEscape),
+        "illegal escape",
+    ),
+    (
+        FromStrError::Presentation(PresentationError::LongLabel),
+        "long label",
+    ),
+    (
+        FromStrError::Presentation(PresentationError::LongName),
+        "long name",
+    ),
+    (FromStrError::ShortBuf, "buffer size exceeded"),
+    (FromStrError::OutOfMemory, "out of memory"),
 ];
 
 #[test]
 fn prints_errors(rt: HostRuntime) {
-    for case in CASES {
-        assert_prints(&rt, rt.alloc(), case.name, &case.error, case.text);
-    }
     let alloc = rt.alloc();
+    for (error, text) in FAULTS {
+        assert_prints(&rt, alloc, text, error, text);
+    }
+    for (error, text) in NAME_ERRORS {
+        assert_prints(&rt, alloc, text, error, text);
+    }
     let text = "buffer size exceeded";
     assert_prints(&rt, alloc, "no capacity", &ShortBuf, text);
     let capacity = AppendError::from(ShortBuf);
     assert_prints(&rt, alloc, "no capacity, of an append", &capacity, text);
     let memory = AppendError::from(AllocError);
     assert_prints(&rt, alloc, "no memory", &memory, "out of memory");
+    let error = rtype::FromStrError;
+    assert_prints(&rt, alloc, "no type", &error, "unknown record type");
+    let error = class::FromStrError;
+    assert_prints(&rt, alloc, "no class", &error, "unknown class");
+}
+
+#[test]
+fn prints_errors_of_headers(rt: HostRuntime) {
+    let full = HeaderCounts::for_message_slice(&[0xff; 12]).inc_qdcount();
+    let overflow = full.err().expect(&rt, "an overflow");
+    let text = "increasing a header count lead to an overflow";
+    assert_prints(&rt, rt.alloc(), "a full count", &overflow, text);
+    let token = "XXXX".parse::<Flags>().err().expect(&rt, "an error");
+    let text = "illegal flags token";
+    assert_prints(&rt, rt.alloc(), "an unknown flag", &token, text);
 }

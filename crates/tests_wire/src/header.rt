@@ -1,9 +1,7 @@
 //! Headers, flags and counts of messages.
-use crate::asserts::{assert_octets, assert_prints, assert_same, parser_at};
+use crate::asserts::{assert_octets, assert_prints, assert_same};
 use dns_code::{Flags, Header, HeaderCounts, HeaderSection, Opcode, Rcode};
 use dns_wire::{ParseError, Parser};
-use std::alloc::Global;
-use std::process::Abort;
 
 const SECTION: [u8; 12] = *b"\x01\x02\x00\x00\x12\x34\x56\x78\x9a\xbc\xde\xf0";
 
@@ -36,62 +34,42 @@ fn has_the_parts_of_a_section(rt: HostRuntime) {
     let counts = HeaderCounts::for_message_slice(&SECTION);
     assert_octets(&rt, "the counts", counts.as_slice(), &SECTION[4..]);
     let section = HeaderSection::for_message_slice(&SECTION);
-    assert_octets(&rt, "the section", section.as_slice(), &SECTION);
-    assert_same(&rt, "the header of the section", section.header(), header);
-    assert_same(&rt, "the counts of the section", section.counts(), counts);
+    let parts = (section.header(), section.counts());
+    assert_same(&rt, "the parts of the section", parts, (header, counts));
 }
 
 #[test]
-fn parses_a_section_and_no_second(rt: HostRuntime) {
+fn reads_writes_and_clears_a_section(rt: HostRuntime) {
     let mut parser = Parser::new(&SECTION);
-    let parsed = HeaderSection::parse(&mut parser).expect(&rt, "a section");
-    let section = HeaderSection::for_message_slice(&SECTION);
-    assert_same(&rt, "a section", parsed, section);
-    assert_same(&rt, "after a section", parser.pos(), 12);
-    let mut parser = parser_at(&rt, &SECTION, 12);
+    let mut section = HeaderSection::parse(&mut parser).expect(&rt, "a section");
     let missing = HeaderSection::parse(&mut parser).err();
-    assert_same(&rt, "no section", missing, Some(ParseError::ShortInput));
-    assert_same(&rt, "after no section", parser.pos(), 12);
-}
-
-#[test]
-fn composes_a_section_and_replaces_its_parts(rt: HostRuntime) {
-    let section = HeaderSection::for_message_slice(&SECTION);
+    let after = (missing, parser.pos());
+    let expected = (Some(ParseError::ShortInput), 12);
+    assert_same(&rt, "no second section", after, expected);
     let mut target = Vec::new(rt.alloc());
-    let answer = section.compose(&mut target);
-    assert_same(&rt, "composing", answer, Ok(()));
-    assert_octets(&rt, "a section", target.as_slice(), &SECTION);
-    let mut section = HeaderSection::for_message_slice(&SECTION);
+    section.compose(&mut target).expect(&rt, "memory");
+    assert_octets(&rt, "a section", &target, &SECTION);
     section.set_header(Header::new());
     section.set_counts(HeaderCounts::new());
     assert_same(&rt, "replaced parts", section, HeaderSection::new());
 }
 
-/// Fails unless the header has this ID, opcode, rcode and these flags, and its Z bit is clear.
-fn assert_header(
-    rt: &impl Abort,
-    row: &str,
-    header: Header,
-    id: u16,
-    codes: (Opcode, Rcode),
-    flags: Flags,
-) {
-    assert_same(rt, row, header.id(), id);
-    assert_same(rt, row, header.z(), false);
-    assert_same(rt, row, (header.opcode(), header.rcode()), codes);
-    assert_same(rt, row, header.flags(), flags);
-}
-
-#[test]
-fn begins_with_no_field_set(rt: HostRuntime) {
-    let codes = (Opcode::QUERY, Rcode::NOERROR);
-    let header = Header::new();
-    assert_header(&rt, "no field is set", header, 0, codes, Flags::new());
+/// The ID, the Z bit, the opcode, the rcode and the flags of a header.
+fn fields_of(header: Header) -> (u16, bool, Opcode, Rcode, Flags) {
+    (
+        header.id(),
+        header.z(),
+        header.opcode(),
+        header.rcode(),
+        header.flags(),
+    )
 }
 
 #[test]
 fn keeps_each_field_apart(rt: HostRuntime) {
     let mut header = Header::new();
+    let none = (0, false, Opcode::QUERY, Rcode::NOERROR, NO_FLAG);
+    assert_same(&rt, "no field is set", fields_of(header), none);
     header.set_id(0x1234);
     header.set_opcode(Opcode::NOTIFY);
     header.set_rcode(Rcode::REFUSED);
@@ -100,57 +78,37 @@ fn keeps_each_field_apart(rt: HostRuntime) {
         ..NO_FLAG
     };
     header.set_flags(flags);
-    let codes = (Opcode::NOTIFY, Rcode::REFUSED);
-    assert_header(&rt, "each field is set", header, 0x1234, codes, flags);
-    assert_octets(
-        &rt,
-        "each field is set",
-        header.as_slice(),
-        b"\x12\x34\xA0\x05",
-    );
+    let fields = (0x1234, false, Opcode::NOTIFY, Rcode::REFUSED, flags);
+    let row = "each field is set";
+    assert_same(&rt, row, fields_of(header), fields);
+    assert_octets(&rt, row, header.as_slice(), b"\x12\x34\xA0\x05");
 }
 
-/// Sets or clears each flag, and the Z bit.
-fn set_all(header: &mut Header, set: bool) {
-    header.set_qr(set);
-    header.set_aa(set);
-    header.set_tc(set);
-    header.set_rd(set);
-    header.set_ra(set);
-    header.set_z(set);
-    header.set_ad(set);
-    header.set_cd(set);
-}
+/// Whether flags are set, all flags then, and the octets.
+const SETTINGS: [(bool, Flags, &[u8]); 2] = [
+    (true, ALL_FLAGS, b"\x00\x00\x87\xF0"),
+    (false, NO_FLAG, b"\x00\x00\x00\x00"),
+];
 
-/// Each flag, and the Z bit.
-fn all_of(header: Header) -> [bool; 8] {
-    [
-        header.qr(),
-        header.aa(),
-        header.tc(),
-        header.rd(),
-        header.ra(),
-        header.z(),
-        header.ad(),
-        header.cd(),
-    ]
-}
-
-/// Sets or clears each flag and the Z bit. Fails unless all of them, and the octets, are so then.
-fn assert_sets(rt: &impl Abort, row: &str, header: &mut Header, set: bool, octets: &[u8]) {
-    set_all(header, set);
-    assert_octets(rt, row, header.as_slice(), octets);
-    assert_same(rt, row, all_of(*header), [set; 8]);
-}
-
+/// Each flag, and the Z bit, is set and then cleared.
 #[test]
 fn sets_each_flag(rt: HostRuntime) {
     let mut header = Header::new();
-    assert_sets(&rt, "all set", &mut header, true, b"\x00\x00\x87\xF0");
-    assert_sets(&rt, "none set", &mut header, false, b"\x00\x00\x00\x00");
+    for (set, flags, octets) in SETTINGS {
+        header.set_qr(set);
+        header.set_aa(set);
+        header.set_tc(set);
+        header.set_rd(set);
+        header.set_ra(set);
+        header.set_z(set);
+        header.set_ad(set);
+        header.set_cd(set);
+        let found = (header.z(), header.flags());
+        assert_same(&rt, "Z and flags", found, (set, flags));
+        assert_octets(&rt, "Z and flags", header.as_slice(), octets);
+    }
 }
 
-/// A header with each flag and the Z bit set.
 fn with_all_flags() -> Header {
     Header::for_message_slice(b"\x00\x00\x87\xF0\x00\x00\x00\x00\x00\x00\x00\x00")
 }
@@ -177,10 +135,11 @@ fn clears_every_other_flag(rt: HostRuntime) {
 #[test]
 fn writes_four_bits_of_an_opcode(rt: HostRuntime) {
     let mut header = Header::new();
-    header.set_opcode(Opcode::from_int(0x10));
-    assert_octets(&rt, "no low bit", header.as_slice(), b"\x00\x00\x00\x00");
-    header.set_opcode(Opcode::from_int(0x1f));
-    assert_octets(&rt, "four low bits", header.as_slice(), b"\x00\x00\x78\x00");
+    for (number, octet) in [(0x10, 0), (0x1f, 0x78)] {
+        header.set_opcode(Opcode::from_int(number));
+        let octets = [0, 0, octet, 0];
+        assert_octets(&rt, "octet 2", header.as_slice(), &octets);
+    }
 }
 
 /// A text, and the flags that it spells with how they are printed.
@@ -256,19 +215,15 @@ const FLAG_TEXTS: &[FlagText] = &[
     },
 ];
 
-/// Fails unless the text is read as its flags, which are printed as the case says.
-fn assert_flags(rt: &impl Abort, alloc: Global, case: &FlagText) {
-    let read = case.text.parse::<Flags>().ok();
-    assert_same(rt, case.name, read, case.flags);
-    if let Some(flags) = case.flags {
-        assert_prints(rt, alloc, case.name, &flags, case.printed);
-    }
-}
-
+/// Each text is read as its flags, which are printed as the row says.
 #[test]
 fn reads_and_prints_flags(rt: HostRuntime) {
     for case in FLAG_TEXTS {
-        assert_flags(&rt, rt.alloc(), case);
+        let read = case.text.parse::<Flags>().ok();
+        assert_same(&rt, case.name, read, case.flags);
+        if let Some(flags) = case.flags {
+            assert_prints(&rt, rt.alloc(), case.name, &flags, case.printed);
+        }
     }
 }
 
@@ -289,14 +244,14 @@ fn has_counts(rt: HostRuntime) {
         counts.nscount(),
         counts.arcount(),
     ];
-    assert_same(&rt, "counts of a query", query, SOME_COUNTS);
     let update = [
         counts.zocount(),
         counts.prcount(),
         counts.upcount(),
         counts.adcount(),
     ];
-    assert_same(&rt, "counts of an update", update, SOME_COUNTS);
+    let row = "counts of a query and of an update";
+    assert_same(&rt, row, [query, update], [SOME_COUNTS; 2]);
 }
 
 /// Counts of 0x0807, 0x0605, 0x0403 and 0x0201.
@@ -304,20 +259,21 @@ const OTHER_COUNTS: &[u8] = b"\x08\x07\x06\x05\x04\x03\x02\x01";
 
 #[test]
 fn sets_counts(rt: HostRuntime) {
-    let mut counts = HeaderCounts::new();
-    counts.set_qdcount(0x0807);
-    counts.set_ancount(0x0605);
-    counts.set_nscount(0x0403);
-    counts.set_arcount(0x0201);
-    assert_octets(&rt, "counts of a query", counts.as_slice(), OTHER_COUNTS);
+    let mut query = HeaderCounts::new();
+    query.set_qdcount(0x0807);
+    query.set_ancount(0x0605);
+    query.set_nscount(0x0403);
+    query.set_arcount(0x0201);
+    assert_octets(&rt, "counts of a query", query.as_slice(), OTHER_COUNTS);
     let mut update = HeaderCounts::new();
     update.set_zocount(0x0807);
     update.set_prcount(0x0605);
     update.set_upcount(0x0403);
     update.set_adcount(0x0201);
-    assert_octets(&rt, "counts of an update", update.as_slice(), OTHER_COUNTS);
-    update.set(HeaderCounts::new());
-    assert_octets(&rt, "no counts", update.as_slice(), &[0; 8]);
+    let mut copy = some_counts();
+    copy.set(update);
+    let row = "counts of an update, and a copy of them";
+    assert_same(&rt, row, [update, copy], [query; 2]);
 }
 
 /// Increments each count, and returns which increments failed.
@@ -376,15 +332,7 @@ const NEARLY_FULL: &[NearlyFull] = &[
     },
 ];
 
-/// Fails unless the message's counts can be raised to 65,535 each, and no further.
-fn assert_raised(rt: &impl Abort, case: &NearlyFull) {
-    let message = case.message;
-    let mut counts = HeaderCounts::for_message_slice(message);
-    assert_same(rt, case.name, raise(&mut counts), case.refused);
-    assert_same(rt, case.name, raise(&mut counts), [true; 4]);
-    assert_octets(rt, case.name, counts.as_slice(), &[0xff; 8]);
-}
-
+/// The counts of a message can be raised to 65,535 each, and no further.
 #[test]
 fn counts_up_and_down(rt: HostRuntime) {
     let mut counts = some_counts();
@@ -392,24 +340,13 @@ fn counts_up_and_down(rt: HostRuntime) {
     assert_same(&rt, "Counts go up: no error", refused, [false; 4]);
     let raised = b"\x01\x03\x03\x05\x05\x07\x07\x09";
     assert_octets(&rt, "Counts go up", counts.as_slice(), raised);
-    let mut counts = some_counts();
     lower(&mut counts);
-    let lowered = b"\x01\x01\x03\x03\x05\x05\x07\x07";
-    assert_octets(&rt, "counts go down", counts.as_slice(), lowered);
+    assert_same(&rt, "counts go down", counts, some_counts());
     for case in NEARLY_FULL {
-        assert_raised(&rt, case);
+        let message = case.message;
+        let mut counts = HeaderCounts::for_message_slice(message);
+        let refused = [raise(&mut counts), raise(&mut counts)];
+        assert_same(&rt, case.name, refused, [case.refused, [true; 4]]);
+        assert_octets(&rt, case.name, counts.as_slice(), &[0xff; 8]);
     }
-}
-
-#[test]
-fn prints_errors(rt: HostRuntime) {
-    let overflow = HeaderCounts::for_message_slice(&[0xff; 12])
-        .inc_qdcount()
-        .err()
-        .expect(&rt, "no overflow");
-    let text = "increasing a header count lead to an overflow";
-    assert_prints(&rt, rt.alloc(), "a full count", &overflow, text);
-    let token = "XXXX".parse::<Flags>().err().expect(&rt, "no error");
-    let text = "illegal flags token";
-    assert_prints(&rt, rt.alloc(), "an unknown flag", &token, text);
 }

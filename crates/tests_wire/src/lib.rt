@@ -1,4 +1,4 @@
-//! Tests of the layers below messages: octets, names, codes, headers, TTLs and serials as they are
+//! Tests of the layers below messages: octets, names, rcodes, headers, TTLs and serials as they are
 //! read and printed, and targets to which names and octets are appended and from which they are cut
 //! away. The expected values come from outside this library.
 //!
@@ -33,8 +33,6 @@ mod octets;
 mod parser;
 #[cfg(test)]
 mod ranges;
-#[cfg(test)]
-mod registry;
 #[cfg(test)]
 mod serials;
 #[cfg(test)]

@@ -1,10 +1,10 @@
 //! Names in wire format: parsed, skipped, iterated over from both ends, and stored in octets of
 //! their own.
 use crate::asserts::{assert_octets, assert_prints, assert_same, name_at, name_of, parser_at};
+use arrayvec::ArrayVec;
 use dns_wire::{
-    Composer, FormError, Label, LabelIter, Name, ParseError, ParsedName, Parser, ToName, ToNameExt,
+    Composer, FormError, Label, Name, ParseError, ParsedName, Parser, ToName, ToNameExt,
 };
-use std::alloc::Global;
 use std::process::Abort;
 
 const BAD_LABEL: ParseError = ParseError::Form(FormError::BAD_LABEL);
@@ -112,81 +112,40 @@ const CASES: &[Case] = &[
     },
 ];
 
-/// Parses a name, which has these octets uncompressed, and checks that the parser is at offset
-/// `offset` then.
-fn assert_parsed(
+/// Fails unless a name is parsed and skipped as a case says, at the parser's offset. After an error
+/// the parser is there still.
+fn assert_read(
     rt: &impl Abort,
     row: &str,
-    parser: &mut Parser<'_>,
-    expected: Result<&[u8], ParseError>,
-    offset: usize,
+    parser: Parser<'_>,
+    parsed: Result<&[u8], ParseError>,
+    skipped: Result<usize, ParseError>,
 ) {
-    match ParsedName::parse(parser) {
-        Ok(name) => assert_name(rt, row, name, expected.expect(rt, row)),
-        Err(fault) => assert_same(rt, row, Some(fault), expected.err()),
+    let start = parser.pos();
+    let end = skipped.unwrap_or(start);
+    let mut skipping = parser;
+    let fault = ParsedName::skip(&mut skipping).err();
+    assert_same(rt, row, (fault, skipping.pos()), (skipped.err(), end));
+    let mut parsing = parser;
+    match ParsedName::parse(&mut parsing) {
+        Ok(name) => {
+            let octets = name.uncompressed();
+            assert_octets(rt, row, &octets, parsed.unwrap_or(b""));
+            assert_same(rt, row, parsing.pos(), end);
+        }
+        Err(fault) => {
+            let found = (Some(fault), parsing.pos());
+            assert_same(rt, row, found, (parsed.err(), start));
+        }
     }
-    assert_same(rt, row, parser.pos(), offset);
-}
-
-/// Fails unless the name has these octets uncompressed.
-fn assert_name(rt: &impl Abort, row: &str, name: ParsedName<'_>, octets: &[u8]) {
-    assert_octets(rt, row, name.uncompressed().as_slice(), octets);
-    assert_same(rt, row, name.compose_len(), octets.len());
-    let is_root = octets == b"\x00".as_slice();
-    assert_same(rt, row, name.is_root(), is_root);
-    assert_same(rt, row, name.label_count(), name.iter_labels().count());
-}
-
-/// Skips a name, and checks that the parser is at offset `offset` then.
-fn assert_skipped(
-    rt: &impl Abort,
-    row: &str,
-    parser: &mut Parser<'_>,
-    fault: Option<ParseError>,
-    offset: usize,
-) {
-    let skipped = ParsedName::skip(parser).err();
-    assert_same(rt, row, skipped, fault);
-    assert_same(rt, row, parser.pos(), offset);
-}
-
-/// Fails unless a name is parsed as the case says.
-fn assert_parses(rt: &impl Abort, case: &Case) {
-    let offset = if case.parsed.is_ok() {
-        case.skipped.unwrap_or(case.offset)
-    } else {
-        case.offset
-    };
-    let mut parser = parser_at(rt, case.message, case.offset);
-    assert_parsed(rt, case.name, &mut parser, case.parsed, offset);
-}
-
-/// Fails unless a name is skipped as the case says.
-fn assert_skips(rt: &impl Abort, case: &Case) {
-    let offset = case.skipped.unwrap_or(case.offset);
-    let mut parser = parser_at(rt, case.message, case.offset);
-    assert_skipped(rt, case.name, &mut parser, case.skipped.err(), offset);
 }
 
 #[test]
 fn parses_and_skips(rt: HostRuntime) {
     for case in CASES {
-        assert_parses(&rt, case);
-        assert_skips(&rt, case);
+        let parser = parser_at(&rt, case.message, case.offset);
+        assert_read(&rt, case.name, parser, case.parsed, case.skipped);
     }
-}
-
-/// Fails unless parsing and skipping a name return this error, and the parser stays at offset
-/// `offset`.
-fn assert_refused(
-    rt: &impl Abort,
-    row: &str,
-    parser: &mut Parser<'_>,
-    fault: ParseError,
-    offset: usize,
-) {
-    assert_parsed(rt, row, parser, Err(fault), offset);
-    assert_skipped(rt, row, parser, Some(fault), offset);
 }
 
 /// A CNAME record whose RDATA is one octet, at offset 23: the first octet of a pointer.
@@ -196,12 +155,13 @@ const HALF_A_POINTER: &[u8; 25] =
 #[test]
 fn sees_no_further_than_the_data(rt: HostRuntime) {
     let mut parser = parser_at(&rt, HALF_A_POINTER, 23);
-    let mut inner = parser.parse_parser(1).expect(&rt, "the data");
-    assert_refused(&rt, "Name past the data's end", &mut inner, SHORT, 23);
+    let inner = parser.parse_parser(1).expect(&rt, "the data");
+    let row = "Name past the data's end";
+    assert_read(&rt, row, inner, Err(SHORT), Err(SHORT));
 }
 
 /// A name with labels of 63, 63, 63 and 61 octets.
-fn longest_name() -> [u8; 255] {
+pub(crate) fn longest_name() -> [u8; 255] {
     let mut octets = [b'a'; 255];
     octets[0] = 63;
     octets[64] = 63;
@@ -225,72 +185,49 @@ fn longer_name() -> [u8; 256] {
 #[test]
 fn has_at_most_255_octets(rt: HostRuntime) {
     let longest = longest_name();
-    let mut parser = Parser::new(&longest);
-    assert_parsed(&rt, "Longest name", &mut parser, Ok(&longest), 255);
+    let parser = Parser::new(&longest);
+    assert_read(&rt, "Longest name", parser, Ok(&longest), Ok(255));
     let longer = longer_name();
     let refused = Name::from_octets(longer.as_slice()).err();
     assert_same(&rt, "One octet too long", refused, Some(LONG_NAME));
-}
-
-/// The size is checked before the octets are read.
-#[test]
-fn parses_no_256_octets(rt: HostRuntime) {
-    let longer = longer_name();
+    // The size is checked before the octets are read.
     for len in [256, 200] {
-        let row = if len == 256 {
-            "One octet too long: parsed"
-        } else {
-            "One octet too long: parsed, and cut"
-        };
-        let mut parser = Parser::new(&longer[..len]);
-        assert_refused(&rt, row, &mut parser, LONG_NAME, 0);
+        let parser = Parser::new(&longer[..len]);
+        let row = "One octet too long: parsed, and cut";
+        assert_read(&rt, row, parser, Err(LONG_NAME), Err(LONG_NAME));
     }
-}
-
-/// Fails unless there is a label with these octets.
-fn assert_label(rt: &impl Abort, row: &str, label: Option<Label<'_>>, octets: &[u8]) {
-    let label = label.expect(rt, row);
-    assert_octets(rt, row, label.as_slice(), octets);
-    assert_same(rt, row, label.len(), octets.len());
-    assert_same(rt, row, label.is_root(), octets.is_empty());
-}
-
-fn assert_no_label(rt: &impl Abort, labels: &mut LabelIter<'_>) {
-    let ends = [labels.next().is_none(), labels.next_back().is_none()];
-    assert_same(rt, "no label is left", ends, [true; 2]);
 }
 
 /// com., example.com. at offset 5, and a.example.com., through two pointers, at offset 15.
 const EXAMPLE: &[u8] = b"\x03com\x00\x07example\xC0\x00\x01a\xC0\x05";
 
-/// The labels of a.example.com., each with its name.
-const LABELS: &[(&str, &[u8])] = &[
-    ("the first label", b"a"),
-    ("the second label", b"example"),
-    ("the third label", b"com"),
-    ("the root label", b""),
-];
-
-#[test]
-fn goes_over_labels(rt: HostRuntime) {
-    let mut labels = name_at(&rt, EXAMPLE, 15).iter_labels();
-    for &(row, text) in LABELS {
-        assert_label(&rt, row, labels.next(), text);
-    }
-    assert_no_label(&rt, &mut labels);
-    let labels = name_at(&rt, EXAMPLE, 15).iter_labels();
-    let longest = labels.map(|label| label.len()).max();
-    assert_same(&rt, "the longest label", longest, Some(7));
+/// The octets of a label, their number, and whether it is the root label.
+fn shown<'a>(label: Option<Label<'a>>) -> Option<(&'a [u8], usize, bool)> {
+    let label = label?;
+    Some((label.as_slice(), label.len(), label.is_root()))
 }
 
 #[test]
 fn goes_over_labels_from_both_ends(rt: HostRuntime) {
     let mut labels = name_at(&rt, EXAMPLE, 15).iter_labels();
-    assert_label(&rt, "the first label", labels.next(), b"a");
-    assert_label(&rt, "the last label", labels.next_back(), b"");
-    assert_label(&rt, "the last label but one", labels.next_back(), b"com");
-    assert_label(&rt, "the label between", labels.next(), b"example");
-    assert_no_label(&rt, &mut labels);
+    let found = [
+        shown(labels.next()),
+        shown(labels.next_back()),
+        shown(labels.next_back()),
+        shown(labels.next()),
+        shown(labels.next()),
+        shown(labels.next_back()),
+    ];
+    let expected: [Option<(&[u8], usize, bool)>; 6] = [
+        Some((b"a", 1, false)),
+        Some((b"", 0, true)),
+        Some((b"com", 3, false)),
+        Some((b"example", 7, false)),
+        None,
+        None,
+    ];
+    let row = "the first, the last two, the one between, and no more";
+    assert_same(&rt, row, found, expected);
 }
 
 /// The suffixes of a.example.com., each with its number of labels.
@@ -301,50 +238,31 @@ const SUFFIXES: &[(&str, usize)] = &[
     (".", 1),
 ];
 
-/// Fails unless the name is printed as `text`, with a final dot, and has so many labels.
-fn assert_suffix(rt: &impl Abort, alloc: Global, text: &str, name: ParsedName<'_>, count: usize) {
-    assert_prints(rt, alloc, text, &name.fmt_with_dot(), text);
-    assert_same(rt, text, name.label_count(), count);
-}
-
+/// Each suffix is the parent of the one before it.
 #[test]
-fn goes_over_suffixes_and_to_a_parent(rt: HostRuntime) {
-    let mut suffixes = name_at(&rt, EXAMPLE, 15).iter_suffixes();
+fn goes_over_suffixes(rt: HostRuntime) {
+    let name = name_at(&rt, EXAMPLE, 15);
+    let mut suffixes = name.iter_suffixes();
+    let mut ancestor = Some(name);
     for &(text, count) in SUFFIXES {
         let suffix = suffixes.next().expect(&rt, text);
-        assert_suffix(&rt, rt.alloc(), text, suffix, count);
-    }
-    assert_same(&rt, "after the root", suffixes.next(), None);
-    let name = name_of(&rt, b"\x03WwW\x02De\x00");
-    let row = "a name of its own octets";
-    let first = name.iter_suffixes().next().expect(&rt, row);
-    let counts = [name.label_count(), first.label_count()];
-    assert_same(&rt, "labels of it and of its first suffix", counts, [3; 2]);
-    let parent = name.parent().expect(&rt, row);
-    assert_prints(&rt, rt.alloc(), "its parent", &parent.fmt_with_dot(), "De.");
-}
-
-#[test]
-fn goes_over_ancestors(rt: HostRuntime) {
-    let name = name_at(&rt, EXAMPLE, 15);
-    let mut ancestor = Some(name);
-    for suffix in name.iter_suffixes() {
-        assert_same(
-            &rt,
-            "the name, then the parent of each suffix",
-            ancestor,
-            Some(suffix),
-        );
+        assert_prints(&rt, rt.alloc(), text, &suffix.fmt_with_dot(), text);
+        let found = (ancestor, suffix.label_count());
+        assert_same(&rt, text, found, (Some(suffix), count));
         ancestor = suffix.parent();
     }
-    assert_same(&rt, "the parent of the root", ancestor, None);
+    let after = [suffixes.next(), ancestor];
+    assert_same(&rt, "after the root", after, [None; 2]);
 }
 
 #[test]
-fn has_a_root(rt: HostRuntime) {
-    let root = Name::root_slice();
-    assert_same(&rt, "the root label", root.label_count(), 1);
-    assert_same(&rt, "the parent of the root", root.parent(), None);
+fn has_suffixes_in_its_own_octets(rt: HostRuntime) {
+    let name = name_of(&rt, b"\x03WwW\x02De\x00");
+    let parent = name_of(&rt, b"\x02De\x00");
+    let suffixes = [name.iter_suffixes().next(), name.parent()];
+    let expected = [Some(name.as_parsed()), Some(parent.as_parsed())];
+    assert_same(&rt, "the name and its parent", suffixes, expected);
+    assert_same(&rt, "its labels", name.label_count(), 3);
 }
 
 /// Octets, and the error for which they are no uncompressed name.
@@ -408,39 +326,15 @@ const WHOLE: &[Whole] = &[
 ];
 
 #[test]
-fn takes_whole_octets_alone_and_keeps_them(rt: HostRuntime) {
+fn takes_whole_octets_alone(rt: HostRuntime) {
     for case in WHOLE {
         let fault = Name::from_octets(case.octets).err();
         assert_same(&rt, case.name, fault, case.fault);
     }
-    let name = name_of(&rt, b"\x02Ab\x00");
-    assert_octets(&rt, "a name", name.as_slice(), b"\x02Ab\x00");
-    let root = Name::root_slice();
-    assert_octets(&rt, "the root slice", root.as_slice(), b"\x00");
-}
-
-/// Fails unless the value represents Ab. and lends `lent` as its uncompressed octets.
-fn assert_is_ab<N: ToName>(rt: &impl Abort, row: &str, name: &N, lent: Option<&[u8]>) {
-    let parsed = name.as_parsed();
-    assert_label(rt, row, parsed.iter_labels().next(), b"Ab");
-    assert_same(rt, row, parsed.compose_len(), 4);
-    assert_same(rt, row, name.as_flat_slice(), lent);
 }
 
 /// Ab., uncompressed.
 const AB: &[u8] = b"\x02Ab\x00";
-
-#[test]
-fn represents_names(rt: HostRuntime) {
-    let name = name_of(&rt, AB);
-    assert_is_ab(&rt, "a name", &name, Some(AB));
-    assert_is_ab(&rt, "a name by reference", &&name, Some(AB));
-    let alias = Alias { target: name };
-    assert_is_ab(&rt, "a type of the test's own", &alias, Some(AB));
-    let octets = b"\x02Ab\x00\xC0\x00".as_slice();
-    assert_is_ab(&rt, "a parsed name", &name_at(&rt, octets, 0), Some(AB));
-    assert_is_ab(&rt, "a pointer", &name_at(&rt, octets, 4), None);
-}
 
 /// A type of the test's own that represents a name: it wraps one.
 #[derive(Drop)]
@@ -458,15 +352,28 @@ impl<N: ToName> ToName for Alias<N> {
     }
 }
 
+/// Whether these are the uncompressed octets that a value lends, or it lends none.
+fn lends<N: ToName>(name: &N, octets: Option<&[u8]>) -> bool {
+    name.as_flat_slice() == octets
+}
+
 #[test]
-fn another_type_represents_a_name(rt: HostRuntime) {
-    let alias = Alias {
-        target: name_of(&rt, b"\x01A\x00"),
-    };
-    let mut target = Vec::new(rt.alloc());
+fn represents_names(rt: HostRuntime) {
+    let message = b"\x02Ab\x00\xC0\x00".as_slice();
+    let name = name_of(&rt, AB);
+    let (alias, borrowed) = (Alias { target: name }, &name);
+    let (parsed, pointer) = (name_at(&rt, message, 0), name_at(&rt, message, 4));
+    let answers = [
+        lends(&name, Some(AB)),
+        lends(&borrowed, Some(AB)),
+        lends(&alias, Some(AB)),
+        lends(&parsed, Some(AB)),
+        lends(&pointer, None),
+        alias.name_eq(&pointer),
+    ];
+    assert_same(&rt, "octets that are lent", answers, [true; 6]);
+    let mut target = ArrayVec::<u8, 4>::new();
     let answer = target.append_compressed_name(&alias);
-    assert_same(&rt, "an alias appended", answer, Ok(()));
-    assert_octets(&rt, "an alias", target.as_slice(), b"\x01A\x00");
-    let is_equal = alias.name_eq(&name_of(&rt, b"\x01a\x00"));
-    assert_same(&rt, "an alias compared", is_equal, true);
+    assert_same(&rt, "an alias", answer, Ok(()));
+    assert_octets(&rt, "an alias", &target, AB);
 }

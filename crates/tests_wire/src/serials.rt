@@ -2,10 +2,9 @@
 ghost use Rattle.std.specs.Prelude.{◌↔◌, IsTrue};
 ghost use Rattle.dns_iana.specs.Serials.{IsLess};
 
-use crate::asserts::assert_same;
+use crate::asserts::{assert_prints, assert_same};
 use dns_iana::Serial;
 use std::cmp::Ordering;
-use std::process::Abort;
 
 /// A serial, another one, and how the first compares to the second.
 const COMPARISONS: &[(&str, u32, u32, Option<Ordering>)] = &[
@@ -38,28 +37,14 @@ fn compares(rt: HostRuntime) {
     }
 }
 
-/// Fails unless a sum is the serial of this number.
-fn assert_sum(rt: &impl Abort, row: &str, sum: Serial, expected: u32) {
-    assert_same(rt, row, sum, Serial::from(expected));
-    assert_same(rt, row, u32::from(sum), expected);
-    assert_same(rt, row, sum.into_int(), expected);
-}
-
+/// The greatest addend. A sum past the wrap is in `transfers_newer_zones`.
 #[test]
-fn adds(rt: HostRuntime) {
-    assert_sum(&rt, "a small sum", Serial::from(0).add(4), 4);
-    assert_sum(&rt, "past the wrap", Serial::from(u32::MAX).add(1), 0);
-    let sum = Serial::from(0xff00_0000).add(0x0f00_0000);
-    assert_sum(&rt, "far past the wrap", sum, 0x0e00_0000);
+fn adds_and_prints(rt: HostRuntime) {
     let sum = Serial::from(1).add(Serial::MAX_ADDEND);
-    assert_sum(&rt, "the greatest addend", sum, 0x8000_0000);
-}
-
-#[test]
-fn prints(rt: HostRuntime) {
-    let serial = Serial::from(0x8000_0000);
-    let text = serial.to_string(rt.alloc()).expect(&rt, "memory");
-    assert_same(&rt, "a text", text.as_str(), "2147483648");
+    let numbers = (sum, u32::from(sum), sum.into_int());
+    let expected = (Serial::from_int(0x8000_0000), 0x8000_0000, 0x8000_0000);
+    assert_same(&rt, "a sum", numbers, expected);
+    assert_prints(&rt, rt.alloc(), "a text", &sum, "2147483648");
 }
 
 /// Whether a secondary server has to transfer a zone that it holds.

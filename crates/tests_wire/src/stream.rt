@@ -20,18 +20,9 @@ fn assert_message<T: Composer>(
     message: &[u8],
     stream: &[u8],
 ) {
-    assert_octets(rt, row, target.as_dgram_slice(), message);
-    assert_octets(rt, row, target.as_slice(), message);
+    assert_octets(rt, row, AsSlice::as_slice(target), message);
     assert_octets(rt, row, target.as_stream_slice(), stream);
     assert_octets(rt, row, target.as_target().as_slice(), stream);
-}
-
-/// A stream target over an `ArrayVec`.
-fn fixed<const N: usize>(
-    rt: &impl Abort,
-    target: ArrayVec<u8, N>,
-) -> StreamTarget<ArrayVec<u8, N>> {
-    StreamTarget::new(target).expect(rt, "a capacity for the length")
 }
 
 /// A stream target over a `Vec`.
@@ -48,49 +39,25 @@ fn has_capacity_for_the_length(rt: HostRuntime) {
     assert_same(&rt, row, refused, Some(SHORT));
 }
 
-#[test]
-fn is_empty_after_the_length(rt: HostRuntime) {
-    let target = fixed(&rt, ArrayVec::<u8, 2>::from(*b"ab"));
-    assert_message(&rt, "a capacity of two octets", &target, b"", b"\x00\x00");
-}
-
+/// Octets and a name, and a cut to four octets.
 const ABC: &[Step] = &[
     Step::Octets(b"ab", Ok(b"ab")),
     Step::Name(b"\x01C\x00", Ok(b"\x01C\x00")),
+    Step::Cut(5),
+    Step::Cut(4),
 ];
 
-/// A stream target with the message of these steps.
-fn with_abc(rt: &impl Abort, alloc: Global) -> StreamTarget<Vec<u8>> {
-    let mut target = growing(rt, alloc);
-    assert_steps(rt, "appended", &mut target, ABC);
-    target
-}
-
 #[test]
-fn reports_its_length(rt: HostRuntime) {
-    let row = "appended";
-    let target = with_abc(&rt, rt.alloc());
-    assert_same(&rt, row, target.can_compress(), false);
-    assert_message(&rt, row, &target, b"ab\x01C\x00", b"\x00\x05ab\x01C\x00");
-}
-
-#[test]
-fn is_cut_at_its_length(rt: HostRuntime) {
-    let mut target = with_abc(&rt, rt.alloc());
+fn has_its_length_before_it(rt: HostRuntime) {
+    let mut target = growing(&rt, rt.alloc());
+    assert_steps(&rt, "appended and cut", &mut target, ABC);
     target.truncate(usize::MAX);
     target.truncate(usize::MAX - 1);
-    target.truncate(5);
     let row = "cut at its length or above";
-    assert_message(&rt, row, &target, b"ab\x01C\x00", b"\x00\x05ab\x01C\x00");
-}
-
-#[test]
-fn is_cut_to_one_octet(rt: HostRuntime) {
-    let mut target = with_abc(&rt, rt.alloc());
-    target.truncate(1);
-    assert_message(&rt, "cut to one octet", &target, b"a", b"\x00\x01a");
+    assert_message(&rt, row, &target, b"ab\x01C", b"\x00\x04ab\x01C");
+    assert_same(&rt, row, target.can_compress(), false);
     let target = target.into_target();
-    assert_octets(&rt, "the inner target", target.as_slice(), b"\x00\x01a");
+    assert_octets(&rt, "the inner target", &target, b"\x00\x04ab\x01C");
 }
 
 #[test]
@@ -102,17 +69,18 @@ fn writes_over_its_message(rt: HostRuntime) {
     target.truncate(1);
     assert_message(&rt, "cut to one octet", &target, b"a", b"\x00\x01a");
     assert_message(&rt, "its clone", &clone, b"ad", b"\x00\x02ad");
-    let slice = AsSlice::as_slice(&clone);
-    assert_octets(&rt, "its clone as a slice", slice, b"ad");
 }
 
 /// One further octet fits, and none after it.
 const ONE_MORE: &[Step] = &[Step::Octets(b"b", Ok(b"b")), Step::Octets(b"c", Err(SHORT))];
 
-/// A clone of a target of fixed capacity has its own length, and its own content from there on.
+/// A clone of a target of fixed capacity has its own length, and its own content from there on. The
+/// octets that the array had are not in the message.
 #[test]
 fn clones_a_target_of_fixed_size(rt: HostRuntime) {
-    let mut target = fixed(&rt, ArrayVec::<u8, 4>::new());
+    let target = StreamTarget::new(ArrayVec::<u8, 4>::from(*b"wxyz"));
+    let mut target = target.expect(&rt, "a capacity for the length");
+    assert_message(&rt, "no octet", &target, b"", b"\x00\x00");
     take(&rt, "one octet", &mut target, Step::Octets(b"a", Ok(b"a")));
     let mut clone = target.clone().expect(&rt, "a clone");
     assert_steps(&rt, "its clone", &mut clone, ONE_MORE);
@@ -120,45 +88,23 @@ fn clones_a_target_of_fixed_size(rt: HostRuntime) {
     assert_message(&rt, "one octet", &target, b"a", b"\x00\x01a");
 }
 
-/// All but one of the octets that a message may have, and two that exceed them.
-const NEARLY_FULL: &[Step] = &[Step::Fill(65_534), Step::Octets(b"ab", Err(SHORT))];
+/// Two octets that exceed the 65,535 that a message may have, if one fits.
+const TWO_MORE: &[Step] = &[Step::Octets(b"ab", Err(SHORT))];
 
-/// Fails unless the target has a message of this length, after these octets of the length.
-fn assert_length(
-    rt: &impl Abort,
-    row: &str,
-    target: &StreamTarget<Vec<u8>>,
-    len: usize,
-    prefix: &[u8],
-) {
-    assert_same(rt, row, target.as_dgram_slice().len(), len);
-    let is_prefix = target.as_stream_slice().starts_with(prefix);
-    assert_same(rt, row, is_prefix, true);
-}
-
+/// Refused octets don't make the vector grow, which has no spare capacity.
 #[test]
 fn is_full_at_65535_octets(rt: HostRuntime) {
-    let row = "one octet less";
+    let octets = [b'a'; 65_534];
     let mut target = growing(&rt, rt.alloc());
-    assert_steps(&rt, row, &mut target, NEARLY_FULL);
-    assert_length(&rt, row, &target, 65_534, b"\xFF\xFE");
-    let row = "the most octets";
-    assert_steps(&rt, row, &mut target, ONE_MORE);
-    assert_length(&rt, row, &target, 65_535, b"\xFF\xFF");
-}
-
-const AB: &[Step] = &[
-    Step::Octets(b"ab", Ok(b"ab")),
-    Step::Octets(b"cd", Err(SHORT)),
-];
-
-#[test]
-fn is_full_where_its_target_is(rt: HostRuntime) {
-    let row = "a capacity for one more octet";
-    let mut target = fixed(&rt, ArrayVec::<u8, 5>::new());
-    assert_steps(&rt, row, &mut target, AB);
-    assert_message(&rt, row, &target, b"ab", b"\x00\x02ab");
-    let row = "a full target";
-    take(&rt, row, &mut target, Step::Octets(b"c", Ok(b"c")));
-    assert_message(&rt, row, &target, b"abc", b"\x00\x03abc");
+    target.append_slice(&octets).expect(&rt, "memory");
+    let capacity = target.as_target().capacity();
+    assert_steps(&rt, "one octet less", &mut target, TWO_MORE);
+    assert_same(&rt, "the capacity", target.as_target().capacity(), capacity);
+    let stream = target.as_stream_slice();
+    let found = (stream.len(), stream.starts_with(b"\xFF\xFE"));
+    assert_same(&rt, "one octet less", found, (65_536, true));
+    assert_steps(&rt, "the most octets", &mut target, ONE_MORE);
+    let stream = target.as_stream_slice();
+    let found = (stream.len(), stream.starts_with(b"\xFF\xFF"));
+    assert_same(&rt, "the most octets", found, (65_537, true));
 }

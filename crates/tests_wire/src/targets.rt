@@ -2,7 +2,7 @@
 ghost use Rattle.std.specs.Prelude.{◌≤◌, length};
 ghost use Rattle.dns_wire.specs.Encoders.{IsClear};
 
-use crate::asserts::{assert_octets, assert_same, in_memory};
+use crate::asserts::{assert_octets, assert_same};
 use crate::steps::{Step, assert_row, assert_steps};
 use arrayvec::ArrayVec;
 use dns_wire::{AppendError, CloneTarget, Composer, FreezeBuilder, Octets, ToName};
@@ -26,14 +26,9 @@ const WRITES: &[Step] = &[
 fn assert_writes<T: CloneTarget + FreezeBuilder>(rt: &impl Abort, row: &str, mut target: T) {
     assert_steps(rt, row, &mut target, WRITES);
     assert_same(rt, row, target.can_compress(), false);
-    let clone = target.clone_target().expect(rt, "a clone");
-    assert_freezes(rt, row, clone, b"\x00\x01\x02");
+    let frozen = target.clone_target().expect(rt, "a clone").freeze();
+    assert_octets(rt, row, frozen.octets(), b"\x00\x01\x02");
     assert_octets(rt, row, target.as_slice(), b"\x00\x01\x02");
-}
-
-fn assert_freezes<T: FreezeBuilder>(rt: &impl Abort, row: &str, target: T, octets: &[u8]) {
-    let frozen = target.freeze();
-    assert_octets(rt, row, frozen.octets(), octets);
 }
 
 #[test]
@@ -52,8 +47,6 @@ fn assert_written_over<T: Composer>(rt: &impl Abort, row: &str, target: &mut T)
 
 #[test]
 fn writes_over_octets(rt: HostRuntime) {
-    let mut vec = in_memory(&rt, rt.alloc(), b"abcd");
-    assert_written_over(&rt, "a vector", &mut vec);
     let mut array = ArrayVec::<u8, 4>::from(*b"abcd");
     assert_written_over(&rt, "an array vector", &mut array);
 }

@@ -82,10 +82,10 @@ fn assert_flattens<D: ComposeRecordData + Drop, S: FlattenInto<D>>(
 
 #[test]
 fn converts_and_flattens(rt: HostRuntime) {
-    let alias = Cname::new(name_of(&rt));
-    assert_converts::<Cname<VecName>, _>(&rt, rt.alloc(), "alias", alias, ALIAS);
-    assert_converts::<Opt<Vec<u8>>, _>(&rt, rt.alloc(), "OPT data", opt_of(&rt), OPT);
     let alloc = rt.alloc();
+    let alias = Cname::new(name_of(&rt));
+    assert_converts::<Cname<VecName>, _>(&rt, alloc, "alias", alias, ALIAS);
+    assert_converts::<Opt<Vec<u8>>, _>(&rt, alloc, "OPT data", opt_of(&rt), OPT);
     assert_flattens::<Opt<Vec<u8>>, _>(&rt, alloc, "flat OPT data", opt_of(&rt), OPT);
     let alias = Cname::new(qname_of(&rt));
     assert_flattens::<Cname<VecName>, _>(&rt, alloc, "flat alias", alias, ALIAS);
@@ -99,7 +99,7 @@ fn converts_and_flattens(rt: HostRuntime) {
         expected,
     );
     let question = Question::new_in(qname_of(&rt), Rtype::CNAME);
-    let flat = question.try_flatten_into(rt.alloc());
+    let flat = question.try_flatten_into(alloc);
     let question: Question<VecName> = flat.expect(&rt, "memory for a flat question");
     let name = question.qname().as_slice();
     assert_octets(&rt, "name of a flat question", name, NAME);
@@ -120,27 +120,28 @@ fn cloned_stream(rt: &impl Abort, alloc: Global) -> StreamTarget<Vec<u8>> {
 
 #[test]
 fn clones(rt: HostRuntime) {
-    let opaque = cloned_data(&rt, rt.alloc(), b"\x01a");
+    let alloc = rt.alloc();
+    let opaque = cloned_data(&rt, alloc, b"\x01a");
     assert_octets(&rt, "opaque data", opaque.data().as_slice(), b"\x01a");
-    let stream = cloned_stream(&rt, rt.alloc());
+    let stream = cloned_stream(&rt, alloc);
     assert_octets(&rt, "stream", stream.as_stream_slice(), b"\x00\x00");
 }
+
+/// The question, and a CNAME record of the root, whose alias is for the root.
+const QUESTION_AND_RECORD: &[u8] =
+    b"\x07Example\x03com\x00\x00\x05\x00\x01\x00\x00\x05\x00\x01\x00\x00\x00\x3C\x00\x01\x00";
 
 #[test]
 fn composes_a_question_and_a_record(rt: HostRuntime) {
     let question = Question::new_in(name_of(&rt), Rtype::CNAME);
+    let root = Name::root_slice();
+    let record = Record::new(root, Class::IN, Ttl::MINUTE, Cname::new(root));
     let mut target = Vec::new(rt.alloc());
     let composed = question.compose(&mut target);
     composed.expect(&rt, "memory for the question");
-    assert_octets(&rt, "question", target.as_slice(), QUESTION);
-    // A CNAME record of the root, whose alias is for the root.
-    let root = Cname::new(Name::root_slice());
-    let record = Record::new(Name::root_slice(), Class::IN, Ttl::MINUTE, root);
-    let mut target = Vec::new(rt.alloc());
     let composed = record.compose(&mut target);
     composed.expect(&rt, "memory for the record");
-    let octets = b"\x00\x00\x05\x00\x01\x00\x00\x00\x3C\x00\x01\x00";
-    assert_octets(&rt, "record", target.as_slice(), octets);
+    assert_octets(&rt, "octets", target.as_slice(), QUESTION_AND_RECORD);
 }
 
 /// Fails unless the canonical form of RDATA has these octets.

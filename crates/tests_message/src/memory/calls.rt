@@ -2,7 +2,7 @@
 use crate::asserts::{assert_holds, assert_octets};
 use crate::memory::again::Array;
 use crate::memory::fresh::{Fresh, started};
-use crate::memory::messages::{EXAMPLE_COM, NS_EXAMPLE_COM, response_header};
+use crate::memory::messages::{EXAMPLE_COM, NS_EXAMPLE_COM, name_of, response_header};
 use dns_message::builder::PushError;
 use dns_message::code::{Rcode, Rtype};
 use dns_message::data::{A, Ns, UnknownRecordData};
@@ -14,9 +14,8 @@ use dns_message::target::Composer;
 use std::alloc::Global;
 use std::process::Abort;
 
-/// A call with a question for example.com., or with a record whose RDATA is `D` and whose owner has
-/// `N` octets.
-type CallWith<D, const N: usize> = Call<(Name<[u8; 13]>, Rtype), (Name<[u8; N]>, u32, D)>;
+/// A call with a question for example.com., or with a record of the root whose RDATA is `D`.
+type RootCall<D> = Call<(Name<[u8; 13]>, Rtype), (Name<[u8; 1]>, u32, D)>;
 
 /// The number of calls that were done: all; all but one, for which an allocation failed; or none,
 /// if the replies couldn't be allocated.
@@ -106,40 +105,6 @@ fn make_each<R: Abort + Print, T: Composer, Q: ComposeQuestion, D: ComposeRecord
     make_each(rt, alloc, stage, calls, lengths)
 }
 
-/// An empty list with capacity for calls. It is allocated again if an allocation failed.
-fn list<R: Abort + Print, C>(rt: &R, alloc: Global, capacity: usize) -> Vec<C> {
-    match Vec::with_capacity(alloc, capacity) {
-        Ok(calls) => calls,
-        Err(_) => {
-            println!(rt; "refused list").expect(rt, "standard output");
-            Vec::with_capacity(alloc, capacity).expect(rt, "memory")
-        }
-    }
-}
-
-/// The calls that build a positive response, from any stage, by their indexes.
-fn positive_call<R: Abort>(rt: &R, index: usize) -> CallWith<A, 13> {
-    let name = Name::from_octets(*EXAMPLE_COM).expect(rt, "a name");
-    match index {
-        0 => Call::ToBuilder,
-        1 => Call::SetHeader(response_header(Rcode::NOERROR, true)),
-        2 => Call::ToQuestion,
-        3 => Call::PushQuestion((name, Rtype::A)),
-        4 => Call::ToAnswer,
-        _ => Call::PushRecord((name, 3600, A::from_octets(203, 0, 113, 1))),
-    }
-}
-
-/// The calls that build a positive response, from this index on.
-fn positive_calls<R: Abort + Print>(rt: &R, alloc: Global, from: usize) -> Vec<CallWith<A, 13>> {
-    let mut calls = list(rt, alloc, 6);
-    for index in from..6 {
-        let pushed = calls.push(positive_call(rt, index));
-        pushed.expect(rt, "a capacity");
-    }
-    calls
-}
-
 /// Adds a question, and an answer with one address.
 fn add_address<R: Abort + Print, T: Composer>(
     rt: &R,
@@ -147,32 +112,14 @@ fn add_address<R: Abort + Print, T: Composer>(
     stage: Stage<T>,
     lengths: [usize; 4],
 ) -> Stage<T> {
-    let calls = positive_calls(rt, alloc, 2);
+    let name = name_of(rt, *EXAMPLE_COM);
+    let calls = [
+        Call::ToQuestion,
+        Call::PushQuestion((name, Rtype::A)),
+        Call::ToAnswer,
+        Call::PushRecord((name, 3600, A::from_octets(203, 0, 113, 1))),
+    ];
     make_each(rt, alloc, stage, &calls, &lengths)
-}
-
-/// A call with an NS record of the root.
-type ServerCall = CallWith<Ns<Name<[u8; 16]>>, 1>;
-
-/// The calls that add an NS record of the root, and remove it again, by their indexes.
-fn server_call<R: Abort>(rt: &R, index: usize) -> ServerCall {
-    let server = Ns::new(Name::from_octets(*NS_EXAMPLE_COM).expect(rt, "a name"));
-    let root = Name::from_octets([0]).expect(rt, "a name");
-    match index {
-        0 => Call::ToAuthority,
-        1 => Call::PushRecord((root, 60, server)),
-        2 => Call::Rewind,
-        _ => Call::ToAdditional,
-    }
-}
-
-fn server_calls<R: Abort + Print>(rt: &R, alloc: Global) -> Vec<ServerCall> {
-    let mut calls = list(rt, alloc, 4);
-    for index in 0..4 {
-        let pushed = calls.push(server_call(rt, index));
-        pushed.expect(rt, "a capacity");
-    }
-    calls
 }
 
 /// Adds an NS record of the root, and removes it again.
@@ -182,32 +129,14 @@ fn add_server<R: Abort + Print, T: Composer>(
     stage: Stage<T>,
     lengths: [usize; 4],
 ) -> Stage<T> {
-    let calls = server_calls(rt, alloc);
+    let server = Ns::new(name_of(rt, *NS_EXAMPLE_COM));
+    let calls: [RootCall<Ns<Name<[u8; 16]>>>; 4] = [
+        Call::ToAuthority,
+        Call::PushRecord((name_of(rt, [0]), 60, server)),
+        Call::Rewind,
+        Call::ToAdditional,
+    ];
     make_each(rt, alloc, stage, &calls, &lengths)
-}
-
-/// A call with a record of the root without RDATA.
-type TextCall = CallWith<UnknownRecordData<[u8; 0]>, 1>;
-
-/// The calls that add a record without RDATA, and remove everything again, by their indexes.
-fn text_call<R: Abort>(rt: &R, index: usize) -> TextCall {
-    let text = UnknownRecordData::from_octets(Rtype::TXT, []).expect(rt, "data");
-    let root = Name::from_octets([0]).expect(rt, "a name");
-    match index {
-        0 => Call::PushRecord((root, 0, text)),
-        1 => Call::ToAnswer,
-        2 => Call::TcRewind,
-        _ => Call::ToBuilder,
-    }
-}
-
-fn text_calls<R: Abort + Print>(rt: &R, alloc: Global) -> Vec<TextCall> {
-    let mut calls = list(rt, alloc, 4);
-    for index in 0..4 {
-        let pushed = calls.push(text_call(rt, index));
-        pushed.expect(rt, "a capacity");
-    }
-    calls
 }
 
 /// Adds a record without RDATA, and removes everything again.
@@ -217,13 +146,27 @@ fn add_text<R: Abort + Print, T: Composer>(
     stage: Stage<T>,
     lengths: [usize; 4],
 ) -> Stage<T> {
-    let calls = text_calls(rt, alloc);
+    let text = UnknownRecordData::from_octets(Rtype::TXT, []).expect(rt, "data");
+    let calls: [RootCall<UnknownRecordData<[u8; 0]>>; 4] = [
+        Call::PushRecord((name_of(rt, [0]), 0, text)),
+        Call::ToAnswer,
+        Call::TcRewind,
+        Call::ToBuilder,
+    ];
     make_each(rt, alloc, stage, &calls, &lengths)
 }
 
 /// Checks a positive response that is built by one list of calls.
 pub(crate) fn assert_list<R: Abort + Print, T: Fresh>(rt: &R, alloc: Global, expected: &[u8]) {
-    let calls = positive_calls(rt, alloc, 0);
+    let name = name_of(rt, *EXAMPLE_COM);
+    let calls = [
+        Call::ToBuilder,
+        Call::SetHeader(response_header(Rcode::NOERROR, true)),
+        Call::ToQuestion,
+        Call::PushQuestion((name, Rtype::A)),
+        Call::ToAnswer,
+        Call::PushRecord((name, 3600, A::from_octets(203, 0, 113, 1))),
+    ];
     let stage: Stage<T> = Stage::Builder(started(rt, alloc));
     let stage = make(rt, alloc, stage, &calls);
     assert_octets(rt, "Positive response", stage.as_slice(), expected);

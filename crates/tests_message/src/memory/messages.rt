@@ -61,7 +61,7 @@ fn assert_record<R: Abort + Print, T: Composer, S: RecordStage, D: ComposeRecord
 }
 
 /// The name in an array.
-fn name_of<R: Abort, const N: usize>(rt: &R, octets: [u8; N]) -> Name<[u8; N]> {
+pub(crate) fn name_of<R: Abort, const N: usize>(rt: &R, octets: [u8; N]) -> Name<[u8; N]> {
     Name::from_octets(octets).expect(rt, "a name")
 }
 

@@ -72,9 +72,10 @@ fn target_of(alloc: Global, octets: &[u8]) -> Result<Vec<u8>, AppendError> {
 /// The first octets of a `Vec` without a capacity.
 #[test]
 fn takes_what_it_needs_where_more_is_refused(rt: HostRuntime) {
+    let alloc = rt.alloc();
     let octets = b"\x01a\x00";
-    let target = target_of(rt.alloc(), octets).expect(&rt, "memory");
+    let target = target_of(alloc, octets).expect(&rt, "memory");
     assert_octets(&rt, "first octets", &target, octets);
-    let stream = StreamTarget::new_vec(rt.alloc()).expect(&rt, "memory");
+    let stream = StreamTarget::new_vec(alloc).expect(&rt, "memory");
     assert_octets(&rt, "stream", stream.as_stream_slice(), b"\x00\x00");
 }

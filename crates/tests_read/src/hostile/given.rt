@@ -2,7 +2,7 @@
 use crate::hostile::buffer::{Buffer, CAPACITY};
 use crate::hostile::plain::{Entry, Header};
 use arrayvec::ArrayVec;
-use dns_code::HeaderSection;
+use dns_code::{Class, HeaderSection, Rtype};
 use dns_data::{ComposeRecordData, UnknownRecordData};
 use dns_item::{ParsedRecord, Question, Record, RecordHeader, Ttl};
 use dns_read::{RecordSection, Section};
@@ -64,17 +64,23 @@ impl Given for Name<&[u8]> {
     }
 }
 
+/// An entry with these fields.
+fn entry_of(name: &ParsedName<'_>, rtype: Rtype, class: Class, ttl: u32, data: Buffer) -> Entry {
+    Entry {
+        name: name.plain(),
+        rtype: rtype.to_int(),
+        class: class.to_int(),
+        ttl,
+        data,
+    }
+}
+
 impl Given for Question<ParsedName<'_>> {
     type Plain = Entry;
 
     fn plain(&self) -> Entry {
-        Entry {
-            name: self.qname().plain(),
-            rtype: self.qtype().to_int(),
-            class: self.qclass().to_int(),
-            ttl: 0,
-            data: Buffer::new(),
-        }
+        let data = Buffer::new();
+        entry_of(self.qname(), self.qtype(), self.qclass(), 0, data)
     }
 }
 
@@ -82,13 +88,8 @@ impl Given for RecordHeader<ParsedName<'_>> {
     type Plain = Header;
 
     fn plain(&self) -> Header {
-        let header = Entry {
-            name: self.owner().plain(),
-            rtype: self.rtype().to_int(),
-            class: self.class().to_int(),
-            ttl: self.ttl().as_secs(),
-            data: Buffer::new(),
-        };
+        let ttl = self.ttl().as_secs();
+        let header = entry_of(self.owner(), self.rtype(), self.class(), ttl, Buffer::new());
         (header, self.rdlen())
     }
 }
@@ -110,13 +111,8 @@ impl<'a> Given for ParsedRecord<'a> {
             Ok(record) => expanded(record.data()),
             Err(_) => Buffer::of(b"no data"),
         };
-        Entry {
-            name: self.owner().plain(),
-            rtype: self.rtype().to_int(),
-            class: self.class().to_int(),
-            ttl: self.ttl().as_secs(),
-            data,
-        }
+        let ttl = self.ttl().as_secs();
+        entry_of(&self.owner(), self.rtype(), self.class(), ttl, data)
     }
 }
 
@@ -124,13 +120,9 @@ impl<D: ComposeRecordData> Given for Record<ParsedName<'_>, D> {
     type Plain = Entry;
 
     fn plain(&self) -> Entry {
-        Entry {
-            name: self.owner().plain(),
-            rtype: self.rtype().to_int(),
-            class: self.class().to_int(),
-            ttl: self.ttl().as_secs(),
-            data: expanded(self.data()),
-        }
+        let ttl = self.ttl().as_secs();
+        let data = expanded(self.data());
+        entry_of(self.owner(), self.rtype(), self.class(), ttl, data)
     }
 }
 

@@ -5,15 +5,10 @@ use dns_read::Section;
 use dns_wire::ParseError;
 use std::alloc::Global;
 use std::process::Abort;
-use tests_plain::{EntryKind, PlainEntry};
+use tests_plain::{EntryKind, PlainEntry, name_end};
 
 /// What is encoded at an offset and the offset after it, or why it can't be read.
 pub(crate) type Located<T> = Result<(T, usize), ParseError>;
-
-/// The offset after the name at this offset, which may be malformed where its pointer leads.
-pub(crate) fn name_end(octets: &[u8], offset: usize) -> Result<usize, ParseError> {
-    tests_plain::name_end(octets, offset)
-}
 
 /// The uncompressed name that is encoded at this offset, or its leftmost error.
 pub(crate) fn name_at(octets: &[u8], offset: usize) -> Located<Buffer> {
@@ -62,12 +57,6 @@ fn entry_of(octets: &[u8], entry: &PlainEntry) -> (Entry, usize) {
 pub(crate) fn entry_at(octets: &[u8], section: u8, offset: usize) -> Located<Entry> {
     let entry = tests_plain::entry_at(octets, kind_of(section), offset)?;
     Ok(entry_of(octets, &entry))
-}
-
-/// The offset after the entry of a section at this offset. Its name may be malformed where its
-/// pointer leads.
-pub(crate) fn skip_entry(octets: &[u8], section: u8, offset: usize) -> Result<usize, ParseError> {
-    tests_plain::entry_end(octets, kind_of(section), offset)
 }
 
 /// The record header at this offset.

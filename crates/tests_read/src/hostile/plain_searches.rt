@@ -137,23 +137,6 @@ pub(crate) fn readable_records(message: &Plain<'_>) -> (usize, Option<ParseError
     (records, None)
 }
 
-/// The number of lines that are printed for a message: two, one for each entry, one for each error,
-/// and one for the first section without a start.
-pub(crate) fn line_count(message: &Plain<'_>) -> usize {
-    let mut lines = 2_usize;
-    for section in 0..=3 {
-        let (entries, fault) = readable(message, section);
-        lines = lines.saturating_add(entries);
-        if fault.is_some() {
-            lines = lines.saturating_add(1);
-        }
-        if message.start(section).is_err() {
-            break;
-        }
-    }
-    lines
-}
-
 /// Whether the questions are the same, ignoring the ASCII case of names.
 fn is_same_question(question: &Entry, other: &Entry) -> bool {
     question

@@ -22,34 +22,22 @@ pub(crate) fn assert_question_searches(
     plain: &Plain<'_>,
 ) {
     let first = first_question(plain);
-    assert_same(
-        rt,
-        row,
-        "first question",
-        message.first_question().plain(),
-        first,
-    );
-    let sole = sole_question(plain);
-    assert_same(
-        rt,
-        row,
-        "sole question",
-        message.sole_question().plain(),
-        sole,
-    );
     let rtype = first.map(|question| question.rtype);
-    let found = message.qtype().map(|rtype| rtype.to_int());
-    assert_same(rt, row, "type of the question", found, rtype);
-    let is_xfr = matches!(rtype, Some(251 | 252));
-    assert_same(rt, row, "transfer", message.is_xfr(), is_xfr);
-    let name = canonical_name(plain);
-    assert_same(
-        rt,
-        row,
-        "canonical name",
+    let found = (
+        message.first_question().plain(),
+        message.sole_question().plain(),
+        message.qtype().map(|rtype| rtype.to_int()),
+        message.is_xfr(),
         message.canonical_name().plain(),
-        name,
     );
+    let expected = (
+        first,
+        sole_question(plain),
+        rtype,
+        matches!(rtype, Some(251 | 252)),
+        canonical_name(plain),
+    );
+    assert_same(rt, row, "questions and canonical name", found, expected);
 }
 
 /// The payload size, the TTL and the options of the OPT record.
@@ -76,21 +64,20 @@ pub(crate) fn assert_record_searches(
     message: &Message<&[u8]>,
     plain: &Plain<'_>,
 ) {
-    let has_address = contains_answer(plain, 1);
-    assert_same(
-        rt,
-        row,
-        "an address",
-        message.contains_answer::<A>(),
-        has_address,
-    );
-    let last = message.get_last_additional::<A>().plain();
-    assert_same(rt, row, "last address", last, last_additional(plain, 1));
     let opt = opt(plain);
-    let expected = opt.map(|opt| (opt.class, opt.ttl, opt.data));
-    assert_same(rt, row, "OPT record", opt_of(message), expected);
-    let rcode = message.opt_rcode().to_int();
-    assert_same(rt, row, "rcode", rcode, rcode_of(plain.octets, opt));
+    let found = (
+        message.contains_answer::<A>(),
+        message.get_last_additional::<A>().plain(),
+        opt_of(message),
+        message.opt_rcode().to_int(),
+    );
+    let expected = (
+        contains_answer(plain, 1),
+        last_additional(plain, 1),
+        opt.map(|opt| (opt.class, opt.ttl, opt.data)),
+        rcode_of(plain.octets, opt),
+    );
+    assert_same(rt, row, "addresses and OPT record", found, expected);
 }
 
 /// Checks whether each message is a response to the other.

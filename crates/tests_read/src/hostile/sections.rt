@@ -19,15 +19,10 @@ pub(crate) fn assert_questions(
     let mut reading = plain.reading(0).expect(rt, row);
     let mut questions = message.question();
     for _ in 0..=u16::MAX {
-        assert_same(
-            rt,
-            row,
-            "offset of a question",
-            questions.pos(),
-            reading.offset,
-        );
         let starts = [questions.answer().plain(), questions.next_section().plain()];
-        assert_same(rt, row, "answer section", starts, [reading.start_after; 2]);
+        let found = (questions.pos(), starts);
+        let expected = (reading.offset, [reading.start_after; 2]);
+        assert_same(rt, row, "offset and answer section", found, expected);
         let expected = reading.next();
         assert_same(rt, row, "question", questions.next().plain(), expected);
         if expected.is_none() {
@@ -47,7 +42,6 @@ fn next_start(reading: &Reading<'_>) -> Result<Option<usize>, ParseError> {
 /// Checks the offset of a cursor after a reading, and that the cursor and each iterator over it
 /// advance to the next section.
 fn assert_cursor(rt: &impl Abort, row: &str, records: RecordSection<'_>, reading: &Reading<'_>) {
-    assert_same(rt, row, "offset of a record", records.pos(), reading.offset);
     let all = records.into_records::<Opaque<'_>>();
     let starts = [
         records.next_section().plain(),
@@ -55,7 +49,9 @@ fn assert_cursor(rt: &impl Abort, row: &str, records: RecordSection<'_>, reading
         records.limit_to_in::<A>().next_section().plain(),
         all.next_section().plain(),
     ];
-    assert_same(rt, row, "next section", starts, [next_start(reading); 4]);
+    let found = (records.pos(), starts);
+    let expected = (reading.offset, [next_start(reading); 4]);
+    assert_same(rt, row, "offset and next section", found, expected);
 }
 
 /// Checks that a cursor over records, and an iterator over them with their RDATA, yield what a
@@ -70,14 +66,8 @@ fn assert_records(
     for _ in 0..=u16::MAX {
         assert_cursor(rt, row, records, &reading);
         let expected = reading.next();
-        assert_same(rt, row, "record", records.next().plain(), expected);
-        assert_same(
-            rt,
-            row,
-            "record with its data",
-            all.next().plain(),
-            expected,
-        );
+        let found = [records.next().plain(), all.next().plain()];
+        assert_same(rt, row, "record, and with its data", found, [expected; 2]);
         if expected.is_none() {
             break;
         }

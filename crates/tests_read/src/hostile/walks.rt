@@ -2,13 +2,14 @@
 use crate::hostile::asserts::{assert_read, assert_same};
 use crate::hostile::data::assert_data;
 use crate::hostile::given::Given;
-use crate::hostile::plain::{entry_at, header_at, name_at, name_end, skip_entry};
+use crate::hostile::plain::{entry_at, header_at, name_at};
 use crate::hostile::plain_data::{header_skipped, octets_at, whole_name};
 use dns_code::HeaderSection;
 use dns_item::{ParsedRecord, Question, RecordHeader, Ttl};
 use dns_wire::{Name, ParseError, ParsedName, Parser};
 use std::alloc::Global;
 use std::process::Abort;
+use tests_plain::{EntryKind, entry_end, name_end};
 
 /// Checks the name, the question and the record that are read at this offset.
 fn assert_entries(rt: &impl Abort, row: &str, octets: &[u8], parser: Parser<'_>) {
@@ -109,8 +110,8 @@ fn assert_skips(rt: &impl Abort, row: &str, octets: &[u8], parser: Parser<'_>) {
     let record = skipped(answer, after);
     let expected = [
         name_end(octets, offset),
-        skip_entry(octets, 0, offset),
-        skip_entry(octets, 1, offset),
+        entry_end(octets, EntryKind::Question, offset),
+        entry_end(octets, EntryKind::Record, offset),
     ];
     assert_same(
         rt,

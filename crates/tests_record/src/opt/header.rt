@@ -44,10 +44,6 @@ fn reads_the_fields(rt: HostRuntime) {
     ];
     assert_numbers(&rt, "fields", &numbers, &[1232, 19, 0]);
     assert_holds(&rt, "DO", header.dnssec_ok());
-}
-
-#[test]
-fn reads_the_fields_of_a_record(rt: HostRuntime) {
     let data = options(&rt, b"\x00\x03\x00\x00");
     let ttl = Ttl::from_secs(0x0102_8000);
     let opt = OptRecord::from(Record::new(Name::root_slice(), Class::from_int(4096), ttl, data));
@@ -56,8 +52,8 @@ fn reads_the_fields_of_a_record(rt: HostRuntime) {
         u32::from(opt.rcode(message()).to_int()),
         u32::from(opt.version()),
     ];
-    assert_numbers(&rt, "fields", &numbers, &[4096, 19, 2]);
-    assert_holds(&rt, "DO", opt.dnssec_ok());
+    assert_numbers(&rt, "fields of a record", &numbers, &[4096, 19, 2]);
+    assert_holds(&rt, "DO of a record", opt.dnssec_ok());
     let record = opt.as_record();
     assert_holds(&rt, "TTL", record.ttl() == ttl);
     assert_octets(&rt, "options", record.data().data(), b"\x00\x03\x00\x00");

@@ -3,6 +3,3 @@ use Rattle.tests_wire.proofs.targets.writes_over_octets.Goals as goal
 
 pub assert_written_over-requires-clause-clear : goal.assert_written_over-requires-clause-clear
 assert_written_over-requires-clause-clear g c = clear_nothing 1 2
-
-pub assert_written_over-requires-2-clause-clear : goal.assert_written_over-requires-2-clause-clear
-assert_written_over-requires-2-clause-clear g c = clear_nothing 1 2
