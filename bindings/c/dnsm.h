@@ -406,7 +406,7 @@ dnsm_status dnsm_data_name_octets(const uint8_t *message, size_t message_len, co
 
 /* Writes the RDATA that a text represents, as in a zone file: what dnsm_data_text writes for RDATA of this type, or `\#` with a
  * length and hexadecimal digits (RFC 3597 section 5), which have to be RDATA of this type, too. Names are absolute. Allocates, and takes
- * up to 96 KiB of stack.
+ * up to 192 KiB of stack, for NSEC, NSEC3 and CSYNC; else up to 96 KiB. A thread of musl has 128 KiB, unless it is given more.
  *
  * Errors: DNSM_NO_ROOM, DNSM_BAD_TEXT, and DNSM_NO_MEMORY. */
 dnsm_status dnsm_data_from_text(uint16_t type, const char *text, size_t text_len, uint8_t *out, size_t out_len, size_t *len);

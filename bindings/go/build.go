@@ -21,7 +21,10 @@ func Build(id, flags uint16, items []NewItem) ([]byte, error) {
 	if capacity > 65535 {
 		capacity = 65535
 	}
-	passed, free := pass(items)
+	passed, free, err := pass(items)
+	if err != nil {
+		return nil, err
+	}
 	defer free()
 	// Enough for the message, or for what TCP carries. A longer message is written by a second call.
 	return writtenInto(make([]byte, capacity), func(out []byte, length *C.size_t) C.dnsm_status {
@@ -43,7 +46,7 @@ func withTexts(items []NewItem) ([]NewItem, error) {
 }
 
 // pass copies items, with names and data, to memory of C, because an array that is passed to C may not point to memory of Go.
-func pass(items []NewItem) (passed *C.dnsm_new_item, free func()) {
+func pass(items []NewItem) (passed *C.dnsm_new_item, free func(), err error) {
 	size := len(items) * int(unsafe.Sizeof(C.dnsm_new_item{}))
 	offset := size
 	for i := range items {
@@ -51,6 +54,9 @@ func pass(items []NewItem) (passed *C.dnsm_new_item, free func()) {
 	}
 	// One octet more, so that each pointer is within the memory.
 	memory := C.calloc(1, C.size_t(size+1))
+	if memory == nil {
+		return nil, nil, NoMemory
+	}
 	octets := unsafe.Slice((*byte)(memory), size+1)
 	array := unsafe.Slice((*C.dnsm_new_item)(memory), len(items))
 	for i := range items {
@@ -64,30 +70,39 @@ func pass(items []NewItem) (passed *C.dnsm_new_item, free func()) {
 		to.ttl, to._type, to.class_ = C.uint32_t(from.TTL), C.uint16_t(from.Type), C.uint16_t(from.Class)
 		to.section = C.uint8_t(from.Section)
 	}
-	return (*C.dnsm_new_item)(memory), func() { C.free(memory) }
+	return (*C.dnsm_new_item)(memory), func() { C.free(memory) }, nil
 }
 
-// Query is a query with one question of class IN. Choose the ID at random if it goes over UDP. `recursion` sets RD.
+// Query is a query with one question of class IN. Choose the ID at random if it goes over UDP. `recursion` sets RD. The error is
+// BadText if the text is no name.
 func Query(id uint16, recursion bool, name string, type_ Type) ([]byte, error) {
-	from := []byte(name)
-	return written(func(out []byte, length *C.size_t) C.dnsm_status {
-		return C.dnsm_query(C.uint16_t(id), C.bool(recursion), chars(from), C.size_t(len(from)), C.uint16_t(type_),
-			C.uint16_t(ClassIN), pointer(out), C.size_t(len(out)), length)
-	})
+	return QueryClass(id, recursion, name, type_, ClassIN, nil)
 }
 
 // QueryOPT is a query like that of Query, with an OPT record. The error is BadText if the text is no name, or LongData for more than
 // 65,535 octets of options.
 func QueryOPT(id uint16, recursion bool, name string, type_ Type, opt *OPT) ([]byte, error) {
+	return QueryClass(id, recursion, name, type_, ClassIN, opt)
+}
+
+// QueryClass is a query like that of QueryOPT, for a class, as ClassCH. Without an OPT record if `opt` is nil.
+func QueryClass(id uint16, recursion bool, name string, type_ Type, class Class, opt *OPT) ([]byte, error) {
+	from := []byte(name)
+	if opt == nil {
+		return written(func(out []byte, length *C.size_t) C.dnsm_status {
+			return C.dnsm_query(C.uint16_t(id), C.bool(recursion), chars(from), C.size_t(len(from)), C.uint16_t(type_),
+				C.uint16_t(class), pointer(out), C.size_t(len(out)), length)
+		})
+	}
 	options, err := opt.data()
 	if err != nil {
 		return nil, err
 	}
-	from, fields := []byte(name), opt.fields()
+	fields := opt.fields()
 	// Enough for each query with these options.
 	out := make([]byte, 282+len(options))
 	return writtenInto(out, func(out []byte, length *C.size_t) C.dnsm_status {
-		return C.dnsm_query_opt(C.uint16_t(id), C.bool(recursion), chars(from), C.size_t(len(from)), C.uint16_t(type_), C.uint16_t(ClassIN),
+		return C.dnsm_query_opt(C.uint16_t(id), C.bool(recursion), chars(from), C.size_t(len(from)), C.uint16_t(type_), C.uint16_t(class),
 			&fields, pointer(options), C.size_t(len(options)), pointer(out), C.size_t(len(out)), length)
 	})
 }

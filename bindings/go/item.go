@@ -65,12 +65,11 @@ func (i Item) DataText() string {
 // DataName is a name in the RDATA, counted from 0 in the order of the fields; SOA has two. No octet after the RDATA belongs to it. The
 // error is BadSection for a question, NoName if there is none, and BadData if the RDATA isn't that of its type.
 func (i Item) DataName(index uint) (string, error) {
-	var offset C.size_t
-	status := C.dnsm_data_name(pointer(i.octets), C.size_t(len(i.octets)), &i.item, C.size_t(index), &offset)
-	if status != C.DNSM_OK {
-		return "", Status(status)
+	offset, err := i.DataNameOffset(index)
+	if err != nil {
+		return "", err
 	}
-	return nameText(i.octets, offset)
+	return nameText(i.octets, C.size_t(offset))
 }
 
 // DataNameOctets is the octets of such a name, without compression pointers. The errors are those of DataName.
@@ -79,6 +78,13 @@ func (i Item) DataNameOctets(index uint) ([]byte, error) {
 		return C.dnsm_data_name_octets(pointer(i.octets), C.size_t(len(i.octets)), &i.item, C.size_t(index), pointer(out),
 			C.size_t(len(out)), length)
 	})
+}
+
+// DataNameOffset is the offset of such a name in the message. The errors are those of DataName.
+func (i Item) DataNameOffset(index uint) (int, error) {
+	var offset C.size_t
+	status := C.dnsm_data_name(pointer(i.octets), C.size_t(len(i.octets)), &i.item, C.size_t(index), &offset)
+	return int(offset), failure(status)
 }
 
 // String is a line of a zone file.

@@ -41,6 +41,16 @@ func NameHash(name, seed []byte) (uint32, error) {
 	return uint32(hash), failure(status)
 }
 
+// NameTextAt is the text of the name at an offset, with a dot after each label.
+func NameTextAt(octets []byte, offset uint) (string, error) {
+	return nameText(octets, C.size_t(offset))
+}
+
+// NameOctetsAt is the octets of the name at an offset, without compression pointers.
+func NameOctetsAt(octets []byte, offset uint) ([]byte, error) {
+	return nameOctets(octets, C.size_t(offset))
+}
+
 // NameEnd is the offset after the name at an offset. A compression pointer ends a name.
 func NameEnd(octets []byte, offset uint) (int, error) {
 	var end C.size_t

@@ -4,6 +4,7 @@ import (
 	"bytes"
 	"errors"
 	"reflect"
+	"strings"
 	"testing"
 )
 
@@ -73,6 +74,32 @@ func TestFields(t *testing.T) {
 	}
 }
 
+// RFC 1035 section 3.4.1, RFC 3596 section 2.2, RFC 8659 section 4.1, RFC 4034 section 3.1.
+func TestFieldsOfOctets(t *testing.T) {
+	address := []byte("0123456789abcdef")
+	octets, err := Build(1, QR, []NewItem{
+		answer(".", TypeA, address[:4]),
+		answer(".", TypeAAAA, address),
+		answer(".", TypeCAA, []byte("\x00\x05issuea")),
+		answer(".", TypeRRSIG, []byte("\x00\x0f"+strings.Repeat("\x00", 17)+"sig")),
+	})
+	if err != nil {
+		t.Fatal(err)
+	}
+	number := Field{Kind: FieldNumber}
+	for i, wanted := range [][]Field{
+		{{Kind: FieldIPv4, Octets: address[:4]}},
+		{{Kind: FieldIPv6, Octets: address}},
+		{number, {Kind: FieldString, Octets: []byte("issue")}, {Kind: FieldOctets, Octets: []byte("a")}},
+		{{Kind: FieldType, Number: 15}, number, number, number, number, number, number, {Kind: FieldName, Name: "."},
+			{Kind: FieldOctets, Octets: []byte("sig")}},
+	} {
+		if fields, err := itemsOf(t, octets)[i].Fields(); err != nil || !reflect.DeepEqual(fields, wanted) {
+			t.Error(fields, err)
+		}
+	}
+}
+
 func TestNamesAreCompared(t *testing.T) {
 	one, other := octetsOf(t, "www.Example"), octetsOf(t, "WWW.example")
 	if equal, err := NamesEqual(one, other); err != nil || !equal {
@@ -129,6 +156,15 @@ func TestOffsets(t *testing.T) {
 	}
 	if _, err := NameEnd([]byte(mailResponse), uint(len(mailResponse))); !errors.Is(err, ShortInput) {
 		t.Error(err)
+	}
+	if name, err := NameTextAt([]byte(mailResponse), 43); err != nil || name != "mail.example.org." {
+		t.Error(name, err)
+	}
+	if name, err := NameOctetsAt([]byte(mailResponse), 43); err != nil || !bytes.Equal(name, octetsOf(t, "mail.example.org")) {
+		t.Error(name, err)
+	}
+	if name, err := NameOctetsAt([]byte(mailResponse), uint(len(mailResponse))); name != nil || !errors.Is(err, ShortInput) {
+		t.Error(name, err)
 	}
 }
 
@@ -204,6 +240,9 @@ func TestResponses(t *testing.T) {
 	}
 	if _, err := NewResponse(made, []byte(mailResponse), 0); !errors.Is(err, IsResponse) {
 		t.Error(err)
+	}
+	if builder, err := NewResponse(make([]byte, 512), query, 5); err != nil || builder.Flags() != QR|RD|5 {
+		t.Error(builder, err)
 	}
 }
 

@@ -138,22 +138,36 @@ func TestLongDataIsWhole(t *testing.T) {
 	}
 }
 
+// Items with more octets than an address of 47 bits can tell apart.
+func TestThereMayBeNoMemory(t *testing.T) {
+	items, data := make([]NewItem, 1<<18), make([]byte, 1<<29)
+	for i := range items {
+		items[i] = answer(".", 65280, data)
+	}
+	if octets, err := Build(1, 0, items); octets != nil || !errors.Is(err, NoMemory) {
+		t.Error(len(octets), err)
+	}
+}
+
 func TestAllNamesAreFound(t *testing.T) {
 	_, items := read(t, whole)
 	for _, it := range []struct {
 		item, index uint
 		name        string
+		offset      int
 		err         error
 	}{
-		{0, 0, "", BadSection},
-		{1, 0, "mx.example.", nil},
-		{1, 1, "", NoName},
-		{2, 0, "ns.example.", nil},
-		{2, 1, "host.example.", nil},
-		{2, 2, "", NoName},
+		{0, 0, "", 0, BadSection},
+		{1, 0, "mx.example.", 39, nil},
+		{1, 1, "", 0, NoName},
+		{2, 0, "ns.example.", 56, nil},
+		{2, 1, "host.example.", 61, nil},
+		{2, 2, "", 0, NoName},
 	} {
 		name, err := items[it.item].DataName(it.index)
 		equal(t, []interface{}{name, err}, []interface{}{it.name, it.err})
+		offset, err := items[it.item].DataNameOffset(it.index)
+		equal(t, []interface{}{offset, err}, []interface{}{it.offset, it.err})
 	}
 }
 
@@ -216,12 +230,15 @@ func TestAllFieldsAreWritten(t *testing.T) {
 func TestQueriesAndResponsesHaveAllFields(t *testing.T) {
 	asked, err := Query(0x102, false, "a.b", TypeMX)
 	equal(t, []interface{}{string(asked), err}, []interface{}{"\x01\x02" + "\x00\x00\x00\x01\x00\x00\x00\x00\x00\x00\x01a\x01b\x00\x00\x0f\x00\x01", nil})
+	asked, err = QueryClass(0x102, false, "a.b", TypeTXT, ClassCH, nil)
+	wanted := "\x01\x02" + "\x00\x00\x00\x01\x00\x00\x00\x00\x00\x00\x01a\x01b\x00\x00\x10\x00\x03"
+	equal(t, []interface{}{string(asked), err}, []interface{}{wanted, nil})
 	asked, err = Query(0x102, true, "a.b.", TypeA)
 	question := "\x01a\x01b\x00\x00\x01\x00\x01"
 	equal(t, []interface{}{string(asked), err}, []interface{}{"\x01\x02\x01\x00\x00\x01\x00\x00\x00\x00\x00\x00" + question, nil})
 	for authoritative, flags := range map[bool]string{true: "\x85\x00", false: "\x81\x00"} {
 		response, err := RespondA(asked, authoritative, 0x1020304, [4]byte{192, 0, 2, 9})
-		wanted := "\x01\x02" + flags + "\x00\x01\x00\x01\x00\x00\x00\x00" + question
+		wanted = "\x01\x02" + flags + "\x00\x01\x00\x01\x00\x00\x00\x00" + question
 		wanted += "\xc0\x0c\x00\x01\x00\x01\x01\x02\x03\x04\x00\x04\xc0\x00\x02\x09"
 		equal(t, []interface{}{string(response), err}, []interface{}{wanted, nil})
 	}
@@ -234,6 +251,10 @@ func TestAQueryHasAnOPTRecord(t *testing.T) {
 	equal(t, []interface{}{string(asked), err}, []interface{}{wanted, nil})
 	asked, err = QueryOPT(1, false, ".", TypeA, &OPT{UDPSize: 512})
 	wanted = "\x00\x01\x00\x00\x00\x01\x00\x00\x00\x00\x00\x01\x00\x00\x01\x00\x01"
+	wanted += "\x00\x00\x29\x02\x00\x00\x00\x00\x00\x00\x00"
+	equal(t, []interface{}{string(asked), err}, []interface{}{wanted, nil})
+	asked, err = QueryClass(1, false, ".", TypeTXT, ClassCH, &OPT{UDPSize: 512})
+	wanted = "\x00\x01\x00\x00\x00\x01\x00\x00\x00\x00\x00\x01\x00\x00\x10\x00\x03"
 	wanted += "\x00\x00\x29\x02\x00\x00\x00\x00\x00\x00\x00"
 	equal(t, []interface{}{string(asked), err}, []interface{}{wanted, nil})
 	_, unnamed := QueryOPT(1, true, "", TypeA, &OPT{})
@@ -375,7 +396,6 @@ func TestEachErrorHasItsNumber(t *testing.T) {
 		}
 	}
 	equal(t, NoRoom.Error(), "the output buffer is too short")
-	// No call can be made to return NoMemory here.
 	equal(t, []interface{}{uint32(NoMemory), NoMemory.Error()}, []interface{}{uint32(11), "an allocation failed"})
 	equal(t, []error{failure(11), failure(99), failure(0)}, []error{NoMemory, Status(99), nil})
 }

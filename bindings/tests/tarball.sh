@@ -49,6 +49,11 @@ servers() {
   linked servers && python3 "$tests/c/serving" servers/serve servers/forward servers/show | diff "$tests/c/serving.txt" -
 }
 
+# The same servers, asked by another program.
+asked() {
+  python3 "$tests/c/clients" dig servers/serve servers/forward | diff "$tests/c/clients.txt" -
+}
+
 # The program of the page.
 quoted_program() {
   quoted c >program.c && $cc $strict -o program "-I$prefix/include" program.c "$prefix/lib/libdnsm.a" && names ./program
@@ -112,6 +117,7 @@ check tarball::shared shared "$cc" pkg-config
 check tarball::installed installed "$cc" pkg-config
 check tarball::static static "$cc"
 check tarball::servers servers "$cc" python3
+check tarball::asked_by_dig asked "$cc" python3 dig
 check tarball::quoted quoted_program "$cc"
 check tarball::calls calls "$cc" python3
 check tarball::cplusplus cplusplus "${CXX:-c++}"

@@ -100,19 +100,18 @@ static size_t exchange(int type, const question *asked)
 {
     const time_t end = time(NULL) + PATIENCE;
     const int made = socket(AF_INET, type, 0);
-    ssize_t got;
-    size_t len = 0;
+    ssize_t got, len = 0;
     set_patience(made, PATIENCE);
     if (connect(made, (struct sockaddr *)&upstream, sizeof upstream) == 0 && send_message(made, type, asked->octets, asked->len))
         while (len == 0 && time(NULL) <= end && (got = receive_message(made, type, reply)) >= 0)
             if (dnsm_answers(asked->octets, asked->len, reply, (size_t)got) == DNSM_OK &&
                 memcmp(asked->octets + 12, reply + 12, asked->name_end - 12) == 0)
-                len = (size_t)got;
+                len = got;
     close(made);
-    return len;
+    return (size_t)len;
 }
 
-/* Sets how many seconds the reply may be kept. Returns false if it can't be read to its end, or has malformed RDATA. */
+/* Sets how many seconds the reply may be kept. Returns false if it is malformed, or has an rcode above 15. */
 static bool read_lifetime(size_t len, uint32_t *lifetime)
 {
     dnsm_header header;
@@ -125,9 +124,9 @@ static bool read_lifetime(size_t len, uint32_t *lifetime)
         uint64_t ttl = item.ttl > INT32_MAX ? 0 : item.ttl; /* RFC 2181 section 8 */
         dnsm_data_field minimum = {.number = ttl};
         size_t index = SOA_MINIMUM;
-        if (item.section == DNSM_QUESTION || item.type == DNSM_TYPE_OPT)
+        if (item.section == DNSM_QUESTION || (item.type == DNSM_TYPE_OPT && item.ttl >> 24 == 0))
             continue;
-        if (dnsm_check_data(reply, len, &item) != DNSM_OK)
+        if (item.type == DNSM_TYPE_OPT || dnsm_check_data(reply, len, &item) != DNSM_OK)
             return false;
         if (item.section == DNSM_AUTHORITY && item.type == DNSM_TYPE_SOA)
             has_soa = dnsm_next_field(reply, len, &item, &index, &minimum) == DNSM_OK;
@@ -267,22 +266,23 @@ static int serve_tcp(int client)
     return 0;
 }
 
-static int open_socket(int type, const char *port)
+static int open_socket(int type, unsigned long port)
 {
-    struct sockaddr_in at = {AF_INET, htons((uint16_t)strtoul(port, NULL, 10)), {htonl(INADDR_LOOPBACK)}, {0}};
+    struct sockaddr_in at = {AF_INET, htons((uint16_t)port), {htonl(INADDR_LOOPBACK)}, {0}};
     const int on = 1, made = socket(AF_INET, type | SOCK_NONBLOCK, 0);
     if (setsockopt(made, SOL_SOCKET, SO_REUSEADDR, &on, sizeof on) != 0 || bind(made, (struct sockaddr *)&at, sizeof at) != 0 ||
         (type == SOCK_STREAM && listen(made, 64) != 0))
-        err(1, "%s", port);
+        err(1, "port %lu", port);
     return made;
 }
 
 int main(int argc, char **argv)
 {
-    if (argc < 3 || inet_pton(AF_INET, argv[2], &upstream.sin_addr) != 1)
+    const unsigned long own = argc > 2 ? strtoul(argv[1], NULL, 10) : 0, theirs = argc > 3 ? strtoul(argv[3], NULL, 10) : 53;
+    if (own < 1 || own > 65535 || theirs < 1 || theirs > 65535 || inet_pton(AF_INET, argv[2], &upstream.sin_addr) != 1)
         errx(1, "usage: forward PORT UPSTREAM [UPSTREAM_PORT]");
-    upstream.sin_port = htons((uint16_t)(argc > 3 ? strtoul(argv[3], NULL, 10) : 53));
-    struct pollfd sockets[] = {{open_socket(SOCK_DGRAM, argv[1]), POLLIN, 0}, {open_socket(SOCK_STREAM, argv[1]), POLLIN, 0}};
+    upstream.sin_port = htons((uint16_t)theirs);
+    struct pollfd sockets[] = {{open_socket(SOCK_DGRAM, own), POLLIN, 0}, {open_socket(SOCK_STREAM, own), POLLIN, 0}};
     if (getrandom(seed, sizeof seed, 0) != sizeof seed)
         err(1, "getrandom");
     signal(SIGCHLD, SIG_IGN);

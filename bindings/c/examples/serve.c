@@ -110,7 +110,7 @@ static void read_zone(const char *path)
             continue;
         dnsm_status status = dnsm_record_from_text(line, text_len, octets, sizeof octets, &len, &item);
         if (status == DNSM_OK)
-            status = add_record(octets, len, &item);
+            status = item.class_ == DNSM_CLASS_IN ? add_record(octets, len, &item) : DNSM_OTHER_CLASS;
         if (status != DNSM_OK) {
             fprintf(stderr, "line %lu of ", number);
             stop(path, dnsm_status_text(status, why, sizeof why, &len) == DNSM_OK ? why : "no record");
@@ -265,9 +265,9 @@ static int serve_tcp(int client)
     return 0;
 }
 
-static int open_socket(int type, const char *address, const char *port)
+static int open_socket(int type, const char *address, unsigned long port)
 {
-    struct sockaddr_in at = {.sin_family = AF_INET, .sin_port = htons((uint16_t)strtoul(port, NULL, 10))};
+    struct sockaddr_in at = {.sin_family = AF_INET, .sin_port = htons((uint16_t)port)};
     const int on = 1, made = socket(AF_INET, type | SOCK_NONBLOCK, 0);
     errno = EINVAL;
     if (inet_pton(AF_INET, address, &at.sin_addr) != 1 || setsockopt(made, SOL_SOCKET, SO_REUSEADDR, &on, sizeof on) != 0 ||
@@ -279,10 +279,11 @@ static int open_socket(int type, const char *address, const char *port)
 int main(int argc, char **argv)
 {
     const char *address = argc > 3 ? argv[3] : "127.0.0.1";
-    if (argc < 3)
+    const unsigned long port = argc > 2 ? strtoul(argv[2], NULL, 10) : 0;
+    if (port < 1 || port > 65535)
         stop("usage", "serve FILE PORT [ADDRESS]");
     read_zone(argv[1]);
-    const int udp = open_socket(SOCK_DGRAM, address, argv[2]), tcp = open_socket(SOCK_STREAM, address, argv[2]);
+    const int udp = open_socket(SOCK_DGRAM, address, port), tcp = open_socket(SOCK_STREAM, address, port);
     struct pollfd sockets[] = {{udp, POLLIN, 0}, {tcp, POLLIN, 0}};
     signal(SIGCHLD, SIG_IGN);
     while (poll(sockets, 2, -1) >= 0) {

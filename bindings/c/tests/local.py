@@ -9,16 +9,16 @@ import time
 
 HERE = os.path.dirname(os.path.abspath(__file__))
 VALGRIND = ["valgrind", "-q", "--leak-check=full", "--trace-children=yes"]
-A, MX, AAAA, AXFR, CH = 1, 15, 28, 252, 3
+A, MX, TXT, AAAA, IXFR, AXFR, ANY, CAA, CH = 1, 15, 16, 28, 251, 252, 255, 257, 3
 RD, CD, OPCODE_STATUS, QR = 0x100, 0x10, 0x1000, 0x8000
 
 
-def query(number, name, kind, class_=1, flags=RD, edns=None, version=0, questions=1, more=b""):
-    """A query. With `edns`, it has an OPT record of this payload size, with DO."""
+def query(number, name, kind, class_=1, flags=RD, edns=None, version=0, questions=1, opts=1):
+    """A query. With `edns`, it has an OPT record of this payload size, with DO, or two."""
     labels = b"".join(bytes([len(it)]) + it.encode() for it in name.split(".") if it) + b"\0"
     opt = b"" if edns is None else b"\0" + struct.pack(">HHBBHH", 41, edns, 0, version, 0x8000, 0)
-    header = struct.pack(">6H", number, flags, questions, 0, 0, bool(opt))
-    return header + (labels + struct.pack(">HH", kind, class_)) * questions + opt + more
+    header = struct.pack(">6H", number, flags, questions, 0, 0, bool(opt) * opts)
+    return header + (labels + struct.pack(">HH", kind, class_)) * questions + opt * opts
 
 
 def free_port():
@@ -42,9 +42,12 @@ def ask_udp(port, octets, patience=10):
 
 
 def ask_tcp(port, *queries):
-    """The responses to queries of one connection."""
+    """The responses to queries of one connection. They are sent in three pieces: the first ends within the length of a query."""
+    octets = b"".join(struct.pack(">H", len(it)) + it for it in queries)
     with socket.create_connection(("127.0.0.1", port), 10) as it, it.makefile("rb") as answers:
-        it.sendall(b"".join(struct.pack(">H", len(octets)) + octets for octets in queries))
+        for piece in (octets[:1], octets[1:3], octets[3:]):
+            it.sendall(piece)
+            time.sleep(0.1)
         return [answers.read(struct.unpack(">H", answers.read(2))[0]) for _ in queries]
 
 

@@ -138,7 +138,17 @@ statuses() {
   for program in show_simply respond; do
     ends_with 1 "$build/$program" <<<zz && ends_with 1 "$build/$program" <. || return
   done
-  ends_with 1 "$build/show" <.
+  ends_with 1 "$build/show" <. && refuse_words
+}
+
+# The servers refuse a number that is no port: 65589 has the low 16 bits of 53. `serve` also refuses a record of another class than IN.
+refuse_words() {
+  local port
+  sed '$a a.example.org. 300 CH TXT "x"' "$here/zone.txt" >"$build/zone" && ends_with 1 timeout 60 "$build/serve" "$build/zone" 65535 || return
+  for port in 65589 0; do
+    ends_with 1 timeout 60 "$build/serve" "$here/zone.txt" $port && ends_with 1 timeout 60 "$build/forward" $port 127.0.0.1 &&
+      ends_with 1 timeout 60 "$build/forward" 65535 127.0.0.1 $port || return
+  done
 }
 
 examples() {
@@ -191,6 +201,20 @@ refuses() {
   [ $told -ge 3 ]
 }
 
+# The version check of dnsm.h, without the library, and that of a header of version 2.1.3.
+compares_versions() {
+  local folder
+  mkdir "$build/later" && sed -E 's/^(#define DNSM_VERSION_NUMBER) .*/\1 20103/' "$header/dnsm.h" >"$build/later/dnsm.h" || return
+  for folder in "$header" "$build/later"; do
+    "$1" -std=c99 -Wall -Wextra -Werror "-I$folder" "$here/version.c" -o "$build/version" && "$build/version" || return
+  done
+}
+
+# The calls that read text, in a thread with little stack.
+reads_in_a_thread() {
+  "$1" -std=gnu11 -O1 -pthread "-I$header" "$here/stack.c" "$archive" "$kit/c/liblibc_c.a" -o "$build/stack" && "$build/stack"
+}
+
 # asked CLIENT PYTHON: serve and forward, asked by another program.
 asked() {
   "$2" "$here/clients" "$1" "$build/serve" "$build/forward" | diff "$here/clients.txt" -
@@ -241,6 +265,8 @@ each_compiler examples gcc clang
 each_compiler examples_of_cpp g++ clang++
 outcome short are_short
 outcome memory refuses "$(command -v gcc clang | head -1)"
+outcome version compares_versions "$(command -v gcc clang | head -1)"
+outcome stack reads_in_a_thread "$(command -v gcc clang | head -1)"
 if command -v valgrind >/dev/null; then
   outcome valgrind checked "$(command -v gcc clang | head -1)"
 else

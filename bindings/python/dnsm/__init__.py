@@ -34,6 +34,7 @@ from ._names import (
     name_hash,
     name_is_below,
     name_key,
+    name_to_octets,
     name_to_text,
     names_are_equal,
 )
@@ -106,6 +107,7 @@ __all__ = [
     "name_hash",
     "name_is_below",
     "name_key",
+    "name_to_octets",
     "name_to_text",
     "names_are_equal",
     "opcode_from_text",

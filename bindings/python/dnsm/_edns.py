@@ -2,9 +2,10 @@
 
 from ctypes import byref, c_size_t
 from dataclasses import dataclass
-from typing import Iterator, Optional, Tuple
+from typing import Iterable, Iterator, List, Optional, Tuple
 
 from . import _calls
+from ._errors import MalformedMessage
 
 DO = 0x8000
 
@@ -67,13 +68,24 @@ def edns_fields(edns: Edns) -> _calls.OptFields:
 
 
 def read_edns(octets: bytes, item: _calls.Item) -> Edns:
-    """The fields and options of an OPT record."""
+    """The fields and options of an OPT record. The error for an option that isn't whole has what is before it."""
     fields = _calls.OptFields()
+    options: List[Option] = []
     _calls.check(_calls.library.dnsm_opt_fields(byref(item), byref(fields)))
+    try:
+        for option in read_options(octets, item):
+            options.append(option)
+    except MalformedMessage as error:
+        error.edns = _made(fields, options)
+        raise
+    return _made(fields, options)
+
+
+def _made(fields: _calls.OptFields, options: Iterable[Option]) -> Edns:
     return Edns(
         fields.udp_size,
         bool(fields.flags & DO),
-        tuple(read_options(octets, item)),
+        tuple(options),
         fields.version,
         fields.rcode_high,
         fields.flags & ~DO,

@@ -1,7 +1,10 @@
 """The errors, which are the statuses of dnsm.h."""
 
 import enum
-from typing import Any, Dict, Tuple, Type
+from typing import TYPE_CHECKING, Any, Dict, Optional, Tuple, Type
+
+if TYPE_CHECKING:
+    from ._edns import Edns
 
 
 class Status(enum.IntEnum):
@@ -49,11 +52,16 @@ class Error(ValueError):
 
     def __reduce__(self) -> Tuple[Any, ...]:
         """Makes pickle and copy pass both arguments."""
-        return type(self), (int(self.status), str(self))
+        return type(self), (int(self.status), str(self)), self.__dict__
 
 
 class MalformedMessage(Error):
-    """Octets that can't be read as a message, or as the part of it that was asked for."""
+    """Octets that can't be read as a message, or as the part of it that was asked for.
+
+    If that is an option, `edns` has the fields of its OPT record, and the options before it.
+    """
+
+    edns: "Optional[Edns]" = None
 
 
 class NameTextError(Error):

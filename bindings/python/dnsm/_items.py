@@ -113,6 +113,12 @@ class Record(Question):
         index = _calls.number(index, 64, "an index")
         return _calls.written(_calls.library.dnsm_data_name_octets, self._octets, len(self._octets), byref(self._item), index)
 
+    def data_name_offset(self, index: int = 0) -> int:
+        """The offset of such a name in the message. Raises what `data_name` raises."""
+        index, offset = _calls.number(index, 64, "an index"), c_size_t()
+        _calls.check(_calls.library.dnsm_data_name(self._octets, len(self._octets), byref(self._item), index, byref(offset)))
+        return int(offset.value)
+
     def fields(self) -> Iterator[Field]:
         """The fields of the RDATA. Raises `DataError` if it isn't that of its type."""
         octets, index, field = self._octets, c_size_t(), _calls.DataField()
@@ -127,7 +133,10 @@ class Record(Question):
                 yield Field(kind, octets[field.place : field.place + field.len])
 
     def edns(self) -> Edns:
-        """The fields and options of an OPT record. Raises `MalformedMessage` if an option isn't whole, and `Error` for other records."""
+        """The fields and options of an OPT record.
+
+        Raises `MalformedMessage` if an option isn't whole, with what is before it in `edns`, and `Error` for other records.
+        """
         return read_edns(self._octets, self._item)
 
     def options(self) -> Iterator[Option]:

@@ -130,7 +130,8 @@ class Message:
     def find_opt(self) -> Optional[FoundOpt]:
         """The only OPT record of the message, anywhere in the additional section, or None.
 
-        Raises `MalformedMessage` if there are two, if its owner isn't the root, or if an item or an option can't be read.
+        Raises `MalformedMessage` if there are two, if its owner isn't the root, or if an item or an option can't be read. The error for
+        an option has the fields, and the options before it, in `edns`.
         """
         octets, item, fields, rcode = self._octets, _calls.Item(), _calls.OptFields(), c_uint16()
         status = _calls.library.dnsm_find_opt(octets, len(octets), byref(fields), byref(item), byref(rcode))
@@ -140,14 +141,17 @@ class Message:
         return FoundOpt(Record(octets, item), read_edns(octets, item), rcode.value)
 
     def edns(self) -> Optional[Edns]:
-        """The first OPT record of the additional section, or None."""
-        opt = next((record for record in self.additional if record.type == Type.OPT), None)
+        """The first OPT record of the additional section, or None. Raises what `Record.edns` raises."""
+        opt = self._opt()
         return opt.edns() if opt else None
 
     def extended_rcode(self) -> int:
         """The rcode with its upper eight bits, if there is an OPT record (RFC 6891 section 6.1.3)."""
-        edns = self.edns()
-        return self.rcode | (edns.rcode_high << 4 if edns else 0)
+        opt = self._opt()
+        return self.rcode | (opt.ttl >> 24 << 4 if opt else 0)
+
+    def _opt(self) -> Optional[Record]:
+        return next((record for record in self.additional if record.type == Type.OPT), None)
 
     def to_text(self) -> str:
         """The message as text, up to the first item that can't be read, of which the text says why."""

@@ -24,6 +24,13 @@ def name_to_text(octets: Octets, offset: int = 0) -> str:
     return _calls.text(_calls.library.dnsm_name_text, octets, len(octets), offset)
 
 
+def name_to_octets(octets: Octets, offset: int = 0) -> bytes:
+    """The octets of the name at an offset, without compression pointers."""
+    octets = _calls.octets_of(octets)
+    offset = _calls.number(offset, 64, "an offset")
+    return _calls.written(_calls.library.dnsm_name_octets, octets, len(octets), offset)
+
+
 def name_end(octets: Octets, offset: int = 0) -> int:
     """The offset after the name at an offset. A compression pointer ends a name."""
     octets, end = _calls.octets_of(octets), c_size_t()

@@ -1,21 +1,25 @@
 """What servers and forwarders use of the package."""
 
+import copy
 import unittest
 
 from dnsm import (
     Builder,
     DataError,
+    Edns,
     Field,
     FieldKind,
     Flag,
     MalformedMessage,
     Message,
     NameTextError,
+    NewRecord,
     NoRoom,
     NotAnswerable,
     Option,
     OptionCode,
     Section,
+    Status,
     Type,
     build,
     compare_names,
@@ -26,6 +30,8 @@ from dnsm import (
     name_hash,
     name_is_below,
     name_key,
+    name_to_octets,
+    name_to_text,
     names_are_equal,
     opcode_text,
     option_text,
@@ -46,6 +52,14 @@ RESPONSE = bytes.fromhex(
     "c00c 000e0001 00000007 0006 0161c00c c02b"
 )
 
+# Names in fields of octets: IPSECKEY has a gateway (RFC 4025), AMTRELAY a relay (RFC 8777), and HIP two servers (RFC 8005).
+NAMES_IN_OCTETS = bytes.fromhex(
+    "000080000000000300000000"
+    "00 002d0001 00000000 0007 0a0302 016100 01"
+    "00 01040001 00000000 0005 0a03 016200"
+    "00 00370001 00000000 000f 0205 0003 2001 6b6579 016300 016400"
+)
+
 
 class Records(unittest.TestCase):
     def setUp(self) -> None:
@@ -63,13 +77,37 @@ class Records(unittest.TestCase):
         self.assertEqual(self.minfo.data_name_octets(), name_from_text("a.example.org"))
         self.assertEqual(self.minfo.data_name_octets(1), name_from_text("mail.example.org"))
         self.assertRaises(DataError, self.minfo.data_name_octets, 2)
+        self.assertEqual([self.mx.data_name_offset(), *map(self.minfo.data_name_offset, (0, 1))], [43, 83, 87])
+        self.assertEqual(name_to_text(RESPONSE, self.minfo.data_name_offset(1)), "mail.example.org.")
+        self.assertEqual(name_to_octets(RESPONSE, 43), name_from_text("mail.example.org"))
+        self.assertRaises(MalformedMessage, name_to_octets, RESPONSE, len(RESPONSE))
+        self.assertRaises(DataError, self.minfo.data_name_offset, 2)
         self.assertEqual(name_end(RESPONSE, self.mx.offset), self.mx.offset + 2)
         self.assertEqual(name_end(RESPONSE, self.mx.data_offset + 2), self.mx.data_offset + 9)
         self.assertRaises(MalformedMessage, name_end, RESPONSE, len(RESPONSE))
 
+    def test_names_in_octets(self) -> None:
+        gateway, relay, servers = Message(NAMES_IN_OCTETS).records
+        self.assertEqual([gateway.data_name(), relay.data_name()], ["a.", "b."])
+        self.assertEqual([servers.data_name(index) for index in (0, 1)], ["c.", "d."])
+        for record, count in ((gateway, 1), (relay, 1), (servers, 2)):
+            self.assertRaises(DataError, record.data_name, count)
+
     def test_fields(self) -> None:
         numbers = [Field(FieldKind.NUMBER, number) for number in (1, 2, 3)]
         self.assertEqual(list(self.srv.fields()), [*numbers, Field(FieldKind.NAME, "x.")])
+
+    def test_fields_of_octets(self) -> None:
+        """RFC 1035 section 3.4.1, RFC 3596 section 2.2, RFC 8659 section 4.1, RFC 4034 section 3.1."""
+        address, rrsig = b"0123456789abcdef", b"\0\x0f" + bytes(17) + b"sig"
+        data = ((Type.A, address[:4]), (Type.AAAA, address), (Type.CAA, b"\0\5issuea"), (Type.RRSIG, rrsig))
+        message = Message(build(1, answer=[NewRecord(".", *it) for it in data]))
+        a, aaaa, caa, signature = (list(record.fields()) for record in message.answer)
+        self.assertEqual((a, aaaa), ([Field(FieldKind.IPV4, address[:4])], [Field(FieldKind.IPV6, address)]))
+        number = Field(FieldKind.NUMBER, 0)
+        self.assertEqual(caa, [number, Field(FieldKind.STRING, b"issue"), Field(FieldKind.OCTETS, b"a")])
+        name, octets = Field(FieldKind.NAME, "."), Field(FieldKind.OCTETS, b"sig")
+        self.assertEqual(signature, [Field(FieldKind.TYPE, Type.MX), *[number] * 6, name, octets])
 
     def test_malformed(self) -> None:
         octets = bytes.fromhex("000080000000000100000000" + "00" + "00010001" + "00000007" + "0003" + "010203")
@@ -128,6 +166,7 @@ class Settings(unittest.TestCase):
             builder.id = 65536
 
     def test_limit(self) -> None:
+        self.assertEqual(Builder.response(query("a", id=1), limit=100).limit, 100)
         builder = Builder(1, limit=100)
         self.assertEqual(builder.limit, 100)
         builder.limit = 16
@@ -149,12 +188,20 @@ class Endings(unittest.TestCase):
         self.assertRaises(MalformedMessage, Message(RESPONSE[:-1]).trailing)
 
     def test_options_before_an_error(self) -> None:
-        octets = bytes.fromhex("000000000000000000000001 000029 04d0 00000000 0009 0003 0001 6e 000a0008")
-        (record,) = Message(octets).additional
-        options = record.options()
-        self.assertEqual(next(options), Option(OptionCode.NSID, b"n"))
+        message = Message(bytes.fromhex("000000070000000000000001 000029 04d0 12038001 0009 0003 0001 6e 000a0008"))
+        (record,) = message.additional
+        options, wanted = record.options(), Option(OptionCode.NSID, b"n")
+        self.assertEqual(next(options), wanted)
         self.assertRaises(MalformedMessage, next, options)
-        self.assertRaises(MalformedMessage, record.edns)
+        for read in (record.edns, message.edns, message.find_opt):
+            with self.assertRaises(MalformedMessage) as raised:
+                read()
+            for error in (raised.exception, copy.copy(raised.exception)):
+                self.assertEqual((error.status, error.edns), (Status.BAD_OPTION, Edns(1232, True, (wanted,), 3, 0x12, 1)))
+        self.assertEqual(message.extended_rcode(), 0x127)
+        with self.assertRaises(MalformedMessage) as raised:
+            Message(b"")
+        self.assertIsNone(raised.exception.edns)
 
 
 class Responses(unittest.TestCase):

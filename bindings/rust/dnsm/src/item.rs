@@ -1,5 +1,5 @@
 //! Questions and records to write.
-use crate::{out, Class, EdnsOption, Error, Rtype, Section};
+use crate::{Class, EdnsOption, Error, Name, Rtype, Section};
 use dnsm_sys::*;
 use std::borrow::Cow;
 
@@ -60,7 +60,13 @@ impl<'a> NewName<'a> {
     pub(crate) fn text(self) -> Result<Cow<'a, str>, Error> {
         match self {
             Self::Text(text) => Ok(Cow::Borrowed(text)),
-            Self::Octets(octets) => out::name_text(octets).map(Cow::Owned),
+            Self::Octets(octets) => {
+                let name = Name::read(octets, 0)?;
+                if name.to_octets() != octets {
+                    return Err(Error::BadText);
+                }
+                Ok(Cow::Owned(name.to_string()))
+            }
         }
     }
 }

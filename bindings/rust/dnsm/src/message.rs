@@ -326,14 +326,35 @@ impl fmt::Display for Item<'_> {
     }
 }
 
-/// A name in a message. It can be read.
+/// A name in a message, or in other octets. It can be read.
+///
+/// ```
+/// use dnsm::{name_from_text, Name};
+///
+/// let (zone, octets) = (name_from_text("example.org")?, b"\x03www\x07EXAMPLE\x03ORG\0");
+/// let name = Name::read(octets, 0)?;
+/// assert!(name.is_below(&Name::read(&zone, 0)?) && name.to_string() == "www.EXAMPLE.ORG.");
+/// # Ok::<(), dnsm::Error>(())
+/// ```
 #[derive(Debug, Clone, Copy)]
 pub struct Name<'a> {
     octets: &'a [u8],
     offset: usize,
 }
 
-impl Name<'_> {
+impl<'a> Name<'a> {
+    /// The name at an offset of octets, as at the start of those of [`name_from_text`](crate::name_from_text).
+    ///
+    /// # Errors
+    ///
+    /// Why no name can be read there.
+    pub fn read(octets: &'a [u8], offset: usize) -> Result<Self, Error> {
+        let mut end = 0;
+        // SAFETY: the pointer and the length are those of the octets, and the reference is to a live value.
+        Error::check(unsafe { dnsm_name_end(octets.as_ptr(), octets.len(), offset, &mut end) })?;
+        Ok(Self { octets, offset })
+    }
+
     /// The octets of the name, without compression pointers.
     pub fn to_octets(&self) -> Vec<u8> {
         // SAFETY: the pointers and the lengths are those of the octets and of a buffer.
@@ -380,7 +401,7 @@ impl Name<'_> {
         status == DNSM_OK && below != 0
     }
 
-    /// The offset of the name in the message.
+    /// The offset of the name in the octets.
     pub fn offset(&self) -> usize {
         self.offset
     }

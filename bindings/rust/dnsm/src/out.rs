@@ -36,19 +36,3 @@ pub fn text(f: &mut fmt::Formatter<'_>, write: impl Fn(*mut u8, usize, &mut usiz
     };
     f.pad(text)
 }
-
-/// The text of the name that the octets are, all of them and without compression pointers.
-pub fn name_text(name: &[u8]) -> Result<String, Error> {
-    // SAFETY: the pointers and the lengths are those of the octets and of a buffer.
-    let read = octets(DNSM_NAME_OCTETS, |out, out_len, len| unsafe {
-        dnsm_name_octets(name.as_ptr(), name.len(), 0, out, out_len, len)
-    })?;
-    if read != name {
-        return Err(Error::BadText);
-    }
-    // SAFETY: the pointers and the lengths are those of the octets and of a buffer.
-    let text = octets(DNSM_NAME_TEXT, |out, out_len, len| unsafe {
-        dnsm_name_text(name.as_ptr(), name.len(), 0, out.cast(), out_len, len)
-    })?;
-    Ok(String::from_utf8(text).expect("texts are ASCII"))
-}

@@ -1,7 +1,7 @@
 //! What servers and forwarders use.
 use dnsm::{
     build, data_from_text, library_version, name_from_text, query, record_from_text, Builder, Class, Error, Field, Item, Message,
-    NewItem, Opcode, OptionCode, Rcode, Rtype, Section,
+    Name, NewItem, Opcode, OptionCode, Rcode, Rtype, Section, QR, RD,
 };
 use std::cmp::Ordering;
 use std::collections::HashSet;
@@ -27,6 +27,19 @@ fn data_is_uncompressed() {
     assert_eq!((read[1].check_data(), read[0].check_data()), (Ok(()), Err(Error::BadSection)));
 }
 
+/// IPSECKEY has a gateway (RFC 4025), AMTRELAY a relay (RFC 8777), and HIP two servers (RFC 8005).
+#[test]
+fn names_are_read_from_fields_of_octets() {
+    let octets = b"\0\0\x80\0\0\0\0\x03\0\0\0\0\
+        \0\0\x2d\0\x01\0\0\0\0\0\x07\x0a\x03\x02\x01a\0\x01\
+        \0\x01\x04\0\x01\0\0\0\0\0\x05\x0a\x03\x01b\0\
+        \0\0\x37\0\x01\0\0\0\0\0\x0f\x02\x05\0\x03\x20\x01key\x01c\0\x01d\0";
+    let read = items(octets);
+    let names = [(0, 0), (1, 0), (2, 0), (2, 1)].map(|(item, index)| read[item].data_name(index).unwrap().to_string());
+    assert_eq!(names, ["a.", "b.", "c.", "d."]);
+    assert_eq!([(0, 1), (1, 1), (2, 2)].map(|(item, index)| read[item].data_name(index).err()), [Some(Error::NoName); 3]);
+}
+
 #[test]
 fn fields_are_read() {
     let read = items(RESPONSE);
@@ -35,6 +48,25 @@ fn fields_are_read() {
         matches!(fields[..], [Field::Number(1), Field::Number(2), Field::Number(3), Field::Name(name)] if name.to_string() == "x.")
     );
     assert_eq!(read[0].fields().next().unwrap().err(), Some(Error::BadSection));
+}
+
+/// RFC 1035 section 3.4.1, RFC 3596 section 2.2, RFC 8659 section 4.1, RFC 4034 section 3.1.
+#[test]
+fn fields_of_octets_are_read() {
+    let (address, rrsig) = (*b"0123456789abcdef", [&b"\0\x0f"[..], &[0; 17], b"sig"].concat());
+    let record = |rtype, data| NewItem::record(Section::Answer, ".", rtype, 0, data);
+    let records = [
+        record(Rtype::A, &address[..4]),
+        record(Rtype::AAAA, &address),
+        record(Rtype::CAA, b"\0\x05issuea"),
+        record(Rtype::RRSIG, &rrsig),
+    ];
+    let octets = build(1, QR, &records).unwrap();
+    let fields: Vec<Vec<_>> = items(&octets).iter().map(|it| it.fields().map(Result::unwrap).collect()).collect();
+    assert!(matches!(fields[0][..], [Field::Address(it)] if it == &address[..4]));
+    assert!(matches!(fields[1][..], [Field::Address(it)] if it == address));
+    assert!(matches!(fields[2][..], [Field::Number(0), Field::Octets(b"issue"), Field::Octets(b"a")]));
+    assert!(matches!(fields[3][..], [Field::Rtype(Rtype::MX), .., Field::Name(_), Field::Octets(b"sig")]));
 }
 
 #[test]
@@ -55,6 +87,20 @@ fn names_are_compared() {
     assert_eq!(asked.key(), b"org\0example\0mail\0");
     assert_eq!((asked.cmp(&read[0].name()), read[0].name().cmp(&asked)), (Ordering::Greater, Ordering::Less));
     assert_eq!(asked.cmp(&read[1].data_name(0).unwrap()), Ordering::Equal);
+}
+
+#[test]
+fn names_are_read_from_octets() {
+    let octets = b"\0\x03www\x07EXAMPLE\x03ORG\0\x01a\xc0\x05";
+    let (name, other) = (Name::read(octets, 1).unwrap(), Name::read(octets, 18).unwrap());
+    assert_eq!((name.to_string(), name.offset(), name.end()), ("www.EXAMPLE.ORG.".to_string(), 1, 18));
+    assert_eq!((other.to_string(), other.offset(), other.end()), ("a.EXAMPLE.ORG.".to_string(), 18, 22));
+    assert_eq!(other.to_octets(), b"\x01a\x07EXAMPLE\x03ORG\0");
+    let owner = items(RESPONSE)[0].name();
+    assert!(other.is_below(&owner) && other != owner && other < name && owner < other);
+    assert_eq!(owner, Name::read(octets, 5).unwrap());
+    let errors = [19, 22, usize::MAX].map(|offset| Name::read(octets, offset).err());
+    assert_eq!(errors, [Some(Error::BadLabel), Some(Error::ShortInput), Some(Error::ShortInput)]);
 }
 
 /// The name of RFC 4034 section 6.1 with the octet 1 in a label, whose key has 1 2 for it.
@@ -129,6 +175,7 @@ fn records_are_put_into_another_message() {
     }
     assert_eq!(Builder::response(&mut out, RESPONSE, 0).err(), Some(Error::IsResponse));
     assert_eq!(Builder::response(&mut out, &build(1, 0, &[]).unwrap(), 0).err(), Some(Error::NoQuestion));
+    assert_eq!(Builder::response(&mut out, &asked, 5).unwrap().flags(), QR | RD | 5);
 }
 
 #[test]
