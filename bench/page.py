@@ -35,7 +35,7 @@ def table(head, rows):
     """A table of Markdown."""
 
     def line(cells):
-        return "|" + "|".join(f" {it} " if it else " " for it in cells) + "|\n"
+        return "|" + "|".join(cells) + "|\n"
 
     return line(head) + "|" + "---|" * len(head) + "\n" + "".join(map(line, rows))
 
