@@ -143,7 +143,7 @@ pub extern "C" fn dns_bench_fresh_index(alloc: Global, work: &Work<'_>, out: &mu
 }
 
 /// The sum of all fields of a message, or `u64::MAX` if the message can't be read. RDATA of A, NS and
-/// CNAME is read; if `fields` isn't 0, instead all RDATA is, as fields of `fields_octets`.
+/// CNAME is read; if `fields` isn't 0, instead all RDATA is, as fields of `fields_table`.
 #[unsafe(no_mangle)]
 pub extern "C" fn dns_bench_walk(octets: &[u8], fields: u32) -> u64 {
     match walk::walk(octets, fields != 0) {

@@ -1,7 +1,7 @@
 //! RDATA of MX, made from values and from text.
 use dns_iana::Rtype;
 use dns_name::Name;
-use fields_read_records::from_text;
+use fields_records::from_text;
 use fields_values::mx;
 use std::alloc::Global;
 

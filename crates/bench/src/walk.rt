@@ -5,7 +5,7 @@ use dns_iana::Rtype;
 use dns_item::{ParsedRecord, Question};
 use dns_name::ParsedName;
 use dns_read::{Message, RecordSection};
-use fields_octets::{Field, FieldData, Value};
+use fields_table::{Field, FieldData, Value};
 
 /// The number of labels without the root, plus the octets of the uncompressed name.
 fn name_sum(name: &ParsedName<'_>) -> u64 {

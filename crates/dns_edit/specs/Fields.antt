@@ -1,10 +1,10 @@
 -- That the table of names in RDATA is that of the fields of the record types.
 use Rattle.std.specs.Prelude.{◌≡◌, ℕ, ◌+◌, List, [], ◌∷◌, Bool, true, false, cond, nat_eq, suc}
 use Rattle.std.specs.List.{list_all}
-use Rattle.fields_octets.specs.RecordTypes.{Definition, TypeDefinition, record_types}
-use Rattle.fields_octets.specs.Shapes.{shape_of}
-use Rattle.fields_octets.specs.declared.shape.Shape.{Shape}
-use Rattle.fields_octets.specs.declared.shape.Shape.TheVariants.{Octets, Name, UncompressedName}
+use Rattle.fields_table.specs.RecordTypes.{Definition, TypeDefinition, record_types}
+use Rattle.fields_table.specs.Shapes.{shape_of}
+use Rattle.fields_table.specs.declared.shape.Shape.{Shape}
+use Rattle.fields_table.specs.declared.shape.Shape.TheVariants.{Octets, Name, UncompressedName}
 use Rattle.dns_edit.specs.Rdata.{name_count, octets_before}
 
 -- The number of names among the fields.
@@ -32,6 +32,6 @@ has_its_names type =
     (cond (nat_eq (name_count type.number) 0) true (cond (nat_eq type.number 35) true (nat_eq (octets_before type.number) (fixed_octets (shapes_of type.fields)))))
     false
 
--- The names in RDATA of each record type of `fields_octets` are those among its fields.
+-- The names in RDATA of each record type of `fields_table` are those among its fields.
 abbrev pub NamesAreFields : Type 0
 NamesAreFields = list_all has_its_names record_types ≡ true

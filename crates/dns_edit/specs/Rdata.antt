@@ -1,4 +1,4 @@
--- Where the names in RDATA are, by the record type: in each type of `fields_octets` with names at known offsets. A server may point to them, also in types whose
+-- Where the names in RDATA are, by the record type: in each type of `fields_table` with names at known offsets. A server may point to them, also in types whose
 -- own names are never compressed, as in RRSIG.
 use Rattle.std.specs.Prelude.{◌≡◌, ℕ, ◌+◌, ◌≤◌, ◌⊎◌, List, [], ◌∷◌, Bool, true, false, cond, nat_eq, get_or}
 use Rattle.dns_name.specs.Names.{NameEndsAt}

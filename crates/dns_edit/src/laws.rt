@@ -30,8 +30,8 @@ pub fn never_both()
     ensures { NeverBoth }
 {}
 
-/// The names in RDATA of each record type in `TABLE` of `fields_octets` are those among its fields.
-#[tactic(auto, unfolding(fields_octets::specs::RecordTypes::record_types))]
+/// The names in RDATA of each record type in `TABLE` of `fields_table` are those among its fields.
+#[tactic(auto, unfolding(fields_table::specs::RecordTypes::record_types))]
 pub fn names_are_fields()
     ensures { NamesAreFields }
 {}

@@ -9,17 +9,17 @@ use Rattle.dns_item.specs.ParsedRecord.{EncodedRecord}
 use Rattle.dns_item.specs.Record.{owner_of, class_of, ttl_of, data_of}
 use Rattle.dns_item.specs.RecordReading.{up_to_rdata_end, IsRecordOf}
 use Rattle.dns_item.specs.declared.record.Record.{Record}
-use Rattle.fields_octets.specs.Data.{rtype_of, parts_of}
-use Rattle.fields_octets.specs.FieldData.{type_layout}
-use Rattle.fields_octets.specs.FieldParts.{named_parts}
-use Rattle.fields_octets.specs.Table.{definitions_of}
-use Rattle.fields_octets.specs.declared.field_data.FieldData.{FieldData}
-use Rattle.fields_print.specs.DataTexts.{data_text}
-use Rattle.fields_print.specs.RecordLines.{record_text}
-use Rattle.fields_print.specs.TypeNames.{class_word, type_word}
-use Rattle.fields_print.specs.ZoneNames.{zone_name_text}
+use Rattle.fields_table.specs.Data.{rtype_of, parts_of}
+use Rattle.fields_table.specs.FieldData.{type_layout}
+use Rattle.fields_table.specs.FieldParts.{named_parts}
+use Rattle.fields_table.specs.Table.{definitions_of}
+use Rattle.fields_table.specs.declared.field_data.FieldData.{FieldData}
+use Rattle.fields_records.specs.DataTexts.{data_text}
+use Rattle.fields_records.specs.RecordLines.{record_text}
+use Rattle.fields_plain.specs.TypeNames.{class_word, type_word}
+use Rattle.fields_plain.specs.ZoneNames.{zone_name_text}
 use Rattle.dns_lines.specs.Show.{data_parts, line}
-use Rattle.fields_print.specs.RdataTexts.{rdata_text}
+use Rattle.fields_records.specs.RdataTexts.{rdata_text}
 use Rattle.dns_lines.specs.ZoneLines.{is_of_message, line_with, record_lines}
 
 module _ (x : EncodedRecord) where

@@ -6,10 +6,10 @@ use Rattle.dns_wire.specs.Parts.{Part}
 use Rattle.dns_item.specs.ParsedRecord.{EncodedRecord}
 use Rattle.dns_item.specs.RecordReading.{up_to_rdata_end}
 use Rattle.dns_read.specs.declared.section.Section.{Section}
-use Rattle.fields_octets.specs.FieldData.{type_layout}
-use Rattle.fields_print.specs.RdataTexts.{rdata_text}
-use Rattle.fields_print.specs.RecordLines.{record_text}
-use Rattle.fields_print.specs.ZoneNames.{zone_name_text}
+use Rattle.fields_table.specs.FieldData.{type_layout}
+use Rattle.fields_records.specs.RdataTexts.{rdata_text}
+use Rattle.fields_records.specs.RecordLines.{record_text}
+use Rattle.fields_plain.specs.ZoneNames.{zone_name_text}
 use Rattle.dns_lines.specs.Show.{line, data_parts, section_word, sections_text}
 
 -- the line of a record, by the parts of its RDATA

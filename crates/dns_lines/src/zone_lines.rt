@@ -12,8 +12,9 @@ use dns_iana::Rtype;
 use dns_item::ParsedRecord;
 use dns_octets::ParseError;
 use dns_read::{Message, Section};
-use fields_octets::FieldData;
-use fields_print::{ClassName, RecordText, TypeName, ZoneName};
+use fields_plain::{ClassName, TypeName, ZoneName};
+use fields_records::RecordText;
+use fields_table::FieldData;
 use std::io;
 use std::io::Write;
 

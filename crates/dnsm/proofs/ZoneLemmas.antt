@@ -4,9 +4,9 @@ use Rattle.dns_wire.specs.Parts.{Part}
 use Rattle.dns_data.specs.Layout.{DataAt}
 use Rattle.dns_item.specs.Items.{RecordEntry}
 use Rattle.dns_item.proofs.theory.EntryLemmas.{record_or_fault}
-use Rattle.fields_octets.specs.FieldData.{type_layout}
-use Rattle.fields_octets.specs.LayoutTypes.{layout_type}
-use Rattle.fields_read_records.specs.FieldWords.{Words}
+use Rattle.fields_table.specs.FieldData.{type_layout}
+use Rattle.fields_table.specs.LayoutTypes.{layout_type}
+use Rattle.fields_records.specs.FieldWords.{Words}
 use Rattle.dnsm_zone.specs.Lines.{AreRecord, HasFields}
 use Rattle.dnsm_read.specs.DataFields.{IsDataIn, data_end}
 use Rattle.dnsm_read.specs.DataTexts.{RecordAt}

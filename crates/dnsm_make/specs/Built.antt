@@ -11,8 +11,8 @@ use Rattle.dns_wire.specs.Targets.{AppendReturns}
 use Rattle.dns_code.specs.Header.{HeaderFields, fields_in}
 use Rattle.dns_code.specs.HeaderSection.{header_size}
 use Rattle.dns_item.specs.Questions.{QuestionItem}
-use Rattle.fields_octets.specs.LayoutTypes.{layout_type}
-use Rattle.fields_octets.specs.UncompressedData.{IsUncompressedData, UncompressedDataFault}
+use Rattle.fields_table.specs.LayoutTypes.{layout_type}
+use Rattle.fields_table.specs.UncompressedData.{IsUncompressedData, UncompressedDataFault}
 use Rattle.dns_item.specs.Items.{RecordItem}
 use Rattle.dns_read.specs.declared.section.Section.{Section}
 use Rattle.dns_read.specs.declared.section.Section.TheVariants.{Answer, Authority, Additional}

@@ -2,7 +2,7 @@
 use Rattle.std.specs.Prelude.{ℕ, List, [], ◌∷◌}
 use Rattle.dns_data.specs.UnknownData.{unknown_octets, unknown_rtype_of}
 use Rattle.dns_wire.specs.Parts.{Part, Octets}
-use Rattle.fields_octets.specs.Data.{parts_of}
+use Rattle.fields_table.specs.Data.{parts_of}
 use Rattle.dnsm_make.specs.declared.new_data.NewData.{NewData}
 use Rattle.dnsm_make.specs.declared.new_data.NewData.TheVariants.{Address, Fields}
 

@@ -1,6 +1,6 @@
 //! The RDATA of items to write.
 ghost use Rattle.std.specs.Prelude.{◌≡◌, IfOk, IfErr};
-ghost use Rattle.fields_octets.specs.Data.{parts_of};
+ghost use Rattle.fields_table.specs.Data.{parts_of};
 ghost use Rattle.dnsm_make.specs.Built.{HasNoFields, IsDataOf};
 ghost use Rattle.dnsm_make.specs.NewData.{new_rtype, new_parts};
 
@@ -11,7 +11,7 @@ use dns_octets::AppendError;
 use dns_wire::Composer;
 use dnsm_read::address::is_address;
 use dnsm_status::CallError;
-use fields_octets::{FieldData, layout_type};
+use fields_table::{FieldData, layout_type};
 
 /// RDATA to write.
 #[derive(Drop)]

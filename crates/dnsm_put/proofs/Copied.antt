@@ -9,14 +9,14 @@ use Rattle.dns_wire.specs.Parts.{Part, parts_size}
 use Rattle.dns_data.proofs.theory.DataReading.{one_rdata}
 use Rattle.dns_item.specs.Questions.{QuestionItem}
 use Rattle.dns_item.specs.Items.{RecordItem}
-use Rattle.fields_octets.specs.Data.{parts_of, rtype_of}
-use Rattle.fields_octets.specs.FieldData.{type_layout}
-use Rattle.fields_octets.specs.FieldOrders.{parts_left}
-use Rattle.fields_octets.specs.FieldParts.{fields_left, named_parts}
-use Rattle.fields_octets.specs.Table.{definitions_of}
-use Rattle.fields_octets.specs.declared.field_data.FieldData.{FieldData}
-use Rattle.fields_octets.specs.declared.fields.Fields.{Fields}
-use Rattle.fields_octets.proofs.theory.NamedFields.{parts_of_fields}
+use Rattle.fields_table.specs.Data.{parts_of, rtype_of}
+use Rattle.fields_table.specs.FieldData.{type_layout}
+use Rattle.fields_table.specs.FieldOrders.{parts_left}
+use Rattle.fields_table.specs.FieldParts.{fields_left, named_parts}
+use Rattle.fields_table.specs.Table.{definitions_of}
+use Rattle.fields_table.specs.declared.field_data.FieldData.{FieldData}
+use Rattle.fields_table.specs.declared.fields.Fields.{Fields}
+use Rattle.fields_table.proofs.theory.NamedFields.{parts_of_fields}
 use Rattle.dnsm_read.specs.DataFields.{IsDataIn, data_end, data_type, up_to_data_end}
 use Rattle.dnsm_read.specs.declared.walk.Item.{Item}
 use Rattle.dnsm_put.specs.declared.draft.Draft.{Draft}

@@ -9,13 +9,13 @@ use Rattle.dns_wire.specs.Parts.{Part, AreParts, parts_size}
 use Rattle.dns_wire.specs.Parts.Part.{Octets, CompressibleName}
 use Rattle.dns_data.specs.Layout.{Layout as Fields, IsLaidOut, DataAt}
 use Rattle.dns_data.specs.Layout.Layout.{AtMost, DomainName, End, Fixed}
-use Rattle.fields_octets.specs.DataOrders.{octets_of_parts}
-use Rattle.fields_octets.specs.FieldData.{type_layout as fields_layout}
-use Rattle.fields_octets.specs.Layouts.{layout_of as kinds_layout, most}
-use Rattle.fields_octets.specs.RecordTypes.{record_types}
-use Rattle.fields_octets.specs.Table.{definitions_of}
-use Rattle.fields_octets.specs.UncompressedData.{IsUncompressedData}
-use Rattle.fields_octets.proofs.theory.UncompressedOctets.{parts_read}
+use Rattle.fields_table.specs.DataOrders.{octets_of_parts}
+use Rattle.fields_table.specs.FieldData.{type_layout as fields_layout}
+use Rattle.fields_table.specs.Layouts.{layout_of as kinds_layout, most}
+use Rattle.fields_table.specs.RecordTypes.{record_types}
+use Rattle.fields_table.specs.Table.{definitions_of}
+use Rattle.fields_table.specs.UncompressedData.{IsUncompressedData}
+use Rattle.fields_table.proofs.theory.UncompressedOctets.{parts_read}
 use Rattle.dnsm_put.specs.declared.draft.PutItem.{PutItem}
 use Rattle.dnsm_put.specs.declared.rdata.Layout.{Layout}
 use Rattle.dnsm_put.specs.declared.rdata.Layout.TheVariants.{Name, TwoNames, Plain}

@@ -1,8 +1,8 @@
 -- That the layouts of RDATA, by the number of the record type, are those of the fields of the types.
 use Rattle.std.specs.Prelude.{◌≡◌, ℕ, ◌+◌, List, [], ◌∷◌, Option, None, Some, map, option_map}
-use Rattle.fields_octets.specs.RecordTypes.{record_types}
-use Rattle.fields_octets.specs.declared.shape.Shape.{Shape}
-use Rattle.fields_octets.specs.declared.shape.Shape.TheVariants.{Octets, Name}
+use Rattle.fields_table.specs.RecordTypes.{record_types}
+use Rattle.fields_table.specs.declared.shape.Shape.{Shape}
+use Rattle.fields_table.specs.declared.shape.Shape.TheVariants.{Octets, Name}
 use Rattle.dnsm_read.specs.NameTables.{shapes_of}
 use Rattle.dnsm_put.specs.Rdata.{type_layout}
 use Rattle.dnsm_put.specs.declared.rdata.Layout.{Layout}

@@ -3,8 +3,8 @@ use Rattle.std.specs.Prelude.{◌≡◌, ℕ, zero, suc, ◌≤◌, List, [], �
 use Rattle.dns_name.specs.Names.{Labels, IsName, uncompressed}
 use Rattle.dns_name.specs.Uncompressed.{IsUncompressed}
 use Rattle.dns_wire.specs.Parts.{Part, Octets, CompressibleName}
-use Rattle.fields_octets.specs.LayoutTypes.{layout_type}
-use Rattle.fields_octets.specs.UncompressedData.{IsUncompressedData}
+use Rattle.fields_table.specs.LayoutTypes.{layout_type}
+use Rattle.fields_table.specs.UncompressedData.{IsUncompressedData}
 use Rattle.dnsm_put.specs.declared.draft.PutItem.{PutItem}
 use Rattle.dnsm_put.specs.declared.rdata.Layout.{Layout}
 use Rattle.dnsm_put.specs.declared.rdata.Layout.TheVariants.{Name, TwoNames, Plain}

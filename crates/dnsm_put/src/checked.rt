@@ -6,7 +6,7 @@ ghost use Rattle.dnsm_put.specs.Refusals.{LacksData};
 use crate::draft::{Draft, PutItem};
 use crate::rdata::{Layout, data_type, has_fields, layout_of_item};
 use dnsm_read::address::is_address;
-use fields_octets::FieldData;
+use fields_table::FieldData;
 
 /// Whether the record type has names that may be compressed. RDATA with these names, and the octets
 /// beside them, is all fields of the type.

@@ -4,8 +4,8 @@ ghost use Rattle.dns_code.specs.HeaderSection.{header_size};
 ghost use Rattle.dns_name.specs.Uncompressed.{IsUncompressed};
 ghost use Rattle.dns_wire.specs.Parts.{Part, parts_size};
 ghost use Rattle.dns_item.specs.Items.{RecordItem};
-ghost use Rattle.fields_octets.specs.Data.{parts_of};
-ghost use Rattle.fields_octets.specs.FieldOrders.{parts_left};
+ghost use Rattle.fields_table.specs.Data.{parts_of};
+ghost use Rattle.fields_table.specs.FieldOrders.{parts_left};
 ghost use Rattle.dnsm_put.specs.Items.{HoldsRecord, IsQuestionOf, IsRecordWith};
 ghost use Rattle.dnsm_put.specs.Drafts.{AddsTo, DraftsStay};
 ghost use Rattle.dnsm_read.specs.DataFields.{IsDataIn};
@@ -18,7 +18,7 @@ use dns_code::HeaderSection;
 use dnsm_read::sections::{ADDITIONAL, QUESTION};
 use dnsm_read::walk::name_at;
 use dnsm_read::{Item, data_fields};
-use fields_octets::{FieldData, Fields};
+use fields_table::{FieldData, Fields};
 
 /// The RDATA of a record, if it is the fields of its type and ends after them.
 fn data_in<'a>(message: &'a [u8], item: &Item) -> Option<FieldData<'a>>

@@ -2,13 +2,13 @@
 ghost use Rattle.std.specs.Prelude.{◌≡◌, ◌+◌, ◌≤◌, length, take, IfSome, IsSome};
 ghost use Rattle.dns_code.specs.HeaderSection.{header_size};
 ghost use Rattle.dns_wire.specs.Parts.{part_size, parts_size};
-ghost use Rattle.fields_octets.specs.EncodedFields.{part_of};
-ghost use Rattle.fields_octets.specs.FieldOrders.{parts_left};
+ghost use Rattle.fields_table.specs.EncodedFields.{part_of};
+ghost use Rattle.fields_table.specs.FieldOrders.{parts_left};
 ghost use Rattle.dnsm_put.specs.Writing.{AreWritten, IsPartWritten};
 
 use crate::names::put_name;
 use crate::octets::put_octets;
-use fields_octets::{Encoded, Fields};
+use fields_table::{Encoded, Fields};
 
 /// Puts a field at offset `at`. Only a name of a type of RFC 1035 is compressed (RFC 3597 section
 /// 4); its pointer leads to an offset below `top`. Returns the offset after the field, or `None` if

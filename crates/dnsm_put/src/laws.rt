@@ -7,8 +7,8 @@ use crate::draft::{Draft, PutError, PutItem};
 use crate::response::ResponseError;
 
 /// The names that `put` compresses are those among the fields of the record types in `TABLE` of
-/// `fields_octets` that may be compressed.
-#[tactic(auto, unfolding(fields_octets::specs::RecordTypes::record_types, fields_octets::specs::Table::definitions_of))]
+/// `fields_table` that may be compressed.
+#[tactic(auto, unfolding(fields_table::specs::RecordTypes::record_types, fields_table::specs::Table::definitions_of))]
 pub fn layouts_are_fields()
     ensures { PutLayoutsAreFields }
 {}

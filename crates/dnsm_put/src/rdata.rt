@@ -10,7 +10,7 @@ use crate::draft::PutItem;
 use crate::names::{is_name, put_name};
 use crate::octets::put_octets;
 use dns_iana::{Class, Rtype};
-use fields_octets::layout_type;
+use fields_table::layout_type;
 
 /// What RDATA consists of, as far as names are concerned.
 #[derive(Clone, Copy)]

@@ -7,12 +7,12 @@ use Rattle.dns_name.specs.Names.Fault.{Form}
 use Rattle.dns_wire.specs.Parts.{Part}
 use Rattle.dns_data.specs.Layout.{DataAt, DataFaultAt}
 use Rattle.dns_item.specs.RecordReading.WholeDataFaultAt.{first, left_over}
-use Rattle.fields_octets.specs.Data.{parts_of, rtype_of}
-use Rattle.fields_octets.specs.FieldData.{type_layout}
-use Rattle.fields_octets.specs.FieldParts.{NamedPart, fields_left, named_parts}
-use Rattle.fields_octets.specs.Table.{Definition, definitions_of}
-use Rattle.fields_octets.specs.declared.field_data.FieldData.{FieldData}
-use Rattle.fields_octets.specs.declared.fields.Fields.{Fields}
+use Rattle.fields_table.specs.Data.{parts_of, rtype_of}
+use Rattle.fields_table.specs.FieldData.{type_layout}
+use Rattle.fields_table.specs.FieldParts.{NamedPart, fields_left, named_parts}
+use Rattle.fields_table.specs.Table.{Definition, definitions_of}
+use Rattle.fields_table.specs.declared.field_data.FieldData.{FieldData}
+use Rattle.fields_table.specs.declared.fields.Fields.{Fields}
 use Rattle.dnsm_read.specs.DataFields.{IsDataIn, IsNoRdata, LacksData, data_end, data_fields, data_type, up_to_data_end}
 use Rattle.dnsm_read.specs.DataNames.{HasFewNames, IsDataName, most_names_in}
 use Rattle.dnsm_read.specs.FieldOffsets.{FieldsAt, IsFieldAt}

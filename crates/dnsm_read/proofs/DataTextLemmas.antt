@@ -6,12 +6,12 @@ use Rattle.dns_name.specs.Names.{fault_of}
 use Rattle.dns_name.specs.declared.parsed_name.ParsedName.{ParsedName}
 use Rattle.dns_octets.specs.declared.error.ParseError.{ParseError}
 use Rattle.dns_data.specs.Printing.{opaque_text}
-use Rattle.fields_octets.specs.Data.{rtype_of, parts_of}
-use Rattle.fields_octets.specs.FieldData.{type_layout}
-use Rattle.fields_octets.specs.FieldParts.{named_parts}
-use Rattle.fields_octets.specs.Table.{definitions_of}
-use Rattle.fields_octets.specs.declared.field_data.FieldData.{FieldData}
-use Rattle.fields_print.specs.DataTexts.{data_line, data_text as fields_line}
+use Rattle.fields_table.specs.Data.{rtype_of, parts_of}
+use Rattle.fields_table.specs.FieldData.{type_layout}
+use Rattle.fields_table.specs.FieldParts.{named_parts}
+use Rattle.fields_table.specs.Table.{definitions_of}
+use Rattle.fields_table.specs.declared.field_data.FieldData.{FieldData}
+use Rattle.fields_records.specs.DataTexts.{data_line, data_text as fields_line}
 use Rattle.dns_item.specs.ParsedData.{HasSpan}
 use Rattle.dns_item.specs.ParsedData.IsParsedData.{whole, fault}
 use Rattle.dns_item.specs.ParsedRecord.{EncodedRecord}
@@ -19,7 +19,7 @@ use Rattle.dns_item.specs.Record.{data_of}
 use Rattle.dns_item.specs.RecordReading.{GivesLaidOut}
 use Rattle.dns_item.specs.declared.record.Record.{Record}
 use Rattle.dns_item.proofs.theory.TypedLemmas.{data_is_parsed}
-use Rattle.fields_print.specs.RdataTexts.{rdata_text}
+use Rattle.fields_records.specs.RdataTexts.{rdata_text}
 use Rattle.dnsm_read.specs.DataTexts.{data_octets, data_text}
 
 module _ (x : EncodedRecord) (span : HasSpan x) where

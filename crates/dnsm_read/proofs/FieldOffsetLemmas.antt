@@ -1,6 +1,5 @@
 -- Where the fields of RDATA are encoded, by the layout of its type, with the names within them.
-use Rattle.std.proofs.Common.{◌≡◌, ◌∙◌, ℕ, ◌+◌, ◌-◌, ◌≤◌, false, List, [], ◌∷◌, ◌++◌, length, take, drop, slice_range}
-use Rattle.std.proofs.Common.{ap, sym, subst, refl, arith, length-append, length-drop}
+use Rattle.std.proofs.Common.{◌≡◌, ◌∙◌, ℕ, ◌+◌, ◌-◌, ◌≤◌, false, List, [], ◌∷◌, ◌++◌, length, take, drop, slice_range, ap, sym, subst, refl, arith, length-append, length-drop}
 use Rattle.std.proofs.lemmas.List.{take_all}
 use Rattle.std.proofs.lemmas.List.Sums.{sum_by-cons}
 use Rattle.dns_name.specs.Names.{NameEndsAt}
@@ -9,13 +8,13 @@ use Rattle.dns_wire.specs.Parts.{Part, parts_size}
 use Rattle.dns_wire.specs.Parts.Part.{Octets as OctetsPart, CompressibleName, UncompressedName as UncompressedPart}
 use Rattle.dns_data.specs.Layout.{Layout, string_size, octets_size, DataAt}
 use Rattle.dns_data.proofs.theory.DataReading.{range_within}
-use Rattle.fields_octets.specs.Accepts.{accepts}
-use Rattle.fields_octets.specs.FieldParts.{NamedPart, named_parts}
-use Rattle.fields_octets.specs.Layouts.{field_layout, layout_of, most, takes_rest}
-use Rattle.fields_octets.specs.Shapes.{shape_of}
-use Rattle.fields_octets.specs.Table.{Definition, kinds_in}
-use Rattle.fields_octets.specs.declared.shape.Shape.{Shape}
-use Rattle.fields_octets.specs.declared.shape.Shape.TheVariants.{Octets, Counted, Sized, Name, UncompressedName, Rest}
+use Rattle.fields_table.specs.Accepts.{accepts}
+use Rattle.fields_table.specs.FieldParts.{NamedPart, named_parts}
+use Rattle.fields_table.specs.Layouts.{field_layout, layout_of, most, takes_rest}
+use Rattle.fields_table.specs.Shapes.{shape_of}
+use Rattle.fields_table.specs.Table.{Definition, kinds_in}
+use Rattle.fields_table.specs.declared.shape.Shape.{Shape}
+use Rattle.fields_table.specs.declared.shape.Shape.TheVariants.{Octets, Counted, Sized, Name, UncompressedName, Rest}
 use Rattle.dnsm_read.specs.DataNames.{most_names, most_names_in}
 use Rattle.dnsm_read.specs.FieldOffsets.{FieldsAt, PartAt}
 use Rattle.dnsm_read.specs.NameOffsets.{NamesFrom, NamesWithin}

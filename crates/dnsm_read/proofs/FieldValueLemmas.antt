@@ -5,12 +5,12 @@ use Rattle.std.proofs.lemmas.List.{drop-drop, drop-take, drop_all, nil_from_leng
 use Rattle.dns_name.specs.Names.{Labels, NameAt}
 use Rattle.dns_wire.specs.Parts.{Part}
 use Rattle.dns_wire.specs.Parts.Part.{Octets as OctetsPart, CompressibleName, UncompressedName}
-use Rattle.fields_octets.specs.EncodedFields.{part_of}
-use Rattle.fields_octets.specs.Values.{FieldValue, octets_value, part_value}
-use Rattle.fields_octets.specs.Values.FieldValue.{Number, RecordType, Ipv4, Ipv6, Name, String, Sized, Octets}
-use Rattle.fields_octets.specs.declared.fields.Field.{Field}
-use Rattle.fields_octets.specs.declared.kind.Kind.{Kind}
-use Rattle.fields_octets.specs.declared.kind.Kind.TheVariants as kinds
+use Rattle.fields_table.specs.EncodedFields.{part_of}
+use Rattle.fields_table.specs.Values.{FieldValue, octets_value, part_value}
+use Rattle.fields_table.specs.Values.FieldValue.{Number, RecordType, Ipv4, Ipv6, Name, String, Sized, Octets}
+use Rattle.fields_table.specs.declared.fields.Field.{Field}
+use Rattle.fields_table.specs.declared.kind.Kind.{Kind}
+use Rattle.fields_table.specs.declared.kind.Kind.TheVariants as kinds
 use Rattle.dnsm_read.specs.FieldOffsets.{PartAt}
 use Rattle.dnsm_read.specs.FieldValues.{HasOctets, IsPlaced, Shows}
 use Rattle.dnsm_read.specs.declared.next_field.DataField.{DataField}

@@ -4,7 +4,7 @@ use Rattle.dns_name.specs.Names.{Labels, NameAt, NameEndsAt}
 use Rattle.dns_name.proofs.theory.ExtentLaws.{one_end}
 use Rattle.dns_wire.specs.Parts.{Part}
 use Rattle.dns_wire.specs.Parts.Part.{Octets, CompressibleName, UncompressedName}
-use Rattle.fields_octets.specs.FieldParts.{NamedPart}
+use Rattle.fields_table.specs.FieldParts.{NamedPart}
 use Rattle.dnsm_read.specs.FieldOffsets.{FieldsAt, IsFieldAt, PartAt}
 
 -- A part that is encoded at an offset has one end.

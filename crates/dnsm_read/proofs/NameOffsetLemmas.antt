@@ -1,6 +1,5 @@
 -- The names within fields: that they are there, and what is known of each.
-use Rattle.std.proofs.Common.{◌≡◌, ◌∙◌, ℕ, zero, suc, ◌+◌, ◌*◌, ◌%◌, ◌<◌, ◌≤◌, ◌==◌, Bool, true, false, List, [], ◌∷◌, ◌++◌, ◌⊎◌, length, drop, get_or}
-use Rattle.std.proofs.Common.{ap, inl, inr, sym, subst, refl, arith, length-drop}
+use Rattle.std.proofs.Common.{◌≡◌, ◌∙◌, ℕ, zero, suc, ◌+◌, ◌*◌, ◌%◌, ◌<◌, ◌≤◌, ◌==◌, Bool, true, false, List, [], ◌∷◌, ◌++◌, ◌⊎◌, length, drop, get_or, ap, inl, inr, sym, subst, refl, arith, length-drop}
 use Rattle.std.specs.Option.{option_to_list}
 use Rattle.std.specs.Prelude.{Option, Result, Some, None, ◌||◌, if◌then◌else◌, is_some, nat_le, nat_lt, slice_get}
 use Rattle.std.proofs.lemmas.Bool.{and_parts, eqb-true, leb-true}
@@ -10,16 +9,16 @@ use Rattle.dns_name.specs.Unique.{EncodedName}
 use Rattle.dns_name.proofs.theory.ExtentLaws.{ends_after, one_end}
 use Rattle.dns_wire.specs.Parts.{Part}
 use Rattle.dns_wire.specs.Parts.Part.{Octets, CompressibleName, UncompressedName}
-use Rattle.fields_octets.specs.Accepts.{accepts}
-use Rattle.fields_octets.specs.Gateways.{gateway_size, is_gateway_and_key, is_relay, is_size}
-use Rattle.fields_octets.specs.HostIdentities.{is_host_identity}
-use Rattle.fields_octets.specs.Layouts.{takes_rest}
-use Rattle.fields_octets.specs.PlainNames.{are_plain_names, plain_name_size}
-use Rattle.fields_octets.specs.Shapes.{shape_of}
-use Rattle.fields_octets.specs.declared.kind.Kind.{Kind}
-use Rattle.fields_octets.specs.declared.kind.Kind.TheVariants as kinds
-use Rattle.fields_octets.specs.declared.kind.Kind.TheVariants.{GatewayAndKey, HostIdentity, Relay}
-use Rattle.fields_octets.specs.declared.shape.Shape.TheVariants as shapes
+use Rattle.fields_table.specs.Accepts.{accepts}
+use Rattle.fields_forms.specs.Gateways.{gateway_size, is_gateway_and_key, is_relay, is_size}
+use Rattle.fields_forms.specs.HostIdentities.{is_host_identity}
+use Rattle.fields_table.specs.Layouts.{takes_rest}
+use Rattle.fields_forms.specs.PlainNames.{are_plain_names, plain_name_size}
+use Rattle.fields_table.specs.Shapes.{shape_of}
+use Rattle.fields_table.specs.declared.kind.Kind.{Kind}
+use Rattle.fields_table.specs.declared.kind.Kind.TheVariants as kinds
+use Rattle.fields_table.specs.declared.kind.Kind.TheVariants.{GatewayAndKey, HostIdentity, Relay}
+use Rattle.fields_table.specs.declared.shape.Shape.TheVariants as shapes
 use Rattle.dnsm_read.specs.DataNames.{most_names}
 use Rattle.dnsm_read.specs.NameOffsets.{Finds, NamesAt, NamesInOctets, NamesWithin, OnlyName, ServersAt, gateway_offset, relay_offset}
 use Rattle.dnsm_read.proofs.PlainNameLemmas.{after_first, plain_name, plain_names}

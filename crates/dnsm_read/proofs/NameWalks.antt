@@ -4,7 +4,7 @@ use Rattle.std.specs.Prelude.{Some, Ok, Err, slice_get}
 use Rattle.dns_name.specs.Names.{NameEndsAt}
 use Rattle.dns_name.specs.Unique.{EncodedName}
 use Rattle.dns_name.proofs.theory.ExtentLaws.{one_end}
-use Rattle.fields_octets.specs.FieldParts.{NamedPart}
+use Rattle.fields_table.specs.FieldParts.{NamedPart}
 use Rattle.dnsm_read.specs.FieldOffsets.{PartAt}
 use Rattle.dnsm_read.specs.NameOffsets.{FindsWithin, IsNameAmong, LacksNameAmong, NamesAt, NamesFrom, NamesWithin}
 use Rattle.dnsm_read.proofs.FieldWalks.{one_part_end}

@@ -1,8 +1,8 @@
 -- How the octets of fields are written one after the other.
 use Rattle.std.proofs.Common.{◌≡◌, ◌∙◌, ℕ, List, [], ◌∷◌, ◌++◌, ap, append_assoc, append-nil, sym}
-use Rattle.fields_octets.specs.DataOrders.{part_octets}
-use Rattle.fields_octets.specs.FieldParts.{NamedPart}
-use Rattle.fields_print.specs.FieldTexts.{fields_octets}
+use Rattle.fields_table.specs.DataOrders.{part_octets}
+use Rattle.fields_table.specs.FieldParts.{NamedPart}
+use Rattle.fields_records.specs.FieldTexts.{fields_octets}
 use Rattle.dnsm_status.specs.CallerBuffers.{Holds}
 use Rattle.dnsm_status.proofs.theory.PieceLemmas.{empty_held, holds_as}
 

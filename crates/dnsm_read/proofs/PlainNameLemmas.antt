@@ -10,7 +10,7 @@ use Rattle.dns_name.specs.declared.head.Head.TheVariants.{Label, Root}
 use Rattle.dns_name.proofs.theory.ExtentLaws.{ends_after}
 use Rattle.dns_name.proofs.theory.HeadLemmas.{label_begins, pointer_within, root_begins, root_within}
 use Rattle.dns_name.proofs.theory.UncompressedNames.{get_drop}
-use Rattle.fields_octets.specs.PlainNames.{can_follow, left_of_name, name_size_after, names_after, plain_name_size}
+use Rattle.fields_forms.specs.PlainNames.{can_follow, left_of_name, name_size_after, names_after, plain_name_size}
 use Rattle.dnsm_read.specs.NameOffsets.{NamesAt}
 use Rattle.dnsm_read.proofs.theory.UncompressedLemmas.{ends_later}
 

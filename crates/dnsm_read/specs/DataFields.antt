@@ -4,11 +4,11 @@ use Rattle.dns_name.specs.Names.{Fault}
 use Rattle.dns_wire.specs.Parts.{Part}
 use Rattle.dns_data.specs.Layout.{DataAt}
 use Rattle.dns_item.specs.RecordReading.{WholeDataFaultAt}
-use Rattle.fields_octets.specs.FieldData.{type_layout}
-use Rattle.fields_octets.specs.FieldParts.{NamedPart, named_parts}
-use Rattle.fields_octets.specs.LayoutTypes.{layout_type}
-use Rattle.fields_octets.specs.Table.{definitions_of}
-use Rattle.fields_octets.specs.UncompressedData.{IsUncompressedData}
+use Rattle.fields_table.specs.FieldData.{type_layout}
+use Rattle.fields_table.specs.FieldParts.{NamedPart, named_parts}
+use Rattle.fields_table.specs.LayoutTypes.{layout_type}
+use Rattle.fields_table.specs.Table.{definitions_of}
+use Rattle.fields_table.specs.UncompressedData.{IsUncompressedData}
 use Rattle.dnsm_status.specs.Codes.{number_of}
 use Rattle.dnsm_status.specs.declared.code.CallError.TheVariants as faults
 use Rattle.dnsm_read.specs.declared.walk.Item.{Item}

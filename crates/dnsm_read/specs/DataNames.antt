@@ -3,9 +3,9 @@ pub use Rattle.dnsm_read.specs.DataFields.{data_end, up_to_data_end}
 use Rattle.std.specs.Prelude.{◌≡◌, ◌⊎◌, ◌<◌, ℕ, List, sum_by}
 use Rattle.dns_name.specs.Names.{Labels, NameAt}
 use Rattle.dns_wire.specs.Parts.{Part}
-use Rattle.fields_octets.specs.Table.{Definition, definitions_of}
-use Rattle.fields_octets.specs.declared.kind.Kind.{Kind}
-use Rattle.fields_octets.specs.declared.kind.Kind.TheVariants.{CompressibleName, GatewayAndKey, HostIdentity, LowercasedName, PlainName, PointedName, Relay}
+use Rattle.fields_table.specs.Table.{Definition, definitions_of}
+use Rattle.fields_table.specs.declared.kind.Kind.{Kind}
+use Rattle.fields_table.specs.declared.kind.Kind.TheVariants.{CompressibleName, GatewayAndKey, HostIdentity, LowercasedName, PlainName, PointedName, Relay}
 use Rattle.dnsm_status.specs.Codes.{number_of}
 use Rattle.dnsm_read.specs.DataFields.{IsDataIn, LacksData, data_fields, data_type}
 use Rattle.dnsm_read.specs.NameOffsets.{IsNameAmong, LacksNameAmong}

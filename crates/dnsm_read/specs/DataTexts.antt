@@ -7,8 +7,8 @@ use Rattle.dns_item.specs.ParsedRecord.{EncodedRecord}
 use Rattle.dns_item.specs.RecordReading.{up_to_rdata_end}
 use Rattle.dns_item.specs.TypedRecords.{data_in}
 use Rattle.dns_wire.specs.Parts.{Part}
-use Rattle.fields_octets.specs.FieldData.{type_layout}
-use Rattle.fields_print.specs.RdataTexts.{rdata_text}
+use Rattle.fields_table.specs.FieldData.{type_layout}
+use Rattle.fields_records.specs.RdataTexts.{rdata_text}
 use Rattle.dnsm_status.specs.Codes.{ReportsFault}
 
 -- the record x can be read at p

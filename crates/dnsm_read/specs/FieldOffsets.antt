@@ -5,7 +5,7 @@ use Rattle.std.specs.Prelude.{◌≡◌, ◌+◌, ◌++◌, ◌≤◌, ℕ, List
 use Rattle.dns_name.specs.Names.{NameAt, NameEndsAt}
 use Rattle.dns_wire.specs.Parts.{Part}
 use Rattle.dns_wire.specs.Parts.Part.{Octets, CompressibleName, UncompressedName}
-use Rattle.fields_octets.specs.FieldParts.{NamedPart}
+use Rattle.fields_table.specs.FieldParts.{NamedPart}
 
 -- the part is encoded from p to q: octets, or a name, whose encoding a pointer may end
 abbrev pub PartAt : List ℕ → Part → ℕ → ℕ → Type 0

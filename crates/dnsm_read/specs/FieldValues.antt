@@ -2,9 +2,9 @@
 use Rattle.std.specs.Prelude.{◌≡◌, ◌≤◌, ◌+◌, ℕ, List, length, slice_range}
 use Rattle.dns_name.specs.Names.{NameAt}
 use Rattle.dns_wire.specs.Parts.{Part}
-use Rattle.fields_octets.specs.FieldParts.{NamedPart}
-use Rattle.fields_octets.specs.Values.{FieldValue, part_value}
-use Rattle.fields_octets.specs.Values.FieldValue.{Number, RecordType, Ipv4, Ipv6, Name, String, Sized, Octets}
+use Rattle.fields_table.specs.FieldParts.{NamedPart}
+use Rattle.fields_table.specs.Values.{FieldValue, part_value}
+use Rattle.fields_table.specs.Values.FieldValue.{Number, RecordType, Ipv4, Ipv6, Name, String, Sized, Octets}
 use Rattle.dnsm_read.specs.DataFields.{IsDataIn, data_fields, up_to_data_end}
 use Rattle.dnsm_read.specs.FieldOffsets.{IsFieldAt}
 use Rattle.dnsm_read.specs.declared.next_field.DataField.{DataField}

@@ -6,9 +6,9 @@ use Rattle.dns_name.specs.Names.{NameEndsAt}
 use Rattle.dns_name.specs.Unique.{EncodedName}
 use Rattle.dns_wire.specs.Parts.{Part}
 use Rattle.dns_wire.specs.Parts.Part.{Octets, CompressibleName, UncompressedName}
-use Rattle.fields_octets.specs.FieldParts.{NamedPart}
-use Rattle.fields_octets.specs.declared.kind.Kind.{Kind}
-use Rattle.fields_octets.specs.declared.kind.Kind.TheVariants.{GatewayAndKey, HostIdentity, Relay}
+use Rattle.fields_table.specs.FieldParts.{NamedPart}
+use Rattle.fields_table.specs.declared.kind.Kind.{Kind}
+use Rattle.fields_table.specs.declared.kind.Kind.TheVariants.{GatewayAndKey, HostIdentity, Relay}
 use Rattle.dnsm_read.specs.FieldOffsets.{PartAt}
 
 -- A gateway of type 3 is a name. It follows the type and an algorithm, which are at offset p.

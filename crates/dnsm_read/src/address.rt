@@ -1,8 +1,8 @@
 //! Addresses as RDATA (RFC 1035 section 3.4.1, RFC 3596 section 2.2).
 ghost use Rattle.std.specs.Prelude.{◌≡◌, ◌↔◌, ◌∷◌, [], IsTrue, length, true, ℕ};
 ghost use Rattle.dns_wire.specs.Parts.{Octets};
-ghost use Rattle.fields_octets.specs.LayoutTypes.{layout_type};
-ghost use Rattle.fields_octets.specs.UncompressedData.{IsUncompressedData};
+ghost use Rattle.fields_table.specs.LayoutTypes.{layout_type};
+ghost use Rattle.fields_table.specs.UncompressedData.{IsUncompressedData};
 ghost use Rattle.dnsm_read.specs.Addresses.{IsAddress};
 
 use dns_iana::Rtype;

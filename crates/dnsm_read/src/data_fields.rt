@@ -1,8 +1,8 @@
 //! The RDATA of an item as fields.
 ghost use Rattle.std.specs.Prelude.{◌≡◌, ◌≢◌, ◌<◌, ◌≤◌, length, Err, IfErr, IfNone, IfOk, IfSome};
 ghost use Rattle.dns_data.specs.Layout.{DataAt};
-ghost use Rattle.fields_octets.specs.Data.{parts_of, rtype_of};
-ghost use Rattle.fields_octets.specs.FieldData.{type_layout};
+ghost use Rattle.fields_table.specs.Data.{parts_of, rtype_of};
+ghost use Rattle.fields_table.specs.FieldData.{type_layout};
 ghost use Rattle.dnsm_status.specs.Codes.{number_of};
 ghost use Rattle.dnsm_read.specs.DataFields.{IsDataIn, IsNoRdata, LacksData, data_end, data_fields, data_type, up_to_data_end};
 ghost use Rattle.dnsm_read.specs.FieldOffsets.{FieldsAt};
@@ -12,7 +12,7 @@ use dns_data::ParseAnyRecordData;
 use dns_iana::{Class, Rtype};
 use dns_name::Parser;
 use dnsm_status::CallError;
-use fields_octets::{FieldData, layout_type};
+use fields_table::{FieldData, layout_type};
 
 /// The offset after the RDATA of an item, if that is within the message.
 pub(crate) fn data_end(octets: &[u8], item: &Item) -> Result<usize, CallError>

@@ -3,7 +3,7 @@ ghost use Rattle.std.specs.Prelude.{◌≡◌, ◌≢◌, ◌<◌, ◌↔◌, Er
 ghost use Rattle.dns_name.specs.Names.{Labels, NameAt};
 ghost use Rattle.dns_name.specs.NameTexts.{dotted_text};
 ghost use Rattle.dns_name.specs.ParsedName.{labels};
-ghost use Rattle.fields_octets.specs.Table.{definitions_of};
+ghost use Rattle.fields_table.specs.Table.{definitions_of};
 ghost use Rattle.dnsm_status.specs.Codes.{number_of};
 ghost use Rattle.dnsm_read.specs.DataNames.{IsDataName, LacksDataName, IsNameInData, most_names, most_names_in, up_to_data_end};
 ghost use Rattle.dnsm_status.specs.CallerBuffers.{Holds};
@@ -16,7 +16,7 @@ use dns_iana::Rtype;
 use dns_name::ParsedName;
 use dnsm_status::CallError;
 use dnsm_status::sink::End;
-use fields_octets::{Kind, fields_of};
+use fields_table::{Kind, fields_of};
 
 /// At most how many names a field of this kind has. RDATA has at most 65,535 octets. In a host
 /// identity four of them come before the servers, whose names take one octet at least.

@@ -1,9 +1,9 @@
 //! The RDATA of a record with its names uncompressed.
 ghost use Rattle.std.specs.Prelude.{◌≡◌, ◌≢◌, ◌++◌, ℕ, List, Err, IfErr, IfOk, OnOk};
 ghost use Rattle.dns_wire.specs.Parts.{Part};
-ghost use Rattle.fields_octets.specs.Data.{parts_of};
-ghost use Rattle.fields_octets.specs.DataOrders.{octets_of_parts, part_octets};
-ghost use Rattle.fields_octets.specs.EncodedFields.{part_of};
+ghost use Rattle.fields_table.specs.Data.{parts_of};
+ghost use Rattle.fields_table.specs.DataOrders.{octets_of_parts, part_octets};
+ghost use Rattle.fields_table.specs.EncodedFields.{part_of};
 ghost use Rattle.dnsm_status.specs.Codes.{number_of};
 ghost use Rattle.dnsm_read.specs.DataFields.{IsDataIn, UncompressesTo, LacksData};
 ghost use Rattle.dnsm_status.specs.CallerBuffers.{Holds};
@@ -12,8 +12,8 @@ use crate::data_fields::fields;
 use crate::walk::Item;
 use dnsm_status::CallError;
 use dnsm_status::sink::{End, START, append_octets};
-use fields_octets::{Encoded, FieldData};
-use fields_print::laws::fields_are_all;
+use fields_records::laws::fields_are_all;
+use fields_table::{Encoded, FieldData};
 
 /// Appends a field, uncompressed.
 fn append_field(field: &Encoded<'_>, out: &mut [u8], end: End) -> End

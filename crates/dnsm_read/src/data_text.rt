@@ -2,7 +2,7 @@
 ghost use Rattle.std.specs.Prelude.{◌≡◌, ◌≢◌, Err, IfOk, IfErr};
 ghost use Rattle.dns_name.specs.Names.{fault_of};
 ghost use Rattle.dns_data.specs.Printing.{opaque_text};
-ghost use Rattle.fields_print.specs.DataTexts.{data_line};
+ghost use Rattle.fields_records.specs.DataTexts.{data_line};
 ghost use Rattle.dns_item.specs.Items.{RecordEntry, RecordFaultAt};
 ghost use Rattle.dns_item.specs.ParsedData.{HasSpan};
 ghost use Rattle.dns_item.specs.ParsedRecord.{octets_of, parsed_entry, encoded_record};
@@ -15,8 +15,8 @@ use dns_item::ParsedRecord;
 use dns_octets::ParseError;
 use dnsm_status::sink::{End, START, Sink};
 use dnsm_status::{CallError, code};
-use fields_octets::FieldData;
-use fields_print::{write_data_text, write_opaque};
+use fields_records::{write_data_text, write_opaque};
+use fields_table::FieldData;
 
 /// Parses the record at offset `place`. Also returns its RDATA.
 fn record_at(octets: &[u8], place: usize) -> Result<(ParsedRecord<'_>, &[u8]), ParseError>

@@ -2,15 +2,15 @@
 ghost use Rattle.std.specs.Prelude.{◌≡◌, ◌≤◌, ℕ, List, length, IfNone, IfSome};
 ghost use Rattle.dns_name.specs.Names.{NameAt};
 ghost use Rattle.dns_name.specs.ParsedName.{labels};
-ghost use Rattle.fields_octets.specs.EncodedFields.{part_of};
-ghost use Rattle.fields_octets.specs.FieldParts.{NamedPart, fields_left, named_part};
+ghost use Rattle.fields_table.specs.EncodedFields.{part_of};
+ghost use Rattle.fields_table.specs.FieldParts.{NamedPart, fields_left, named_part};
 ghost use Rattle.dnsm_read.specs.FieldOffsets.{FieldsAt, IsFieldAt, PartAt};
 ghost use Rattle.dnsm_read.specs.NameOffsets.{IsNameAmong, LacksNameAmong, NamesFrom};
 
 use crate::name_offsets::name_within;
 use crate::walk::name_end;
 use dns_name::ParsedName;
-use fields_octets::{Encoded, Field, Fields};
+use fields_table::{Encoded, Field, Fields};
 
 /// The offset after a field that is encoded at offset `start`.
 pub(crate) fn end_of(octets: &[u8], field: &Encoded<'_>, start: usize) -> usize

@@ -8,13 +8,13 @@ ghost use Rattle.std.specs.Prelude.{◌≡◌, ◌+◌, ◌≤◌, ◌<◌, ◌^
 ghost use Rattle.std.specs.Option.{option_to_list};
 ghost use Rattle.dns_name.specs.Names.{NameAt};
 ghost use Rattle.dns_name.specs.ParsedName.{labels};
-ghost use Rattle.fields_octets.specs.EncodedFields.{part_of};
+ghost use Rattle.fields_table.specs.EncodedFields.{part_of};
 ghost use Rattle.dnsm_read.specs.FieldOffsets.{PartAt};
 ghost use Rattle.dnsm_read.specs.NameOffsets.{Finds, FindsWithin, NamesAt, NamesInOctets, NamesWithin, ServersAt, gateway_offset, relay_offset};
 
 use crate::walk::{name_at, name_end};
 use dns_name::ParsedName;
-use fields_octets::{Encoded, Field, Kind};
+use fields_table::{Encoded, Field, Kind};
 
 /// The offset of a gateway that is a name, in octets at offset `start`.
 fn gateway_offset(octets: &[u8], start: usize) -> Option<usize>

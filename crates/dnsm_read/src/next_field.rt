@@ -1,7 +1,7 @@
 //! The fields of RDATA, one by one.
 ghost use Rattle.std.specs.Prelude.{◌≡◌, ◌≢◌, ◌+◌, ◌-◌, ◌≤◌, ℕ, true, Err, IfErr, IfOk, Ok};
-ghost use Rattle.fields_octets.specs.EncodedFields.{part_of};
-ghost use Rattle.fields_octets.specs.Values.{part_value};
+ghost use Rattle.fields_table.specs.EncodedFields.{part_of};
+ghost use Rattle.fields_table.specs.Values.{part_value};
 ghost use Rattle.dnsm_status.specs.Codes.{number_of};
 ghost use Rattle.dnsm_read.specs.DataFields.{LacksData};
 ghost use Rattle.dnsm_read.specs.FieldOffsets.{PartAt};
@@ -11,7 +11,7 @@ use crate::data_fields::{data_type, fields};
 use crate::field_offsets::{end_of, field_at};
 use crate::walk::Item;
 use dnsm_status::CallError;
-use fields_octets::{Field, Value, fields_of};
+use fields_table::{Field, Value, fields_of};
 
 /// A field of RDATA.
 #[repr(C)]

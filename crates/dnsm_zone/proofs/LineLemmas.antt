@@ -14,17 +14,17 @@ use Rattle.dns_data.specs.Layout.{DataAt, IsLaidOut}
 use Rattle.dns_data.proofs.theory.EncodedParts.{encoded_parts_read}
 use Rattle.dns_item.specs.Items.{IsRecord, ReadsRecordItem, RecordItem, encode_record}
 use Rattle.dns_item.proofs.theory.ItemLemmas.{records_read_back}
-use Rattle.fields_octets.specs.FieldData.{type_layout}
-use Rattle.fields_octets.specs.LaidOut.{laid_out}
-use Rattle.fields_octets.specs.LayoutTypes.{null_type}
-use Rattle.fields_octets.specs.Layouts.{layout_of}
-use Rattle.fields_octets.specs.RecordTypes.{record_types}
-use Rattle.fields_octets.specs.Table.{definitions_of, kinds_of}
-use Rattle.fields_octets.specs.UncompressedData.{IsUncompressedData}
-use Rattle.fields_read_words.specs.LineWords.{AreWordsOf, texts}
-use Rattle.fields_read_records.specs.DataWords.{IsDataText, MayBeData}
-use Rattle.fields_read_records.specs.FieldWords.{Words}
-use Rattle.fields_read_records.specs.RecordWords.{IsRecordText}
+use Rattle.fields_table.specs.FieldData.{type_layout}
+use Rattle.fields_table.specs.LaidOut.{laid_out}
+use Rattle.fields_table.specs.LayoutTypes.{null_type}
+use Rattle.fields_table.specs.Layouts.{layout_of}
+use Rattle.fields_table.specs.RecordTypes.{record_types}
+use Rattle.fields_table.specs.Table.{definitions_of, kinds_of}
+use Rattle.fields_table.specs.UncompressedData.{IsUncompressedData}
+use Rattle.fields_text.specs.LineWords.{AreWordsOf, texts}
+use Rattle.fields_records.specs.DataWords.{IsDataText, MayBeData}
+use Rattle.fields_records.specs.FieldWords.{Words}
+use Rattle.fields_records.specs.RecordWords.{IsRecordText}
 use Rattle.fields_text.specs.declared.text_error.TextError.{TextError}
 use Rattle.fields_text.specs.declared.text_error.TextError.TheVariants.{BadWord, OutOfMemory}
 use Rattle.dnsm_status.specs.declared.code.CallError.{CallError}

@@ -2,11 +2,11 @@
 use Rattle.std.proofs.Common.{◌≡◌, ◌∙◌, ℕ, List, ap, inl, inr, refl}
 use Rattle.std.specs.Prelude.{Err}
 use Rattle.dns_wire.specs.Parts.{Part}
-use Rattle.fields_octets.specs.Data.{parts_of, rtype_of}
-use Rattle.fields_octets.specs.DataOrders.{octets_of_parts}
-use Rattle.fields_read_records.specs.DataWords.{IsDataText}
-use Rattle.fields_read_records.specs.FieldWords.{Words}
-use Rattle.fields_read_records.specs.Laws.{DataReadsBack, PrintedDataIsRead}
+use Rattle.fields_table.specs.Data.{parts_of, rtype_of}
+use Rattle.fields_table.specs.DataOrders.{octets_of_parts}
+use Rattle.fields_records.specs.DataWords.{IsDataText}
+use Rattle.fields_records.specs.FieldWords.{Words}
+use Rattle.fields_records.specs.Laws.{DataReadsBack, PrintedDataIsRead}
 use Rattle.fields_text.specs.declared.text_error.TextError.TheVariants.{BadWord, OutOfMemory}
 use Rattle.dnsm_zone.specs.Laws.{DataTextsAreAccepted, DataTextsAreRead}
 

@@ -1,11 +1,11 @@
 -- RDATA that is printed reads back.
 use Rattle.std.specs.Prelude.{◌≡◌, ℕ, List}
 use Rattle.std.specs.Str.{IsUtf8}
-use Rattle.fields_octets.specs.Data.{parts_of, rtype_of}
-use Rattle.fields_octets.specs.DataOrders.{octets_of_parts}
-use Rattle.fields_octets.specs.declared.field_data.FieldData.{FieldData}
-use Rattle.fields_print.specs.DataTexts.{data_line}
-use Rattle.fields_read_records.specs.Laws.{HasOctets}
+use Rattle.fields_table.specs.Data.{parts_of, rtype_of}
+use Rattle.fields_table.specs.DataOrders.{octets_of_parts}
+use Rattle.fields_table.specs.declared.field_data.FieldData.{FieldData}
+use Rattle.fields_records.specs.DataTexts.{data_line}
+use Rattle.fields_records.specs.Laws.{HasOctets}
 use Rattle.dnsm_zone.specs.Lines.{AreData, HasWords, LacksData}
 
 -- the octets that the text of RDATA represents are those of the RDATA, uncompressed

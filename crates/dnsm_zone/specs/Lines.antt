@@ -6,13 +6,13 @@ use Rattle.dns_wire.specs.Parts.{Part}
 use Rattle.dns_wire.specs.Targets.{append, with_empty_table}
 use Rattle.dns_data.specs.Layout.{DataAt}
 use Rattle.dns_item.specs.Items.{RecordEntry, RecordItem, ReadsRecordItem, encode_record}
-use Rattle.fields_octets.specs.DataOrders.{octets_of_parts}
-use Rattle.fields_octets.specs.FieldData.{type_layout}
-use Rattle.fields_octets.specs.LayoutTypes.{layout_type}
-use Rattle.fields_read_words.specs.LineWords.{AreWordsOf, texts}
-use Rattle.fields_read_records.specs.DataWords.{IsDataText}
-use Rattle.fields_read_records.specs.FieldWords.{Words}
-use Rattle.fields_read_records.specs.RecordWords.{IsRecordText}
+use Rattle.fields_table.specs.DataOrders.{octets_of_parts}
+use Rattle.fields_table.specs.FieldData.{type_layout}
+use Rattle.fields_table.specs.LayoutTypes.{layout_type}
+use Rattle.fields_text.specs.LineWords.{AreWordsOf, texts}
+use Rattle.fields_records.specs.DataWords.{IsDataText}
+use Rattle.fields_records.specs.FieldWords.{Words}
+use Rattle.fields_records.specs.RecordWords.{IsRecordText}
 use Rattle.fields_text.specs.declared.text_error.TextError.{TextError}
 use Rattle.fields_text.specs.declared.text_error.TextError.TheVariants.{BadWord, OutOfMemory}
 use Rattle.dnsm_status.specs.declared.code.CallError.{CallError}

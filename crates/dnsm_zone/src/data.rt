@@ -1,17 +1,17 @@
 //! RDATA from text.
 ghost use Rattle.std.specs.Prelude.{◌≡◌, ◌⊎◌, IfOk, IfErr};
 ghost use Rattle.std.specs.Str.{IsUtf8};
-ghost use Rattle.fields_octets.specs.DataOrders.{octets_of_parts};
-ghost use Rattle.fields_octets.specs.OwnedData.{owned_parts_of};
-ghost use Rattle.fields_read_records.specs.DataWords.{IsDataText, MayBeData};
+ghost use Rattle.fields_table.specs.DataOrders.{octets_of_parts};
+ghost use Rattle.fields_table.specs.OwnedData.{owned_parts_of};
+ghost use Rattle.fields_records.specs.DataWords.{IsDataText, MayBeData};
 ghost use Rattle.dnsm_zone.specs.Lines.{AreData, AreNoData, HasWords, LacksData};
 
 use crate::words::{fault_of, words_of};
 use dns_data::ComposeRecordData;
 use dns_iana::Rtype;
 use dnsm_status::CallError;
-use fields_octets::OwnedFieldData;
-use fields_read_records::from_text;
+use fields_records::from_text;
+use fields_table::OwnedFieldData;
 use std::alloc::Global;
 
 /// The RDATA of this type that the words represent.

@@ -4,8 +4,8 @@ ghost use Rattle.std.specs.Str.{IsUtf8};
 ghost use Rattle.dns_name.specs.NameReading.{name_labels};
 ghost use Rattle.dns_item.specs.Items.{ReadsRecordItem};
 ghost use Rattle.dns_item.specs.Record.{record_item};
-ghost use Rattle.fields_octets.specs.OwnedData.{owned_parts_of, owned_rtype_of};
-ghost use Rattle.fields_read_records.specs.RecordWords.{IsRecordText, MayBeRecord};
+ghost use Rattle.fields_table.specs.OwnedData.{owned_parts_of, owned_rtype_of};
+ghost use Rattle.fields_records.specs.RecordWords.{IsRecordText, MayBeRecord};
 ghost use Rattle.dnsm_zone.specs.Lines.{AreNoRecord, AreRecord, HasWords, LacksRecord, octets_of_record};
 
 use crate::words::{fault_of, words_of};
@@ -13,8 +13,8 @@ use arrayvec::ArrayVec;
 use dns_item::Record;
 use dns_name::Name;
 use dnsm_status::CallError;
-use fields_octets::OwnedFieldData;
-use fields_read_records::read_record;
+use fields_records::read_record;
+use fields_table::OwnedFieldData;
 use std::alloc::Global;
 
 /// A record that owns its octets.

@@ -1,12 +1,11 @@
 //! The words of a text.
 ghost use Rattle.std.specs.Prelude.{◌≡◌, ◌⊎◌, IfOk, IfErr, OnOk};
 ghost use Rattle.std.specs.Str.{IsUtf8};
-ghost use Rattle.fields_read_words.specs.LineWords.{AreWordsOf, texts};
+ghost use Rattle.fields_text.specs.LineWords.{AreWordsOf, texts};
 ghost use Rattle.dnsm_zone.specs.Lines.{HasNoWords, text_fault};
 
 use dnsm_status::CallError;
-use fields_read_words::split_words;
-use fields_text::TextError;
+use fields_text::{TextError, split_words};
 use std::alloc::Global;
 
 /// The fault that reports why words can't be read.

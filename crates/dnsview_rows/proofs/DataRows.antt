@@ -1,14 +1,13 @@
 -- The rows of RDATA.
 use Rattle.dnsview_rows.specs.Data.OptionRows.{none as no_options_rows, option}
-use Rattle.std.proofs.Common.{refl, ◌≡◌, ℕ, ◌+◌, ◌-◌, ◌<◌, ◌≤◌, List, [], ◌∷◌, ◌++◌, length, ◌∙◌, ap, subst, sym, arith, append_assoc, append-nil, take, drop}
-use Rattle.std.proofs.Common.{get_or, length-take, slice_get, OnOk, Result, Ok, Err, Option, Some, None, inl, inr}
+use Rattle.std.proofs.Common.{refl, ◌≡◌, ℕ, ◌+◌, ◌-◌, ◌<◌, ◌≤◌, List, [], ◌∷◌, ◌++◌, length, ◌∙◌, ap, subst, sym, arith, append_assoc, append-nil, take, drop, get_or, length-take, slice_get, OnOk, Result, Ok, Err, Option, Some, None, inl, inr}
 use Rattle.std.proofs.lemmas.Bool.Decides.{nat_tests}
 use Rattle.std.proofs.lemmas.Grind.{common_steps}
 use Rattle.std.proofs.lemmas.List.{take_all}
 use Rattle.std.proofs.lemmas.Option.{slice_get_cases}
 use Rattle.std.specs.Int.{w16}
 use Rattle.dns_name.specs.Parsers.{number_at}
-use Rattle.fields_octets.specs.Table as table
+use Rattle.fields_table.specs.Table as table
 use Rattle.dnsview_rows.specs.Data.{octets_rows, option_rows, opt_type, FormStops, LacksOption, ShowsData, ShowsFields, ShowsForm, ShowsName, ShowsOctets, ShowsOption, TextRows}
 use Rattle.dnsview_rows.specs.Data.TextRows.{none as no_text, text}
 use Rattle.dnsview_rows.specs.Data.ShowsData.{fields as field_data, options as option_data}
@@ -16,9 +15,7 @@ use Rattle.dnsview_rows.specs.Data.ShowsFields.{none as no_fields, field as more
 use Rattle.dnsview_rows.specs.Data.ShowsOptions.{all as options_end, stops as no_option}
 use Rattle.dnsview_rows.specs.Fields.{field_row}
 use Rattle.dnsview_rows.specs.Forms.{form_at}
-use Rattle.dnsview_rows.specs.Walks.{at, octets, Adds, CutsFields, LacksField, MarksData, MarksFields, MarksOptions, MarksWithin, MissesField, MissesName}
-use Rattle.dnsview_rows.specs.Walks.{MissesOctets, MissesOption, MissesText, CoversAllTexts, CoversField, CoversName, CoversOctets, CoversTexts, CoversOption}
-use Rattle.dnsview_rows.specs.Walks.{CoversOptions}
+use Rattle.dnsview_rows.specs.Walks.{at, octets, Adds, CutsFields, LacksField, MarksData, MarksFields, MarksOptions, MarksWithin, MissesField, MissesName, MissesOctets, MissesOption, MissesText, CoversAllTexts, CoversField, CoversName, CoversOctets, CoversTexts, CoversOption, CoversOptions}
 use Rattle.dnsview_rows.specs.declared.form.Form as forms
 use Rattle.dnsview_rows.specs.declared.form.Form.TheVariants.{Name, Octets, Texts}
 use Rattle.dnsview_rows.specs.declared.row.RowFault.{RowFault}

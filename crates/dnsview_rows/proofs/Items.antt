@@ -5,7 +5,7 @@ use Rattle.std.specs.Prelude.{Result, Ok, Err}
 use Rattle.dns_name.specs.Names.{Fault}
 use Rattle.dns_name.specs.Names.Fault.{ShortInput}
 use Rattle.dns_name.specs.Parsers.{number_at}
-use Rattle.fields_octets.specs.LayoutTypes.{layout_type}
+use Rattle.fields_table.specs.LayoutTypes.{layout_type}
 use Rattle.dnsview_rows.specs.Data.{ShowsData}
 use Rattle.dnsview_rows.specs.Walks.StopsWithin.{missing, stopped}
 use Rattle.dns_item.specs.AfterNames.FieldsFaultAt.{name as name_fault, short as short_fields}
@@ -18,15 +18,12 @@ use Rattle.dns_read.specs.RecordsFrom.{records_from}
 use Rattle.dns_read.proofs.theory.QuestionsFromLemmas.{questions_from_are_read}
 use Rattle.dns_read.proofs.theory.RecordsFromLemmas.{records_from_are_read}
 use Rattle.dns_item.specs.Items.LacksRecord.{fields as lacks_fields, rdata as lacks_data}
-use Rattle.dnsview_rows.specs.Entries.{all_parts, class_rows, count_of, data_fault, data_type, holds_records, item_row, number_rows, opt_rows, question_rows}
-use Rattle.dnsview_rows.specs.Entries.{reading_from, record_rows, DataStops, Entry, ItemStops, LacksItem, PartStarts, ReadingRows, RecordStops, ShowsItem}
-use Rattle.dnsview_rows.specs.Entries.{ShowsParts, ShowsQuestion, ShowsRecord, StopsItem}
+use Rattle.dnsview_rows.specs.Entries.{all_parts, class_rows, count_of, data_fault, data_type, holds_records, item_row, number_rows, opt_rows, question_rows, reading_from, record_rows, DataStops, Entry, ItemStops, LacksItem, PartStarts, ReadingRows, RecordStops, ShowsItem, ShowsParts, ShowsQuestion, ShowsRecord, StopsItem}
 use Rattle.dnsview_rows.specs.Entries.LacksItem.{name as name_lacks, short as fields_lack}
 use Rattle.dnsview_rows.specs.Entries.ReadingRows.{none, entry, stops}
 use Rattle.dnsview_rows.specs.Entries.ShowsParts.{none as no_more, all as all_shown, fault as fault_among}
 use Rattle.dnsview_rows.specs.Fields.{field_row, CutRows}
-use Rattle.dnsview_rows.specs.Walks.{at, octets, Adds, AreCountsOf, AreFirstRows, CutsFields, LacksField, LacksFields, MarksAmong, MarksFirst, MarksItem}
-use Rattle.dnsview_rows.specs.Walks.{MarksParts, MarksStop, MissesItemName, CoversItemName, CoversNumbers, MarksWithin, SkipsItem, StopsWithin}
+use Rattle.dnsview_rows.specs.Walks.{at, octets, Adds, AreCountsOf, AreFirstRows, CutsFields, LacksField, LacksFields, MarksAmong, MarksFirst, MarksItem, MarksParts, MarksStop, MissesItemName, CoversItemName, CoversNumbers, MarksWithin, SkipsItem, StopsWithin}
 use Rattle.dnsview_rows.specs.declared.row.RowFault.{RowFault}
 use Rattle.dnsview_rows.specs.declared.row.RowFault.TheVariants.{Short}
 use Rattle.dnsview_rows.specs.declared.row.RowField.TheVariants as fields

@@ -1,11 +1,11 @@
--- The rows of RDATA, field by field, up to its end or a fault. RFC 1035 sections 3.3 and 3.4, RFC 3597 section 4. The fields of a record type are those that `fields_octets` defines.
+-- The rows of RDATA, field by field, up to its end or a fault. RFC 1035 sections 3.3 and 3.4, RFC 3597 section 4. The fields of a record type are those that `fields_table` defines.
 --
 -- `b` is the octets of the message up to the end of the RDATA.
 use Rattle.dns_name.specs.Parsers.{number_at}
 use Rattle.std.specs.Int.{w16}
 use Rattle.std.specs.Prelude.{◌≡◌, ℕ, ◌+◌, ◌<◌, ◌≤◌, if◌then◌else◌, List, [], ◌∷◌, ◌++◌, length, slice_get, Option, Some, None, nat_lt}
 use Rattle.dns_name.specs.Names.{Fault, Labels, NameAt, NameEndsAt}
-use Rattle.fields_octets.specs.Table as table
+use Rattle.fields_table.specs.Table as table
 use Rattle.dnsview_rows.specs.Faults.{LacksName}
 use Rattle.dnsview_rows.specs.Fields.{field_row, CutRows}
 use Rattle.dnsview_rows.specs.Forms.{form_at}

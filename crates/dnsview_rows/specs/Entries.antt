@@ -13,7 +13,7 @@ use Rattle.dns_item.specs.RecordReading.{up_to_rdata_end}
 use Rattle.dns_read.specs.QuestionsFrom.{questions_from}
 use Rattle.dns_read.specs.RecordsFrom.{records_from}
 use Rattle.dns_read.specs.Sections.{question_count, answer_count, authority_count, additional_count, AnswersStart, AuthoritiesStart, AdditionalsStart}
-use Rattle.fields_octets.specs.LayoutTypes.{layout_type}
+use Rattle.fields_table.specs.LayoutTypes.{layout_type}
 use Rattle.dnsview_rows.specs.Data.{opt_type, ShowsData}
 use Rattle.dnsview_rows.specs.Faults.{LacksName}
 use Rattle.dnsview_rows.specs.Fields.{field_row, CutRows}

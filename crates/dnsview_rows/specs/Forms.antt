@@ -3,11 +3,11 @@
 -- `b` is the octets of the message up to the end of the RDATA.
 use Rattle.std.specs.Prelude.{ℕ, ◌-◌, List, length}
 use Rattle.dns_data.specs.Layout.{octets_size, string_size}
-use Rattle.fields_octets.specs.Shapes.{shape_of}
-use Rattle.fields_octets.specs.declared.kind.Kind as kinds
-use Rattle.fields_octets.specs.declared.kind.Kind.TheVariants.{Strings}
-use Rattle.fields_octets.specs.declared.shape.Shape as shapes
-use Rattle.fields_octets.specs.declared.shape.Shape.TheVariants.{Counted, Octets as FixedOctets, Rest, Sized, UncompressedName, Name as NameShape}
+use Rattle.fields_table.specs.Shapes.{shape_of}
+use Rattle.fields_table.specs.declared.kind.Kind as kinds
+use Rattle.fields_table.specs.declared.kind.Kind.TheVariants.{Strings}
+use Rattle.fields_table.specs.declared.shape.Shape as shapes
+use Rattle.fields_table.specs.declared.shape.Shape.TheVariants.{Counted, Octets as FixedOctets, Rest, Sized, UncompressedName, Name as NameShape}
 use Rattle.dnsview_rows.specs.declared.form.Form.{Form}
 use Rattle.dnsview_rows.specs.declared.form.Form.TheVariants.{Name, Octets, Texts}
 

@@ -1,6 +1,6 @@
 -- What each step of a walk over a message does. In each definition, `old` is the walk before the step and `new` the walk after it.
 use Rattle.dnsview_rows.specs.Data.{option_rows, FieldStops, OctetsStop, TextsStop, ShowsData, ShowsField, ShowsFields, ShowsOctets, ShowsOptions, ShowsTexts, TextRows, OptionRows, ShowsOption}
-use Rattle.fields_octets.specs.Table as table
+use Rattle.fields_table.specs.Table as table
 use Rattle.dnsview_rows.specs.Named.{LabelRows, NameRows}
 use Rattle.std.specs.Prelude.{◌<◌, ◌≡◌, suc, Bool, true, false, ℕ, ◌+◌, ◌-◌, ◌≤◌, List, ◌++◌, ◌∷◌, length, ⊤, Option, Some, None, Result, Ok, Err, take}
 use Rattle.std.specs.Int.{w16}

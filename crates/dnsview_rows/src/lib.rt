@@ -8,7 +8,7 @@
 //! be read, or all fields before the first that is incomplete. Then come the row of the fault,
 //! which says what is wrong, and the row of the remaining octets.
 //!
-//! The fields of RDATA are those that `fields_octets::fields_of` returns for the record type, and the
+//! The fields of RDATA are those that `fields_table::fields_of` returns for the record type, and the
 //! options of OPT. A type that isn't in the table has one field, `data`. RDATA of no octets in class
 //! NONE or ANY has no fields, as an update deletes or asks by it (RFC 2136 section 2.4).
 //!

@@ -1,5 +1,5 @@
 //! Rows, and what their octets are.
-use fields_octets::Kind;
+use fields_table::Kind;
 
 /// Consecutive octets of a message, from offset `start` up to but not including `end`.
 #[derive(Clone, Copy, Debug, PartialEq, Eq)]
@@ -57,7 +57,7 @@ pub enum NameOf {
     Question,
     /// The owner of a record.
     Owner,
-    /// The name that is this field of RDATA, by the field's name in `fields_octets::fields_of`.
+    /// The name that is this field of RDATA, by the field's name in `fields_table::fields_of`.
     Field(&'static str),
 }
 
@@ -88,7 +88,7 @@ pub enum RowField {
     RdLength,
     /// RDATA as a whole.
     Data,
-    /// A field of RDATA that isn't a name, with its name and its kind in `fields_octets::fields_of`.
+    /// A field of RDATA that isn't a name, with its name and its kind in `fields_table::fields_of`.
     /// Types that aren't in the table have one such field, `data`. A field of no octets has no row.
     Named(&'static str, Kind),
     /// A character string with its length octet, in a field of character strings.

@@ -20,7 +20,7 @@ use dns_code::{HeaderCounts, HeaderSection};
 use dns_iana::{Class, Rtype};
 use dns_name::{Head, ParsedName, Parser};
 use dns_octets::ParseError;
-use fields_octets::{Kind, Shape, fields_of, layout_type};
+use fields_table::{Kind, Shape, fields_of, layout_type};
 use std::alloc::Global;
 
 /// Why a walk ends early.

@@ -1,7 +1,5 @@
 -- Words of base64 are read four symbols at a time. RFC 4648 section 4.
-use Rattle.std.proofs.Common.{◌≡◌, ◌∙◌, ℕ, zero, suc, ◌+◌, ◌-◌, ◌*◌, ◌/◌, ◌%◌, ◌<◌, ◌≤◌, ◌==◌, ◌↔◌, nat_lt, Bool, true, false, List, [], ◌∷◌, ◌++◌, Ok, Err}
-use Rattle.std.proofs.Common.{length, take, drop, slice_index, refl, sym, ap, subst, arith, inl, inr, length-take, length-drop, length-append, lit≤, add-zero}
-use Rattle.std.proofs.Common.{if◌then◌else◌}
+use Rattle.std.proofs.Common.{◌≡◌, ◌∙◌, ℕ, zero, suc, ◌+◌, ◌-◌, ◌*◌, ◌/◌, ◌%◌, ◌<◌, ◌≤◌, ◌==◌, ◌↔◌, nat_lt, Bool, true, false, List, [], ◌∷◌, ◌++◌, Ok, Err, length, take, drop, slice_index, refl, sym, ap, subst, arith, inl, inr, length-take, length-drop, length-append, lit≤, add-zero, if◌then◌else◌}
 use Rattle.std.proofs.lemmas.Bool.Decides.{nat_tests}
 use Rattle.std.proofs.lemmas.List.{take_at, drop_at, take-append-drop, length-replicate}
 use Rattle.std.specs.Prelude.{MatchOption, unwrap_or}
@@ -9,9 +7,7 @@ use Rattle.std.specs.Result.{result_ok}
 use Rattle.std.specs.declared.option.Option.{Option}
 use Rattle.std.specs.declared.option.Option.TheVariants.{None, Some}
 use Rattle.std.specs.declared.result.Result.{Result}
-use Rattle.base64.specs.Decode.{IsDecodeTable, bytes_fit, decode_group, decode_outcome, group_bytes, group_error, groups_before_last, groups_bytes}
-use Rattle.base64.specs.Decode.{groups_error, leftover_bytes, no_leftover, or_else, or_error, push_leftover, scan, scan_bytes, scan_error, scan_last}
-use Rattle.base64.specs.Decode.{suffix_bytes, symbol_error}
+use Rattle.base64.specs.Decode.{IsDecodeTable, bytes_fit, decode_group, decode_outcome, group_bytes, group_error, groups_before_last, groups_bytes, groups_error, leftover_bytes, no_leftover, or_else, or_error, push_leftover, scan, scan_bytes, scan_error, scan_last, suffix_bytes, symbol_error}
 use Rattle.base64.specs.Engines.{standard}
 use Rattle.base64.specs.GeneralPurpose.{IsBytes, decode_slice_of, decoded_bytes_of, encode_of}
 use Rattle.base64.specs.declared.decode.DecodeError.{DecodeError}
@@ -23,27 +19,9 @@ use Rattle.base64.proofs.EngineFacts.{decode_of-encode_of, decode_of_strict, enc
 use Rattle.base64.proofs.RoundTrip.{length-encode_symbols}
 use Rattle.base64.proofs.Tables.{IsDecodeTable_from, are_tables_inverse}
 use Rattle.fields_text.specs.Octets.{IsBase64}
-use Rattle.fields_text.specs.Reading.{RepresentsCount, RepresentsSome, TakesMemory}
-
-bytes-append : (a b : List ℕ) → IsBytes a → IsBytes b → IsBytes (a ++ b)
-bytes-append [] b h g i = g i
-bytes-append (x ∷ a) b h g zero = h 0
-bytes-append (x ∷ a) b h g (suc i) = bytes-append a b (λ k. h (suc k)) g i
-
-bytes-take : (n : ℕ) (a : List ℕ) → IsBytes a → IsBytes (take n a)
-bytes-take n a h = front_bytes (take n a) (drop n a) (subst IsBytes (sym (take-append-drop n a)) h)
-
-back_bytes : (a b : List ℕ) → IsBytes (a ++ b) → IsBytes b
-back_bytes [] b h = h
-back_bytes (x ∷ a) b h = back_bytes a b (λ k. h (suc k))
-
--- the last of octets are octets
-pub bytes-drop : (n : ℕ) (a : List ℕ) → IsBytes a → IsBytes (drop n a)
-bytes-drop n a h = back_bytes (take n a) (drop n a) (subst IsBytes (sym (take-append-drop n a)) h)
-
-none_of : (x y : Option DecodeError) → or_else x y ≡ None → (x ≡ None) × (y ≡ None)
-none_of None y h = (refl, h)
-none_of (Some e) y h = cc h
+use Rattle.fields_text.specs.ReadOctets.{RepresentsCount, RepresentsSome, TakesMemory}
+use Rattle.fields_text.proofs.theory.ByteLemmas.{bytes_append, bytes_take, bytes_back, bytes_drop}
+use Rattle.fields_text.proofs.theory.DecodedBase64.{none_of, ok_parts}
 
 -- three octets of four values below 64
 group_below : (a b c d : ℕ) → a < 64 → b < 64 → c < 64 → d < 64 → IsBytes (decode_group a b c d)
@@ -68,7 +46,7 @@ module _ (dec s : List ℕ) (table : IsDecodeTable dec) (bytes : IsBytes s) wher
   all_groups zero none i = omega arith
   all_groups (suc q) none i =
       let both = none_of _ _ none in
-      bytes-append (groups_bytes dec s q) (group_bytes dec s (4 * q)) (all_groups q both.0) (one_group (4 * q) both.1) i
+      bytes_append (groups_bytes dec s q) (group_bytes dec s (4 * q)) (all_groups q both.0) (one_group (4 * q) both.1) i
 
 -- the scan of the last symbols keeps values below 64
 scanned : (dec : List ℕ) (pad at : ℕ) (bs : List ℕ) (st fin : _) (i : ℕ) → IsDecodeTable dec → IsBytes bs → IsLeftover st i → scan dec pad at st i bs ≡ Ok fin
@@ -93,16 +71,12 @@ zeros_below (suc (suc (suc zero))) = omega arith
 zeros_below (suc (suc (suc (suc k)))) = omega arith
 
 leftover_below : (st : _) (i : ℕ) → IsLeftover st i → IsBytes (leftover_bytes st)
-leftover_below st i held = bytes-take _ (decode_group _ _ _ _) (group_below _ _ _ _ (held.3 0) (held.3 1) (held.3 2) (held.3 3))
+leftover_below st i held = bytes_take _ (decode_group _ _ _ _) (group_below _ _ _ _ (held.3 0) (held.3 1) (held.3 2) (held.3 3))
 
 ok_scan : (empty : Bool) (at : ℕ) (allow : Bool) (mode : DecodePaddingMode) (r : _) → scan_error empty at allow mode r ≡ None
     → ((st : _) → r ≡ Ok st → IsBytes (leftover_bytes st)) → IsBytes (scan_bytes r)
 ok_scan empty at allow mode (Ok st) none small = small st refl
 ok_scan empty at allow mode (Err e) none small = cc none
-
-ok_parts : (x : Option DecodeError) (d b : List ℕ) → decode_outcome x d ≡ Ok b → (x ≡ None) × (d ≡ b)
-ok_parts None d b h = (refl, cc h)
-ok_parts (Some e) d b h = cc h
 
 standard_table : IsDecodeTable standard.decode_table
 standard_table = IsDecodeTable_from standard.encode_table standard.decode_table (are_tables_inverse standard.encode_table standard.decode_table standard.padding.value standard.tables)
@@ -120,8 +94,8 @@ decoded_bytes word octets bytes is =
     let last : IsBytes (suffix_bytes standard.decode_table standard.padding.value at word) =
     ok_scan (length word == 0) at standard.config.decode_allow_trailing_bits standard.config.decode_padding_mode
     (scan_last standard.decode_table standard.padding.value at word) later.1
-    (λ st e. leftover_below st _ (scanned standard.decode_table standard.padding.value at (drop at word) no_leftover st 0 standard_table (bytes-drop at word bytes) nothing_left e)) in
-    subst IsBytes parts.1 (bytes-append _ _ (all_groups standard.decode_table word standard_table bytes _ later.0) last)
+    (λ st e. leftover_below st _ (scanned standard.decode_table standard.padding.value at (drop at word) no_leftover st 0 standard_table (bytes_drop at word bytes) nothing_left e)) in
+    subst IsBytes parts.1 (bytes_append _ _ (all_groups standard.decode_table word standard_table bytes _ later.0) last)
 
 -- the length of a word
 word_size : (octets : List ℕ) → length (encode_of standard octets) ≡ (4 * length octets + 2) / 3 + (3 - length octets % 3) % 3
@@ -150,18 +124,18 @@ begins first rest bytes four more (octets, is) =
     record {
       three = take 3 octets;
       is_three = three;
-      first = rw front (decode_of-encode_of standard (take 3 octets) refl (bytes-take 3 octets all));
-      others = (drop 3 octets, rw back (decode_of-encode_of standard (drop 3 octets) refl (bytes-drop 3 octets all)));
+      first = rw front (decode_of-encode_of standard (take 3 octets) refl (bytes_take 3 octets all));
+      others = (drop 3 octets, rw back (decode_of-encode_of standard (drop 3 octets) refl (bytes_drop 3 octets all)));
     }
 
 -- four symbols of three octets, then a word, are a word
 joined : (first rest three : List ℕ) → IsBytes (first ++ rest) → length three ≡ 3 → IsBase64 first three → RepresentsSome (IsBase64 rest) → RepresentsSome (IsBase64 (first ++ rest))
 joined first rest three bytes is_three is (octets, others) =
     let front_is : IsBytes first = front_bytes first rest bytes in
-    let back_is : IsBytes rest = back_bytes first rest bytes in
+    let back_is : IsBytes rest = bytes_back first rest bytes in
     let front : first ≡ encode_of standard three = decode_of_strict standard first three (refl, refl) front_is is in
     let back : rest ≡ encode_of standard octets = decode_of_strict standard rest octets (refl, refl) back_is others in
-    let all : IsBytes (three ++ octets) = bytes-append three octets (decoded_bytes first three front_is is) (decoded_bytes rest octets back_is others) in
+    let all : IsBytes (three ++ octets) = bytes_append three octets (decoded_bytes first three front_is is) (decoded_bytes rest octets back_is others) in
     let whole : encode_of standard (three ++ octets) ≡ encode_of standard three ++ encode_of standard octets = encode_of-append standard three octets (rw is_three refl) in
     (three ++ octets, rw (front, back, ← whole) (decode_of-encode_of standard (three ++ octets) refl all))
 

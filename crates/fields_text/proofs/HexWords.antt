@@ -11,10 +11,10 @@ use Rattle.base64.proofs.EngineFacts.{decode_of-encode_of, encode_of-nil}
 use Rattle.hex.specs.Hex.{decode_pairs, is_hex_digit}
 use Rattle.hex.proofs.HexLemmas.{decode_of-digits, decode_of-ok}
 use Rattle.fields_text.specs.Octets.{IsBase64, IsHex}
-use Rattle.fields_text.specs.Reading.{TakesMemory}
+use Rattle.fields_text.specs.ReadOctets.{TakesMemory}
 
 -- the two tests of a digit agree
-same_digits : (c : ℕ) → is_ascii_hexdigit c ≡ is_hex_digit c
+pub same_digits : (c : ℕ) → is_ascii_hexdigit c ≡ is_hex_digit c
 same_digits c = grind (arith, nat_tests)
 
 -- an even number of digits represents octets

@@ -1,8 +1,11 @@
-mod Base32Lemmas
+pub mod theory
+mod Base32Digits
+mod Base64Groups
+mod Base64Taken
 mod Base64Words
+mod HexDigits
+mod HexPairs
+mod HexTaken
 mod HexTexts
 mod HexWords
-mod LocatorSteps
 mod StringSteps
-mod TimeLemmas
-pub mod theory

@@ -2,9 +2,10 @@
 use Rattle.std.proofs.Common.{◌≡◌, ◌∙◌, ◌<◌, ◌⊎◌, inl, inr, ℕ, ◌+◌, List, [], ◌∷◌, ◌++◌, Some, None, length, refl, sym, ap, subst, arith, append_assoc, append-nil, length-append}
 use Rattle.fields_text.specs.declared.text_error.TextError.{TextError}
 use Rattle.fields_text.specs.declared.text_error.TextError.TheVariants.{BadWord, OutOfMemory}
-use Rattle.fields_text.specs.Reading.{IsFailure, TakesMemory}
+use Rattle.fields_text.specs.ReadOctets.{IsFailure, TakesMemory}
 use Rattle.fields_text.specs.Strings.{SpellsOctets, octet_at}
 use Rattle.fields_text.specs.Strings.SpellsOctets.{none, more}
+use Rattle.fields_text.proofs.theory.Options.{some_same}
 
 -- the octets read so far, and a text after them, are the whole: what the text spells completes them, and nothing else does
 pub record IsRead (whole octets left : List ℕ) : Type 0 where
@@ -14,9 +15,6 @@ pub record IsRead (whole octets left : List ℕ) : Type 0 where
 -- nothing is read
 pub nothing_read : (whole : List ℕ) → IsRead whole [] whole
 nothing_read whole = record { completes = λ others h. h; begins = λ all h. (all, refl, h) }
-
-some_same : {A : Type 0} (x y : A) → Some x ≡ Some y → x ≡ y
-some_same x y e = cc
 
 -- what a text that begins with an octet spells
 first_spelled : (text after all : List ℕ) (octet : ℕ) → octet_at text ≡ Some (octet, after) → SpellsOctets text all

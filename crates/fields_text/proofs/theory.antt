@@ -1,2 +1,21 @@
 -- Lemmas that other crates cite, so a change here affects them too.
-pub mod PrintedParts
+pub mod AppendLemmas
+pub mod Base32Lemmas
+pub mod ByteLemmas
+pub mod DecodedBase64
+pub mod JoinedLemmas
+pub mod LastSplits
+pub mod LineLemmas
+pub mod OctetsAfter
+pub mod OneWords
+pub mod Options
+pub mod Printing
+pub mod SpacedTexts
+pub mod SpacedWords
+pub mod SpaceLemmas
+pub mod StringLaws
+pub mod StringLemmas
+pub mod WordLemmas
+pub mod WordLists
+pub mod Words
+pub mod WordTexts

@@ -1,33 +1,39 @@
--- What reading a word returns.
-use Rattle.std.specs.Prelude.{◌≡◌, ◌<◌, ◌⊎◌, ℕ, Bool, List, ◌++◌, Result, MatchBool, MatchResult, length}
+-- What reading words returns.
+use Rattle.std.specs.Prelude.{◌≡◌, ◌⊎◌, ℕ, List, ◌++◌, length, take, Option, MatchOption, Result, MatchResult}
 use Rattle.std.specs.Global.{Vec}
 use Rattle.fields_text.specs.declared.text_error.TextError.{TextError}
 use Rattle.fields_text.specs.declared.text_error.TextError.TheVariants.{BadWord, OutOfMemory}
 
--- Octets that the word represents. Else `BadWord` if it represents none, or `OutOfMemory` if an allocation fails.
-abbrev pub ReadsOctets : (List ℕ → Type 0) → Result (Vec ℕ) TextError → Type 0
-ReadsOctets Represents result =
-    MatchResult result (λ octets. Represents octets.items)
-    (λ error. (error ≡ OutOfMemory) ⊎ ((error ≡ BadWord) × ((octets : List ℕ) → ¬ Represents octets)))
+-- the value that the word represents, or `None` if it represents none
+abbrev pub Reads : {A : Type 0} → (A → Type 0) → Option A → Type 0
+Reads {A} Represents result = MatchOption result ((value : A) → ¬ (Represents value)) Represents
 
--- The word represents octets.
-abbrev pub RepresentsSome : (List ℕ → Type 0) → Type 0
-RepresentsSome Represents = (octets : List ℕ) × Represents octets
+-- the words represent a value
+abbrev pub HasValue : {A : Type 0} → (A → Type 0) → Type 0
+HasValue {A} Represents = (value : A) × Represents value
 
--- The word represents n octets.
-abbrev pub RepresentsCount : (List ℕ → Type 0) → ℕ → Type 0
-RepresentsCount Represents n = (octets : List ℕ) × Represents octets × (length octets ≡ n)
+-- Why words are not read: `BadWord` if they represent no value. `OutOfMemory` if an allocation fails, which happens only to words of which `May` holds.
+abbrev pub FailsIf : {A : Type 0} → Type 0 → (A → Type 0) → TextError → Type 0
+FailsIf {A} May Represents error = ((error ≡ OutOfMemory) × May) ⊎ ((error ≡ BadWord) × ((value : A) → ¬ (Represents value)))
 
--- The word represents octets, at least one: they take memory.
-abbrev pub TakesMemory : (List ℕ → Type 0) → Type 0
-TakesMemory Represents = (octets : List ℕ) × Represents octets × (0 < length octets)
+-- the same of words that represent a value, which alone are `OutOfMemory`
+abbrev pub Fails : {A : Type 0} → (A → Type 0) → TextError → Type 0
+Fails Represents error = FailsIf (HasValue Represents) Represents error
 
--- Why octets are not read once an allocation fails: `OutOfMemory` if the text represents some, else `BadWord`.
-abbrev pub IsFailure : (List ℕ → Type 0) → TextError → Type 0
-IsFailure Represents error =
-    ((error ≡ OutOfMemory) × ((octets : List ℕ) × Represents octets)) ⊎ ((error ≡ BadWord) × ((octets : List ℕ) → ¬ Represents octets))
+-- octets that the words represent, or why there are none
+abbrev pub ReadsWords : (List ℕ → Type 0) → Result (Vec ℕ) TextError → Type 0
+ReadsWords Represents result = MatchResult result (λ octets. Represents octets.items) (Fails Represents)
 
--- Octets that the text represents are appended to those of an array of `size` octets; or `false`, if none that it represents fit.
-abbrev pub PushesFitting : (List ℕ → Type 0) → ℕ → List ℕ → List ℕ → Bool → Type 0
-PushesFitting Represents size old new pushed =
-    MatchBool pushed ((octets : List ℕ) × Represents octets × (new ≡ old ++ octets)) ((octets : List ℕ) → Represents octets → size < length (old ++ octets))
+-- Why two words aren't read, of which the first isn't: that the second represents no value, if so, else why the first isn't.
+abbrev pub FailsFirst : TextError → Result (Vec ℕ) TextError → TextError → Type 0
+FailsFirst first second error =
+    MatchResult second (λ _. error ≡ first) (λ other. ((other ≡ BadWord) × (error ≡ BadWord)) ⊎ ((other ≡ OutOfMemory) × (error ≡ first)))
+
+-- octets begin with these: what was there before a call still is
+abbrev pub IsStartOf : List ℕ → List ℕ → Type 0
+IsStartOf old new = take (length old) new ≡ old
+
+-- octets that the words represent are appended, or why there are none
+abbrev pub AppendsOctets : (List ℕ → Type 0) → List ℕ → List ℕ → Result Unit TextError → Type 0
+AppendsOctets Represents old new result =
+    MatchResult result (λ _. (octets : List ℕ) × Represents octets × (new ≡ old ++ octets)) (Fails Represents)

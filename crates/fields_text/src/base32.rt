@@ -27,7 +27,7 @@ fn digit(number: u8) -> char
 }
 
 /// Prints the last `count` digits of a number.
-#[tactic(auto, using(crate::proofs::Base32Lemmas::digits_none, crate::proofs::Base32Lemmas::digits_more))]
+#[tactic(auto, using(crate::proofs::Base32Digits::digits_none, crate::proofs::Base32Digits::digits_more))]
 fn write_digits<W: TextWriter>(f: &mut W, count: u8, number: u64) -> fmt::Result
     ensures text { PrintsOnOk W.takes f.old result (base32_digits count number) f.new }
     ensures err { OnErr result W.MayFail }

@@ -1,38 +1,52 @@
-//! Theorems on values and their words, and on how they compare and clone. Each contract is a theorem.
-ghost use Rattle.std.specs.Prelude.{◌≡◌, ◌↔◌, IsTrue};
-ghost use Rattle.fields_text.specs.Laws.{Base64ReadsBack, HexReadsBack, NumbersReadBack};
+//! Theorems on words and their values, and on how they compare and clone. Each contract is a theorem.
+ghost use Rattle.std.specs.Prelude.{◌≡◌, IsTrue, ◌↔◌};
+ghost use Rattle.fields_text.specs.JoinedWords.{AreBase64, AreHex};
+ghost use Rattle.fields_text.specs.Laws.{Base64IsWord, Base64ReadsBack, HexIsWord, HexReadsBack, NumbersAreWords, NumbersReadBack, RepresentsOne, StringsAreWords, StringsReadBack, TagsAreWords, TagsReadBack, WordsAreUnique};
 
-use crate::address::{Eui, Locator64};
 use crate::base32::Base32;
 use crate::hexadecimal::Hex;
-use crate::location::Location;
 use crate::string::{Quoted, Tag};
 use crate::text_error::TextError;
-use crate::time::Timestamp;
 
-/// What is printed of a number or of octets represents that value: in decimal digits, in hexadecimal
-/// and in base64.
+/// What is printed of a number, of octets, of a string or of a tag represents that value.
 pub fn printed_values_read_back()
     ensures numbers { NumbersReadBack }
     ensures hexadecimal { HexReadsBack }
     ensures base64 { Base64ReadsBack }
+    ensures strings { StringsReadBack }
+    ensures tags { TagsReadBack }
 {}
 
-/// Two errors are equal if and only if they are the same, and two times if their seconds are.
+/// What is printed of these is one word.
+pub fn printed_values_are_words()
+    ensures numbers { NumbersAreWords }
+    ensures strings { StringsAreWords }
+    ensures tags { TagsAreWords }
+    ensures hexadecimal { HexIsWord }
+    ensures base64 { Base64IsWord }
+{}
+
+/// Words represent at most one list of octets.
+pub fn words_represent_one()
+    ensures hexadecimal { RepresentsOne AreHex }
+    ensures base64 { RepresentsOne AreBase64 }
+{}
+
+/// A line has at most one list of words.
+pub fn words_are_unique()
+    ensures { WordsAreUnique }
+{}
+
+/// Two errors are equal if and only if they are the same.
 pub fn word_equality()
     ensures errors { (a b : _) → IsTrue (⟦<TextError as PartialEq>⟧.eq a b) ↔ (a ≡ b) }
-    ensures times { (a b : _) → IsTrue (⟦<Timestamp as PartialEq>⟧.eq a b) ↔ (a ≡ b) }
 {}
 
 /// A clone is the same value.
 pub fn word_clones()
     ensures errors { (a b : _) → ⟦<TextError as Clone>⟧.is_clone a b → b ≡ a }
-    ensures times { (a b : _) → ⟦<Timestamp as Clone>⟧.is_clone a b → b ≡ a }
     ensures hexadecimal { (a b : _) → ⟦<Hex<'static> as Clone>⟧.is_clone a b → b ≡ a }
     ensures base32 { (a b : _) → ⟦<Base32<'static> as Clone>⟧.is_clone a b → b ≡ a }
-    ensures addresses { (a b : _) → ⟦<Eui<'static> as Clone>⟧.is_clone a b → b ≡ a }
-    ensures locators { (a b : _) → ⟦<Locator64 as Clone>⟧.is_clone a b → b ≡ a }
-    ensures locations { (a b : _) → ⟦<Location as Clone>⟧.is_clone a b → b ≡ a }
     ensures strings { (a b : _) → ⟦<Quoted<'static> as Clone>⟧.is_clone a b → b ≡ a }
     ensures tags { (a b : _) → ⟦<Tag<'static> as Clone>⟧.is_clone a b → b ≡ a }
 {}
@@ -40,12 +54,8 @@ pub fn word_clones()
 /// A clone never fails.
 pub fn word_clones_never_fail()
     ensures errors { (a : _) → ⟦<TextError as Clone>⟧.is_infallible a }
-    ensures times { (a : _) → ⟦<Timestamp as Clone>⟧.is_infallible a }
     ensures hexadecimal { (a : _) → ⟦<Hex<'static> as Clone>⟧.is_infallible a }
     ensures base32 { (a : _) → ⟦<Base32<'static> as Clone>⟧.is_infallible a }
-    ensures addresses { (a : _) → ⟦<Eui<'static> as Clone>⟧.is_infallible a }
-    ensures locators { (a : _) → ⟦<Locator64 as Clone>⟧.is_infallible a }
-    ensures locations { (a : _) → ⟦<Location as Clone>⟧.is_infallible a }
     ensures strings { (a : _) → ⟦<Quoted<'static> as Clone>⟧.is_infallible a }
     ensures tags { (a : _) → ⟦<Tag<'static> as Clone>⟧.is_infallible a }
 {}

@@ -3,7 +3,7 @@ ghost use Rattle.std.specs.Prelude.{◌≡◌, ◌<◌, ◌≤◌, ◌↔◌, �
 ghost use Rattle.std.specs.Char.{is_ascii_hexdigit};
 ghost use Rattle.std.specs.List.{list_all};
 ghost use Rattle.fields_text.specs.Octets.{IsBase64, IsHex};
-ghost use Rattle.fields_text.specs.Reading.{ReadsOctets, RepresentsCount, RepresentsSome, TakesMemory};
+ghost use Rattle.fields_text.specs.ReadOctets.{ReadsOctets, RepresentsCount, RepresentsSome, TakesMemory};
 
 use crate::text_error::TextError;
 use base64::DecodeAllocError;

@@ -1,7 +1,7 @@
 //! Character strings (RFC 1035 section 5.1).
 ghost use Rattle.std.specs.Char.{is_ascii_digit};
 ghost use Rattle.std.specs.Prelude.{◌≡◌, MatchOption, true};
-ghost use Rattle.fields_text.specs.Reading.{IsFailure, PushesFitting, ReadsOctets, TakesMemory};
+ghost use Rattle.fields_text.specs.ReadOctets.{IsFailure, PushesFitting, ReadsOctets, TakesMemory};
 ghost use Rattle.fields_text.specs.Strings.{SpellsOctets, SpellsString, decimal_at, octet_at, unquoted};
 
 use crate::text_error::TextError;

@@ -1,4 +1,5 @@
 //! What is wrong with a word.
+
 use thiserror::Error;
 
 /// What is wrong with a word that is read.

@@ -1,6 +1,5 @@
 -- How the items that C passes become entries, and how entries are pushed.
-use Rattle.std.proofs.Common.{◌≡◌, ◌∙◌, ℕ, zero, suc, ◌+◌, ◌<◌, ◌≤◌, ◌⊎◌, List, [], ◌∷◌, ◌++◌, length, drop, take, get_or, length-append, append_assoc}
-use Rattle.std.proofs.Common.{append-nil, ap, sym, subst, refl, inl, inr, arith}
+use Rattle.std.proofs.Common.{◌≡◌, ◌∙◌, ℕ, zero, suc, ◌+◌, ◌<◌, ◌≤◌, ◌⊎◌, List, [], ◌∷◌, ◌++◌, length, drop, take, get_or, length-append, append_assoc, append-nil, ap, sym, subst, refl, inl, inr, arith}
 use Rattle.std.proofs.Math.Seq.{drop-cons}
 use Rattle.std.proofs.lemmas.List.{drop_all, take_all}
 use Rattle.std.proofs.lemmas.List.Elements.{All-cons, All-more, All-nil, All-tail}
@@ -9,7 +8,7 @@ use Rattle.std.specs.Prelude.{Bool, Option, Result, Ok, Err, None, IfErr, IsOk}
 use Rattle.dns_name.proofs.theory.NameTextFaults.{one_text_name}
 use Rattle.dns_wire.specs.Encoders.{Rule}
 use Rattle.dns_wire.specs.Parts.{Part}
-use Rattle.fields_octets.proofs.theory.UncompressedOctets.{not_uncompressed, one_uncompressed}
+use Rattle.fields_table.proofs.theory.UncompressedOctets.{not_uncompressed, one_uncompressed}
 use Rattle.dns_octets.specs.declared.error.AppendError.{AppendError}
 use Rattle.dns_octets.specs.declared.error.AppendError.TheVariants as appending
 use Rattle.dns_wire.specs.Targets.{AppendReturns}
@@ -27,9 +26,7 @@ use Rattle.dns_build.specs.declared.push_error.PushError.TheVariants as pushing
 use Rattle.dnsm_status.specs.Codes.{append_fault, number_of, push_fault}
 use Rattle.dnsm_text.specs.Texts.{SpellsNoName}
 use Rattle.dnsm_read.specs.Walk.{section_at}
-use Rattle.dnsm_make.specs.Built.{NewEntry, Question, Record, Means, AllMean, IsQuestionOf, IsRecordOf, IsDataOf, HasNoFields, item_data_type, LacksFields}
-use Rattle.dnsm_make.specs.Built.{IsRefused, FirstRefused, ReturnsRecordPush, RefusesHeader, RefusesQuestion, RefusesRecord, RefusesEntry, IsUnbuilt, HasTooMany}
-use Rattle.dnsm_make.specs.Built.{AreQuestions, AreRecords, RefusesEntries, beginning_of, questions_among, records_among}
+use Rattle.dnsm_make.specs.Built.{NewEntry, Question, Record, Means, AllMean, IsQuestionOf, IsRecordOf, IsDataOf, HasNoFields, item_data_type, LacksFields, IsRefused, FirstRefused, ReturnsRecordPush, RefusesHeader, RefusesQuestion, RefusesRecord, RefusesEntry, IsUnbuilt, HasTooMany, AreQuestions, AreRecords, RefusesEntries, beginning_of, questions_among, records_among}
 use Rattle.dnsm_make.specs.declared.build.NewItem.{NewItem}
 use Rattle.dnsm_status.specs.declared.code.CallError.TheVariants.{BadSection, BadText, LongData, BadData, NoRoom, TooMany}
 

@@ -5,8 +5,8 @@ use Rattle.dns_name.specs.Unique.{encoded_name}
 use Rattle.dns_wire.specs.Parts.{Part}
 use Rattle.dns_item.specs.Questions.{QuestionItem, IsQuestion}
 use Rattle.dns_item.specs.Items.{RecordItem, IsRecord}
-use Rattle.fields_octets.specs.FieldData.{type_layout}
-use Rattle.fields_octets.specs.LaidOut.{encoded_parts}
+use Rattle.fields_table.specs.FieldData.{type_layout}
+use Rattle.fields_table.specs.LaidOut.{encoded_parts}
 use Rattle.dnsm_read.specs.DataFields.{IsDataIn, data_end, data_type, up_to_data_end}
 use Rattle.dnsm_read.specs.declared.walk.Item.{Item}
 use Rattle.dnsm_put.specs.Copies.{HasNumbers, IsItemIn, IsQuestionIn, IsRecordIn}

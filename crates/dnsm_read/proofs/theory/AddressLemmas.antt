@@ -6,12 +6,12 @@ use Rattle.std.proofs.lemmas.List.{take_all}
 use Rattle.dns_wire.specs.Parts.{Octets}
 use Rattle.dns_data.specs.Layout.{Layout, DataAt}
 use Rattle.dns_data.specs.Layout.Layout.{AtMost, Fixed, End}
-use Rattle.fields_octets.specs.FieldData.{type_layout}
-use Rattle.fields_octets.specs.LayoutTypes.{layout_type}
-use Rattle.fields_octets.specs.Layouts.{layout_of, most}
-use Rattle.fields_octets.specs.RecordTypes.{record_types}
-use Rattle.fields_octets.specs.Table.{definitions_of}
-use Rattle.fields_octets.specs.UncompressedData.{IsUncompressedData}
+use Rattle.fields_table.specs.FieldData.{type_layout}
+use Rattle.fields_table.specs.LayoutTypes.{layout_type}
+use Rattle.fields_table.specs.Layouts.{layout_of, most}
+use Rattle.fields_table.specs.RecordTypes.{record_types}
+use Rattle.fields_table.specs.Table.{definitions_of}
+use Rattle.fields_table.specs.UncompressedData.{IsUncompressedData}
 
 -- RDATA with octets has the layout of its own type, whatever the class is.
 own_layout : (class len rtype : ℕ) → 1 ≤ len → layout_type class len rtype ≡ rtype

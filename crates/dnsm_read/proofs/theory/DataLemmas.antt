@@ -7,7 +7,7 @@ use Rattle.dns_data.specs.Layout.{DataAt, Layout}
 use Rattle.dns_data.proofs.theory.DataReading.{not_both, one_rdata}
 use Rattle.dns_item.specs.RecordReading.{WholeDataFaultAt}
 use Rattle.dns_item.specs.RecordReading.WholeDataFaultAt.{first, left_over}
-use Rattle.fields_octets.specs.FieldData.{type_layout}
+use Rattle.fields_table.specs.FieldData.{type_layout}
 use Rattle.dnsm_read.specs.DataFields.{IsDataIn, LacksData, data_end, data_type, up_to_data_end}
 use Rattle.dnsm_read.specs.declared.walk.Item.{Item}
 

@@ -9,8 +9,8 @@ use Rattle.dns_wire.proofs.theory.Stability.{name_at_append}
 use Rattle.dns_wire.specs.Parts.{Part}
 use Rattle.dns_wire.specs.Parts.Part.{Octets, CompressibleName, UncompressedName}
 use Rattle.dns_data.proofs.theory.DataReading.{one_rdata}
-use Rattle.fields_octets.specs.FieldData.{type_layout}
-use Rattle.fields_octets.specs.FieldParts.{NamedPart}
+use Rattle.fields_table.specs.FieldData.{type_layout}
+use Rattle.fields_table.specs.FieldParts.{NamedPart}
 use Rattle.dnsm_read.specs.DataFields.{IsDataIn, data_end, data_fields, data_type, up_to_data_end}
 use Rattle.dnsm_read.specs.DataNames.{HasFewNames, IsDataName, LacksDataName, MayHaveName}
 use Rattle.dnsm_read.specs.FieldOffsets.{PartAt}

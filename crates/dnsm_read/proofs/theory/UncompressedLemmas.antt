@@ -6,17 +6,17 @@ use Rattle.dns_name.specs.Names.{Labels, NameContinues, uncompressed}
 use Rattle.dns_name.proofs.theory.ExtentLaws.{ends_after}
 use Rattle.dns_wire.specs.Parts.{Part}
 use Rattle.dns_wire.specs.Parts.Part.{Octets, CompressibleName, UncompressedName}
-use Rattle.fields_octets.specs.Data.{parts_of, rtype_of}
-use Rattle.fields_octets.specs.DataOrders.{octets_of_parts, part_octets}
-use Rattle.fields_octets.specs.FieldParts.{NamedPart, named_parts}
-use Rattle.fields_octets.specs.Table.{definitions_of}
-use Rattle.fields_octets.specs.LayoutTypes.{layout_type, null_type}
-use Rattle.fields_octets.specs.UncompressedData.{IsUncompressedData}
-use Rattle.fields_octets.specs.declared.field_data.FieldData.{FieldData}
-use Rattle.fields_octets.proofs.theory.PartOctets.{parts_length}
-use Rattle.fields_octets.proofs.theory.UncompressedOctets.{uncompressed_back}
-use Rattle.fields_print.specs.DataTexts.{data_fields as fields_of}
-use Rattle.fields_print.specs.FieldTexts.{fields_octets}
+use Rattle.fields_table.specs.Data.{parts_of, rtype_of}
+use Rattle.fields_table.specs.DataOrders.{octets_of_parts, part_octets}
+use Rattle.fields_table.specs.FieldParts.{NamedPart, named_parts}
+use Rattle.fields_table.specs.Table.{definitions_of}
+use Rattle.fields_table.specs.LayoutTypes.{layout_type, null_type}
+use Rattle.fields_table.specs.UncompressedData.{IsUncompressedData}
+use Rattle.fields_table.specs.declared.field_data.FieldData.{FieldData}
+use Rattle.fields_table.proofs.theory.PartOctets.{parts_length}
+use Rattle.fields_table.proofs.theory.UncompressedOctets.{uncompressed_back}
+use Rattle.fields_records.specs.DataTexts.{data_fields as fields_of}
+use Rattle.fields_records.specs.FieldTexts.{fields_octets}
 use Rattle.dnsm_read.specs.DataFields.{IsDataIn, UncompressesTo, data_end, data_fields, data_type, up_to_data_end}
 use Rattle.dnsm_read.specs.FieldOffsets.{FieldsAt, PartAt}
 use Rattle.dnsm_read.specs.declared.walk.Item.{Item}

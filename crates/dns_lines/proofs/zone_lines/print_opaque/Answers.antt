@@ -5,7 +5,7 @@ use Rattle.dns_data.specs.UnknownData.{unknown_rtype_of, unknown_octets}
 use Rattle.dns_wire.specs.Parts.Part.{Octets}
 use Rattle.dns_item.specs.ParsedRecord.{encoded_record}
 use Rattle.dns_item.specs.Record.{data_of}
-use Rattle.fields_print.specs.ZoneNames.{zone_name_text}
+use Rattle.fields_plain.specs.ZoneNames.{zone_name_text}
 use Rattle.dns_lines.proofs.theory.PrintedLines.{printed_as}
 use Rattle.dns_lines.proofs.theory.ShownRecords.{there, opaque_is_ok}
 use Rattle.dns_lines.proofs.LineLemmas.{opaque_printed}

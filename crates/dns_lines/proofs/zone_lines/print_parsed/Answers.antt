@@ -3,8 +3,8 @@ use Rattle.std.specs.Io.KnownBytes.{Appends}
 use Rattle.dns_item.specs.ParsedRecord.{encoded_record}
 use Rattle.dns_item.specs.Record.{data_of}
 use Rattle.dns_name.specs.Names.{fault_of}
-use Rattle.fields_octets.specs.Data.{parts_of}
-use Rattle.fields_octets.specs.FieldData.{type_layout}
+use Rattle.fields_table.specs.Data.{parts_of}
+use Rattle.fields_table.specs.FieldData.{type_layout}
 use Rattle.dns_lines.specs.Show.{line}
 use Rattle.dns_lines.proofs.theory.AppendedTexts.{appends_none}
 use Rattle.dns_lines.proofs.theory.PrintedLines.{printed_as}

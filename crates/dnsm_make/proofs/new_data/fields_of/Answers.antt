@@ -1,7 +1,7 @@
 use Rattle.std.proofs.Common.{◌≡◌, refl, subst}
 use Rattle.dns_name.specs.Names.{fault_of}
-use Rattle.fields_octets.specs.Data.{parts_of}
-use Rattle.fields_octets.specs.UncompressedData.{IsUncompressedData, UncompressedDataFault}
+use Rattle.fields_table.specs.Data.{parts_of}
+use Rattle.fields_table.specs.UncompressedData.{IsUncompressedData, UncompressedDataFault}
 use Rattle.dnsm_make.specs.Built.{item_data_type}
 use Rattle.dnsm_make.proofs.new_data.fields_of.Goals as goal
 

@@ -1,8 +1,8 @@
 use Rattle.std.proofs.Common.{subst}
 use Rattle.dns_name.specs.Names.{fault_of}
-use Rattle.fields_octets.specs.Data.{parts_of}
-use Rattle.fields_octets.specs.UncompressedData.{IsUncompressedData, UncompressedDataFault}
-use Rattle.fields_octets.proofs.theory.UncompressedOctets.{not_uncompressed}
+use Rattle.fields_table.specs.Data.{parts_of}
+use Rattle.fields_table.specs.UncompressedData.{IsUncompressedData, UncompressedDataFault}
+use Rattle.fields_table.proofs.theory.UncompressedOctets.{not_uncompressed}
 use Rattle.dnsm_put.specs.Rdata.{data_type}
 use Rattle.dnsm_put.proofs.checked.are_fields.Goals as goal
 

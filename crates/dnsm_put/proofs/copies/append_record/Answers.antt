@@ -1,5 +1,5 @@
 use Rattle.std.proofs.Common.{◌+◌, get_or, set, arith, ap, refl}
-use Rattle.fields_octets.specs.FieldOrders.{parts_left}
+use Rattle.fields_table.specs.FieldOrders.{parts_left}
 use Rattle.dnsm_put.specs.Items.{IsQuestionOf, IsRecordWith}
 use Rattle.dnsm_put.proofs.Drafts.{adds}
 use Rattle.dnsm_put.proofs.copies.append_record.Goals as goal

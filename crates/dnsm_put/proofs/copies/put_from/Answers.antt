@@ -2,7 +2,7 @@ use Rattle.std.proofs.Common.{◌∙◌, length, arith, sym}
 use Rattle.std.proofs.lemmas.Result.{IfErr-weaker, on_ok_weaker}
 use Rattle.dns_name.specs.ParsedName.{labels}
 use Rattle.dns_name.specs.Unique.{encoded_name}
-use Rattle.fields_octets.specs.FieldOrders.{parts_left}
+use Rattle.fields_table.specs.FieldOrders.{parts_left}
 use Rattle.dnsm_put.specs.Copies.{IsRefusedFrom}
 use Rattle.dnsm_put.specs.Refusals.{IsRefused}
 use Rattle.dnsm_put.proofs.Copied.{data_left, no_reason_from, question_adds, question_refused, question_takes, read_copy, record_adds, record_refused, record_takes}

@@ -4,8 +4,8 @@ use Rattle.std.specs.Prelude.{IfSome}
 use Rattle.dns_name.specs.ParsedName.{labels}
 use Rattle.dns_name.proofs.theory.NameLemmas.{parsed_is}
 use Rattle.dns_wire.specs.Targets.{At}
-use Rattle.fields_octets.specs.EncodedFields.{part_of}
-use Rattle.fields_octets.specs.declared.encoded.Encoded.{Encoded}
+use Rattle.fields_table.specs.EncodedFields.{part_of}
+use Rattle.fields_table.specs.declared.encoded.Encoded.{Encoded}
 use Rattle.dnsm_put.specs.Writing.{IsPartWritten}
 use Rattle.dnsm_put.proofs.FieldsWritten.{put_flat}
 use Rattle.dnsm_put.proofs.fields.put_field.Goals as goal

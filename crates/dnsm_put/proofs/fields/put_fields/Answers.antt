@@ -1,7 +1,7 @@
 use Rattle.std.proofs.Common.{◌≡◌, [], ◌∷◌, arith, ap, rules}
 use Rattle.dns_wire.specs.Parts.{parts_size}
-use Rattle.fields_octets.specs.EncodedFields.{part_of}
-use Rattle.fields_octets.specs.FieldOrders.{parts_left}
+use Rattle.fields_table.specs.EncodedFields.{part_of}
+use Rattle.fields_table.specs.FieldOrders.{parts_left}
 use Rattle.dnsm_put.proofs.FieldsWritten.{fielded_none, fielded_more, fielded_all}
 use Rattle.dnsm_put.proofs.fields.put_fields.Goals as goal
 

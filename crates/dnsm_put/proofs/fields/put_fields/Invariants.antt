@@ -1,4 +1,4 @@
-use Rattle.fields_octets.specs.FieldOrders.{parts_left}
+use Rattle.fields_table.specs.FieldOrders.{parts_left}
 use Rattle.dnsm_put.proofs.FieldsWritten.{Fielded}
 use Rattle.dnsm_put.proofs.fields.put_fields.Given as goal
 

@@ -1,5 +1,5 @@
 use Rattle.std.proofs.Common.{refl, take}
-use Rattle.fields_octets.specs.Data.{parts_of}
+use Rattle.fields_table.specs.Data.{parts_of}
 use Rattle.dnsm_read.proofs.DataFieldLemmas.{data_encoded, data_there, no_data}
 use Rattle.dnsm_read.proofs.data_fields.fields.Goals as goal
 

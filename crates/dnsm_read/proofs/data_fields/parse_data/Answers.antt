@@ -1,6 +1,6 @@
 use Rattle.std.proofs.Common.{◌∙◌, List, ℕ, ap, length}
 use Rattle.dns_name.specs.Parsers.{offset}
-use Rattle.fields_octets.specs.Data.{parts_of}
+use Rattle.fields_table.specs.Data.{parts_of}
 use Rattle.dnsm_read.proofs.DataFieldLemmas.{all_read, no_fields, octets_left}
 use Rattle.dnsm_read.proofs.data_fields.parse_data.Goals as goal
 

@@ -1,6 +1,6 @@
 use Rattle.std.proofs.Common.{◌≡◌, ◌+◌, take}
 use Rattle.std.specs.List.{sum_by}
-use Rattle.fields_octets.specs.Table.{Field}
+use Rattle.fields_table.specs.Table.{Field}
 use Rattle.dnsm_read.specs.DataNames.{most_names}
 use Rattle.dnsm_read.proofs.data_name.may_have_name.Given as goal
 

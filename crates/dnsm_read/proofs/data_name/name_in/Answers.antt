@@ -1,6 +1,6 @@
 use Rattle.std.proofs.Common.{inr, refl, subst, ◌<◌}
 use Rattle.dns_name.specs.ParsedName.{labels}
-use Rattle.fields_octets.specs.Table.{definitions_of}
+use Rattle.fields_table.specs.Table.{definitions_of}
 use Rattle.dnsm_read.specs.DataNames.{MayHaveName, most_names_in}
 use Rattle.dnsm_read.proofs.DataFieldLemmas.{data_name, few_names, left_names}
 use Rattle.dnsm_read.proofs.data_name.name_in.Goals as goal

@@ -1,5 +1,5 @@
-use Rattle.fields_octets.specs.Data.{parts_of}
-use Rattle.fields_octets.specs.DataOrders.{octets_of_parts}
+use Rattle.fields_table.specs.Data.{parts_of}
+use Rattle.fields_table.specs.DataOrders.{octets_of_parts}
 use Rattle.dnsm_read.proofs.theory.UncompressedLemmas.{copied}
 use Rattle.dnsm_read.proofs.data_octets.data_octets.Goals as goal
 

@@ -1,6 +1,6 @@
 use Rattle.std.proofs.Common.{◌≡◌, ◌∷◌, [], rules}
-use Rattle.fields_octets.specs.FieldParts.{fields_left, named_part}
-use Rattle.fields_print.specs.DataTexts.{data_fields}
+use Rattle.fields_table.specs.FieldParts.{fields_left, named_part}
+use Rattle.fields_records.specs.DataTexts.{data_fields}
 use Rattle.dnsm_read.proofs.OctetWalks.{all_written, field_written, writing_begins}
 use Rattle.dnsm_status.proofs.theory.PieceLemmas.{holds_as}
 use Rattle.dnsm_read.proofs.data_octets.write_fields.Goals as goal

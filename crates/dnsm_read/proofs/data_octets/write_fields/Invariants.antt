@@ -1,5 +1,5 @@
-use Rattle.fields_octets.specs.FieldParts.{fields_left}
-use Rattle.fields_print.specs.DataTexts.{data_fields}
+use Rattle.fields_table.specs.FieldParts.{fields_left}
+use Rattle.fields_records.specs.DataTexts.{data_fields}
 use Rattle.dnsm_read.proofs.OctetWalks.{Written}
 use Rattle.dnsm_read.proofs.data_octets.write_fields.Given as goal
 

@@ -1,7 +1,7 @@
 use Rattle.std.proofs.Common.{◌≡◌, arith, rules, subst, true}
 use Rattle.dns_name.proofs.theory.Names.{not_both}
 use Rattle.dns_wire.specs.Parts.Part.{Octets}
-use Rattle.fields_octets.specs.EncodedFields.{part_of}
+use Rattle.fields_table.specs.EncodedFields.{part_of}
 use Rattle.dnsm_read.specs.FieldOffsets.{PartAt}
 use Rattle.dnsm_read.proofs.FieldWalks.{is_name, name_part_end, name_there, octets_end}
 use Rattle.dnsm_read.proofs.field_offsets.end_of.Goals as goal

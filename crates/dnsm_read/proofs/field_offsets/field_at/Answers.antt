@@ -1,5 +1,5 @@
 use Rattle.std.proofs.Common.{◌≡◌, ◌∷◌, [], arith, rules}
-use Rattle.fields_octets.specs.FieldParts.{fields_left, named_part}
+use Rattle.fields_table.specs.FieldParts.{fields_left, named_part}
 use Rattle.dnsm_read.proofs.FieldWalks.{next_field, next_part, walk_begins, walk_ends, walk_on}
 use Rattle.dnsm_read.proofs.field_offsets.field_at.Goals as goal
 

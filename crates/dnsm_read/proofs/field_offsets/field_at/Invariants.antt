@@ -1,4 +1,4 @@
-use Rattle.fields_octets.specs.FieldParts.{fields_left}
+use Rattle.fields_table.specs.FieldParts.{fields_left}
 use Rattle.dnsm_read.proofs.FieldWalks.{Walked}
 use Rattle.dnsm_read.proofs.field_offsets.field_at.Given as goal
 

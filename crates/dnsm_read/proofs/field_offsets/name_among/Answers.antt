@@ -1,5 +1,5 @@
 use Rattle.std.proofs.Common.{◌≡◌, ◌∷◌, [], rules}
-use Rattle.fields_octets.specs.FieldParts.{fields_left, named_part}
+use Rattle.fields_table.specs.FieldParts.{fields_left, named_part}
 use Rattle.dnsm_read.proofs.NameWalks.{name_found, names_begin, names_end, names_on, part_here, within_here}
 use Rattle.dnsm_read.proofs.field_offsets.name_among.Goals as goal
 

@@ -1,4 +1,4 @@
-use Rattle.fields_octets.specs.FieldParts.{fields_left}
+use Rattle.fields_table.specs.FieldParts.{fields_left}
 use Rattle.dnsm_read.proofs.NameWalks.{NamesWalked}
 use Rattle.dnsm_read.proofs.field_offsets.name_among.Given as goal
 

@@ -1,5 +1,5 @@
 use Rattle.std.proofs.Common.{◌≡◌, ◌+◌, ℕ, List, [], arith, subst, sym}
-use Rattle.fields_octets.specs.declared.kind.Kind.{Kind}
+use Rattle.fields_table.specs.declared.kind.Kind.{Kind}
 use Rattle.dnsm_read.specs.NameOffsets.{Finds, NamesInOctets, gateway_offset, relay_offset}
 use Rattle.dnsm_read.proofs.NameOffsetLemmas.{only_finds, other_names}
 use Rattle.dnsm_read.proofs.name_offsets.offset_in_octets.Goals as goal

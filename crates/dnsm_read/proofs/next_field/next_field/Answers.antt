@@ -1,10 +1,10 @@
 use Rattle.std.proofs.Common.{◌∙◌, List, ℕ, ap, arith, length, subst}
 use Rattle.std.proofs.lemmas.List.{length-map}
-use Rattle.fields_octets.specs.Data.{parts_of}
-use Rattle.fields_octets.specs.EncodedFields.{part_of}
-use Rattle.fields_octets.specs.FieldParts.{named_part}
-use Rattle.fields_octets.specs.Table.{Definition, Field, definitions_of}
-use Rattle.fields_octets.specs.Values.{part_value}
+use Rattle.fields_table.specs.Data.{parts_of}
+use Rattle.fields_table.specs.EncodedFields.{part_of}
+use Rattle.fields_table.specs.FieldParts.{named_part}
+use Rattle.fields_table.specs.Table.{Definition, Field, definitions_of}
+use Rattle.fields_table.specs.Values.{part_value}
 use Rattle.dnsm_read.specs.DataFields.{data_type}
 use Rattle.dnsm_read.specs.FieldValues.{Shows}
 use Rattle.dnsm_read.proofs.DataFieldLemmas.{data_field, few_named, left_are, left_at}

@@ -1,8 +1,8 @@
 use Rattle.std.proofs.Common.{◌≡◌, ◌∙◌, arith, subst}
 use Rattle.dns_name.specs.ParsedName.{labels}
 use Rattle.dns_name.specs.Names.{NameAt}
-use Rattle.fields_octets.specs.EncodedFields.{part_of}
-use Rattle.fields_octets.specs.Values.{FieldValue}
+use Rattle.fields_table.specs.EncodedFields.{part_of}
+use Rattle.fields_table.specs.Values.{FieldValue}
 use Rattle.dnsm_read.specs.FieldValues.{IsPlaced, Shows}
 use Rattle.dnsm_read.proofs.FieldValueLemmas.{octets_fit, octets_placed, octets_shown, value_name}
 use Rattle.dnsm_read.proofs.FieldValueLemmas.HasKind.{ipv4, ipv6, others, sized, string}

@@ -1,7 +1,7 @@
 use Rattle.std.proofs.Common.{subst, sym}
-use Rattle.fields_read_records.specs.DataWords.{MayBeData}
-use Rattle.fields_read_records.specs.FieldWords.{Words}
-use Rattle.fields_read_words.specs.LineWords.{AreWordsOf, texts}
+use Rattle.fields_records.specs.DataWords.{MayBeData}
+use Rattle.fields_records.specs.FieldWords.{Words}
+use Rattle.fields_text.specs.LineWords.{AreWordsOf, texts}
 use Rattle.dnsm_zone.specs.Lines.{AreNoData}
 use Rattle.dnsm_zone.proofs.LineLemmas.{line_without}
 use Rattle.dnsm_zone.proofs.data.data_from_text.Goals as goal

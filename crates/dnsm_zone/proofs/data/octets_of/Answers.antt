@@ -2,8 +2,8 @@ use Rattle.std.proofs.Common.{◌∙◌, ℕ, List, ap}
 use Rattle.dns_wire.specs.Encoders.{Plain, nothing}
 use Rattle.dns_wire.specs.Parts.{encode_parts}
 use Rattle.dns_wire.specs.Targets.{Written, append, with_empty_table}
-use Rattle.fields_octets.specs.OwnedData.{owned_parts_of}
-use Rattle.fields_octets.proofs.theory.PartOctets.{plain_octets}
+use Rattle.fields_table.specs.OwnedData.{owned_parts_of}
+use Rattle.fields_table.proofs.theory.PartOctets.{plain_octets}
 use Rattle.dnsm_zone.proofs.data.octets_of.Goals as goal
 
 pub returns-clause-octets : goal.returns-clause-octets

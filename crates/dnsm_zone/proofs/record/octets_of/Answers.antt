@@ -4,7 +4,7 @@ use Rattle.dns_wire.specs.Encoders.{Plain}
 use Rattle.dns_wire.specs.Targets.{append, with_empty_table}
 use Rattle.dns_item.specs.Items.{encode_record}
 use Rattle.dns_item.specs.Record.{record_item}
-use Rattle.fields_octets.specs.OwnedData.{owned_parts_of, owned_rtype_of}
+use Rattle.fields_table.specs.OwnedData.{owned_parts_of, owned_rtype_of}
 use Rattle.dnsm_zone.proofs.LineLemmas.{alone_reads_back}
 use Rattle.dnsm_zone.proofs.record.octets_of.Goals as goal
 

@@ -1,7 +1,7 @@
 use Rattle.std.proofs.Common.{subst, sym}
-use Rattle.fields_read_records.specs.FieldWords.{Words}
-use Rattle.fields_read_records.specs.RecordWords.{MayBeRecord}
-use Rattle.fields_read_words.specs.LineWords.{AreWordsOf, texts}
+use Rattle.fields_records.specs.FieldWords.{Words}
+use Rattle.fields_records.specs.RecordWords.{MayBeRecord}
+use Rattle.fields_text.specs.LineWords.{AreWordsOf, texts}
 use Rattle.dnsm_zone.specs.Lines.{AreNoRecord}
 use Rattle.dnsm_zone.proofs.LineLemmas.{line_without, record_there}
 use Rattle.dnsm_zone.proofs.record.record_from_text.Goals as goal

@@ -2,7 +2,7 @@ use Rattle.std.proofs.Common.{◌∙◌, [], ◌∷◌, ◌++◌, ◌-◌, ◌/�
 use Rattle.std.proofs.lemmas.Str.{encode_ascii}
 use Rattle.dns_print.proofs.theory.Prints.{print_two}
 use Rattle.fields_text.specs.Base32.{base32_digits}
-use Rattle.fields_text.proofs.Base32Lemmas.{digits_more}
+use Rattle.fields_text.proofs.Base32Digits.{digits_more}
 use Rattle.fields_text.proofs.base32.+write_digits.Goals as goal
 
 pub returns-clause-text : goal.returns-clause-text

@@ -1,6 +1,6 @@
 use Rattle.std.proofs.Common.{◌≤◌, length, refl, arith, rules}
-use Rattle.fields_text.proofs.Base32Lemmas.{text_of_five}
-use Rattle.fields_text.proofs.theory.PrintedParts.{left_printed, none_printed, word_printed}
+use Rattle.fields_text.proofs.Base32Digits.{text_of_five}
+use Rattle.fields_text.proofs.theory.Printing.{left_printed, none_printed, word_printed}
 use Rattle.fields_text.proofs.base32.write_base32.Goals as goal
 
 pub groups-init : goal.groups-init

@@ -1,6 +1,6 @@
 use Rattle.std.proofs.Common.{length}
 use Rattle.fields_text.specs.Base32.{base32_text}
-use Rattle.fields_text.proofs.theory.PrintedParts.{Printing}
+use Rattle.fields_text.proofs.theory.Printing.{Printing}
 use Rattle.fields_text.proofs.base32.write_base32.Given as goal
 
 abbrev pub invariant-groups : goal.invariant-groups

@@ -1,7 +1,7 @@
 use Rattle.std.proofs.Common.{◌<◌, ◌↔◌, length}
 use Rattle.base64.specs.GeneralPurpose.{IsBytes}
 use Rattle.fields_text.specs.Octets.{IsBase64}
-use Rattle.fields_text.specs.Reading.{RepresentsSome}
+use Rattle.fields_text.specs.ReadOctets.{RepresentsSome}
 use Rattle.fields_text.proofs.octets_word.is_base64.Given as goal
 
 abbrev pub invariant-groups : goal.invariant-groups

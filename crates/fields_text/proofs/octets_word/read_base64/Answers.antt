@@ -3,7 +3,7 @@ use Rattle.std.proofs.lemmas.Grind.{common_steps}
 use Rattle.std.proofs.lemmas.Bool.{false≢true}
 use Rattle.std.specs.Prelude.{ℕ, List}
 use Rattle.fields_text.specs.Octets.{IsBase64}
-use Rattle.fields_text.specs.Reading.{RepresentsSome}
+use Rattle.fields_text.specs.ReadOctets.{RepresentsSome}
 use Rattle.fields_text.proofs.Base64Words.{word_takes_memory}
 use Rattle.fields_text.proofs.HexWords.{empty_is_base64}
 use Rattle.fields_text.proofs.octets_word.read_base64.Goals as goal

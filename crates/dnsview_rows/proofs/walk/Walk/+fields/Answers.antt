@@ -1,6 +1,6 @@
 use Rattle.std.proofs.Common.{◌≡◌, ◌∙◌, ap, List, None, Some, Err, subst, sym}
 use Rattle.std.proofs.lemmas.Result.{err_from_is_err_and}
-use Rattle.fields_octets.specs.Table as table
+use Rattle.fields_table.specs.Table as table
 use Rattle.dnsview_rows.specs.Walks.{MarksFields, MissesField, OnFaultOf, StopsFields}
 use Rattle.dnsview_rows.proofs.DataRows.{field_stops, fields_none, fields_then, first_field}
 use Rattle.dnsview_rows.proofs.Stops.{on_fault, on_ok}

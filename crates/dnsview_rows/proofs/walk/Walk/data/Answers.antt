@@ -1,5 +1,5 @@
 use Rattle.std.proofs.Common.{◌≡◌, ◌∙◌, ap, None, Some, rules}
-use Rattle.fields_octets.specs.Table as table
+use Rattle.fields_table.specs.Table as table
 use Rattle.dnsview_rows.specs.Data.{opt_type}
 use Rattle.dnsview_rows.specs.Walks.{MarksData, MarksFields, MarksOptions, StopsData, StopsFields, StopsOptions}
 use Rattle.dnsview_rows.proofs.DataRows.{data_fields, data_options}

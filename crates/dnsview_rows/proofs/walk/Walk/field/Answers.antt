@@ -1,5 +1,5 @@
 use Rattle.std.proofs.Common.{◌∙◌, sym}
-use Rattle.fields_octets.specs.Table as table
+use Rattle.fields_table.specs.Table as table
 use Rattle.dnsview_rows.specs.Walks.{CoversAllTexts, CoversField, CoversName, CoversOctets, MissesField, MissesName, MissesOctets, MissesText}
 use Rattle.dnsview_rows.specs.declared.row.RowField.TheVariants.{Named}
 use Rattle.dnsview_rows.specs.declared.row.NameOf.TheVariants as names

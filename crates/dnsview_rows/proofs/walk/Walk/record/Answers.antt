@@ -1,7 +1,7 @@
 use Rattle.std.proofs.Common.{◌≡◌, ℕ, ◌+◌, ◌≤◌, ◌∙◌, ap, subst, length, None, Err, rules}
 use Rattle.std.specs.Int.{w16}
 use Rattle.dns_name.specs.Parsers.{number_at}
-use Rattle.fields_octets.specs.LayoutTypes.{layout_type}
+use Rattle.fields_table.specs.LayoutTypes.{layout_type}
 use Rattle.dnsview_rows.specs.Entries.{item_row, number_rows}
 use Rattle.dnsview_rows.specs.Walks.{at, octets, CutsFields, LacksFields, MarksStop, MarksWithin, MissesItemName, StopsWithin}
 use Rattle.dnsview_rows.specs.declared.row.NameOf.TheVariants as names

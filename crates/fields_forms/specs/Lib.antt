@@ -1,0 +1,13 @@
+pub mod Gateways
+pub mod GatewayTexts
+pub mod GatewayValues
+pub mod GatewayWords
+pub mod HostIdentities
+pub mod IdentityValues
+pub mod IdentityWords
+pub mod Laws
+pub mod LocationItems
+pub mod LocationLaws
+pub mod Locations
+pub mod LocationWords
+pub mod PlainNames

@@ -1,0 +1,15 @@
+pub mod Blocks
+pub mod Groups
+pub mod ItemEquality
+pub mod Items
+pub mod ItemsLeft
+pub mod Laws
+pub mod Prefixes
+pub mod PrefixItems
+pub mod PrefixWords
+pub mod SmallMaps
+pub mod Strings
+pub mod TypeBits
+pub mod TypeItems
+pub mod TypeMaps
+pub mod TypeMapWords

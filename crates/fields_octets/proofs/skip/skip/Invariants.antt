@@ -1,9 +1,0 @@
-use Rattle.std.proofs.Common.{length}
-use Rattle.fields_octets.proofs.SkipSteps.{Reached}
-use Rattle.fields_octets.proofs.skip.skip.Given as goal
-
-abbrev pub invariant-fields : goal.invariant-fields
-invariant-fields l = Reached l.fields l.parser l.left l.ahead l.size
-
-abbrev pub decreases-fields : goal.decreases-fields
-decreases-fields l = length l.left

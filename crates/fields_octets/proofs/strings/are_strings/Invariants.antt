@@ -1,9 +1,0 @@
-use Rattle.std.proofs.Common.{◌≡◌, length}
-use Rattle.fields_octets.specs.Strings.{strings_after}
-use Rattle.fields_octets.proofs.strings.are_strings.Given as goal
-
-abbrev pub invariant-strings : goal.invariant-strings
-invariant-strings l = strings_after 0 l.octets ≡ strings_after 0 l.left
-
-abbrev pub decreases-strings : goal.decreases-strings
-decreases-strings l = length l.left

@@ -1,5 +1,0 @@
--- Lemmas that other crates cite, so a change here affects them too.
-pub mod NamedFields
-pub mod PartOctets
-pub mod SkippedItems
-pub mod UncompressedOctets

@@ -1,0 +1,13 @@
+pub mod AnyOrder
+pub mod ItemEquality
+pub mod ItemsLeft
+pub mod KeyMarks
+pub mod Laws
+pub mod ParameterItems
+pub mod ParameterKeys
+pub mod Parameters
+pub mod ParameterValues
+pub mod ParameterWords
+pub mod ProtocolNames
+pub mod PushedValues
+pub mod ReadParameters

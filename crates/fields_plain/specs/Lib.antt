@@ -1,0 +1,13 @@
+pub mod Addresses
+pub mod EuiTexts
+pub mod EuiWords
+pub mod Laws
+pub mod LocatorWords
+pub mod NameWords
+pub mod Salts
+pub mod SizedWords
+pub mod Time
+pub mod TimeWords
+pub mod TypeNames
+pub mod TypeWords
+pub mod ZoneNames

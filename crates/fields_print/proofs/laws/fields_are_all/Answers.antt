@@ -1,5 +1,0 @@
-use Rattle.fields_print.proofs.AllParts as all
-use Rattle.fields_print.proofs.laws.fields_are_all.Goals as goal
-
-pub returns : goal.returns
-returns c = all.fields_are_all

@@ -1,4 +1,0 @@
--- Lemmas that other crates cite, so a change here affects them too.
-pub mod ItemLemmas
-pub mod BlockLemmas
-pub mod Shrinking

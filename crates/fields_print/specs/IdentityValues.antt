@@ -1,7 +1,0 @@
--- What a host identity prints.
-use Rattle.std.specs.Prelude.{ℕ, List, Option}
-use Rattle.fields_print.specs.declared.host_identity.HostIdentity.{HostIdentity}
-use Rattle.fields_print.specs.HostIdentities.{identity_parts}
-
-abbrev pub identity_shown : HostIdentity → Option (List ℕ)
-identity_shown value = identity_parts value.algorithm value.tag.now value.key.now value.servers.now

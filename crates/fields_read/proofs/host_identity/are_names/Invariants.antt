@@ -1,7 +1,0 @@
-use Rattle.std.proofs.Common.{drop}
-use Rattle.fields_read.specs.IdentityWords.{AreNames}
-use Rattle.fields_read.proofs.theory.WordLists.{SameValue}
-use Rattle.fields_read.proofs.host_identity.are_names.Given as goal
-
-abbrev pub invariant-loop-word : goal.invariant-loop-word
-invariant-loop-word l = SameValue (AreNames l.words) (AreNames (drop l.word-index l.words))

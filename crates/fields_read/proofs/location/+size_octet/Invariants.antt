@@ -1,4 +1,0 @@
-use Rattle.fields_read.proofs.location.+size_octet.Given as goal
-
-abbrev pub decreases-size_octet : goal.decreases-size_octet
-decreases-size_octet l = l.centimetres

@@ -1,7 +1,0 @@
-use Rattle.std.proofs.Common.{ℕ, List, Bor}
-use Rattle.std.specs.List.{AllWithin}
-use Rattle.fields_read.specs.LocationWords.{IsEither}
-use Rattle.fields_read.proofs.location.direction_index.Given as goal
-
-abbrev pub invariant-loop-index : goal.invariant-loop-index
-invariant-loop-index l = AllWithin (λ (word : Bor (List ℕ)). ¬ (IsEither l.positive l.negative word.now)) l.words 0 l.index

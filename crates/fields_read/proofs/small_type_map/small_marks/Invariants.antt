@@ -1,6 +1,0 @@
-use Rattle.fields_read.proofs.SmallMarks.{AreSmallMarks}
-use Rattle.fields_read.proofs.small_type_map.small_marks.Given as goal
-
--- the types of the words so far are marked
-abbrev pub invariant-loop-word : goal.invariant-loop-word
-invariant-loop-word l = AreSmallMarks l.words l.word-index l.marks

@@ -1,5 +1,0 @@
-use Rattle.std.proofs.Common.{◌-◌}
-use Rattle.fields_read.proofs.type_map.+push_blocks.Given as goal
-
-abbrev pub decreases-push_blocks : goal.decreases-push_blocks
-decreases-push_blocks l = 256 - l.window

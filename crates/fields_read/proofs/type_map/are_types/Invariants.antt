@@ -1,6 +1,0 @@
-use Rattle.std.proofs.Common.{◌↔◌, drop}
-use Rattle.fields_read.specs.TypeMapWords.{AreTypes}
-use Rattle.fields_read.proofs.type_map.are_types.Given as goal
-
-abbrev pub invariant-loop-word : goal.invariant-loop-word
-invariant-loop-word l = AreTypes l.words ↔ AreTypes (drop l.word-index l.words)

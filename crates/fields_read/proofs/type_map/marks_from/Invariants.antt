@@ -1,6 +1,0 @@
-use Rattle.fields_read.proofs.MarkLemmas.{AreMarks}
-use Rattle.fields_read.proofs.type_map.marks_from.Given as goal
-
--- the types so far are marked
-abbrev pub invariant-loop-rtype : goal.invariant-loop-rtype
-invariant-loop-rtype l = AreMarks l.types l.rtype-index l.first l.marks

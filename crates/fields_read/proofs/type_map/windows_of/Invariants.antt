@@ -1,6 +1,0 @@
-use Rattle.fields_read.proofs.MarkLemmas.{AreWindows}
-use Rattle.fields_read.proofs.type_map.windows_of.Given as goal
-
--- the windows of the types so far are marked
-abbrev pub invariant-loop-rtype : goal.invariant-loop-rtype
-invariant-loop-rtype l = AreWindows l.types l.rtype-index l.windows

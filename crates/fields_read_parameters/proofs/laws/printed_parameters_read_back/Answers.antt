@@ -1,5 +1,0 @@
-use Rattle.fields_read_parameters.proofs.ParameterLaws.{parameters_read_back}
-use Rattle.fields_read_parameters.proofs.laws.printed_parameters_read_back.Goals as goal
-
-pub returns : goal.returns
-returns c = parameters_read_back c.printed_values_read_back.ensures.base64

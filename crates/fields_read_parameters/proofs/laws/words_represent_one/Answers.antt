@@ -1,5 +1,0 @@
-use Rattle.fields_read_parameters.proofs.theory.OneParameters.{one_parameters}
-use Rattle.fields_read_parameters.proofs.laws.words_represent_one.Goals as goal
-
-pub returns : goal.returns
-returns c = one_parameters

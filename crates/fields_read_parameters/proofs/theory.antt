@@ -1,2 +1,0 @@
--- Lemmas that other crates cite, so a change here affects them too.
-pub mod OneParameters

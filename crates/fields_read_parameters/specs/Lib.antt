@@ -1,9 +1,0 @@
-pub mod AnyOrder
-pub mod KeyMarks
-pub mod Laws
-pub mod ParameterKeys
-pub mod ParameterValues
-pub mod ParameterWords
-pub mod ProtocolNames
-pub mod PushedValues
-pub mod ReadParameters

@@ -1,8 +1,0 @@
-use Rattle.fields_read.specs.LocatorWords.{IsLocatorWord}
-use Rattle.fields_read_records.proofs.AppendLemmas.{appended}
-use Rattle.fields_read_records.proofs.word.push_locator.Goals as goal
-
-pub returns-in-Some : goal.returns-in-Some
-returns-in-Some c =
-    appended (IsLocatorWord c.args.word.now) c.in-Some.locator c.args.octets.now.items c.push_octets.new.octets.items c.push_octets.result c.in-Some.ensures
-    c.push_octets.ensures.ok c.push_octets.ensures.err

@@ -1,0 +1,14 @@
+pub mod DataTexts
+pub mod DataWords
+pub mod Extents
+pub mod FieldLaws
+pub mod FieldTexts
+pub mod FieldWords
+pub mod Laws
+pub mod ListLaws
+pub mod Rdata
+pub mod RdataTexts
+pub mod RecordLines
+pub mod RecordWords
+pub mod TextLaws
+pub mod WordCounts

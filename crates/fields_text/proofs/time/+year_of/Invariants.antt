@@ -1,4 +1,0 @@
-use Rattle.fields_text.proofs.time.+year_of.Given as goal
-
-abbrev pub decreases-year_of : goal.decreases-year_of
-decreases-year_of l = l.count
