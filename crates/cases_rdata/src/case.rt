@@ -4,9 +4,8 @@ use crate::key::Key;
 use dns_code::Rtype;
 use dns_data::{ComposeRecordData, ParseAnyRecordData};
 use dns_wire::{AppendError, ParseError, Parser};
-use fields_octets::FieldData;
-use fields_print::DataText;
-use fields_read_records::from_text;
+use fields_records::{DataText, from_text};
+use fields_table::FieldData;
 use std::alloc::{AllocError, Global};
 use std::fmt::Display;
 

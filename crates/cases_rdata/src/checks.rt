@@ -5,7 +5,7 @@ use crate::options::option_parts;
 use crate::rewriting::rewritten;
 use crate::shown::shown;
 use cases_files::{Report, key_of, octets_of};
-use fields_read::read_type;
+use fields_plain::read_type;
 use std::alloc::{AllocError, Global};
 use std::io;
 use std::io::Write;

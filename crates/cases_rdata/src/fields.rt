@@ -3,7 +3,7 @@ ghost use Rattle.std.specs.Prelude.{OnOk};
 ghost use Rattle.std.specs.Io.KnownBytes.{Appends};
 ghost use Rattle.hex.specs.Hex.{encode_lower};
 
-use fields_octets::{FieldData, Value};
+use fields_table::{FieldData, Value};
 use std::alloc::Global;
 use std::io;
 use std::io::Write;

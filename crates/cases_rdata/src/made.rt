@@ -1,9 +1,10 @@
 //! RDATA that is made again: from the values of its fields, and as copies that own it.
 use crate::case::{Case, digits_written};
+use crate::named::made_of;
 use dns_data::{ComposeRecordData, RecordData};
 use dns_wire::{AppendError, FlattenInto, OctetsFrom};
-use fields_octets::{FieldData, Fields, OwnedFieldData, Value, fields_of};
-use fields_values::{NewValue, from_values};
+use fields_table::{FieldData, Fields, OwnedFieldData, fields_of};
+use fields_values::NewValue;
 use std::alloc::{AllocError, Global};
 
 impl Case {
@@ -42,38 +43,14 @@ fn made_again(alloc: Global, data: &FieldData<'_>) -> Result<String, AllocError>
     ];
     let count = fields_of(data.rtype().to_int()).len();
     let values = values.get(..count).unwrap_or(&[]);
-    digits_written(alloc, from_values(alloc, data.rtype(), values))
+    digits_written(alloc, made_of(alloc, data.rtype(), values))
 }
 
 /// The value of the next field, as it takes it. Zero if there is none.
 fn next_value<'a>(fields: &mut Fields<'a>) -> NewValue<'a> {
     match fields.next() {
-        Some(field) => given(&field.value()),
+        Some(field) => NewValue::from(&field.value()),
         None => NewValue::Number(0),
-    }
-}
-
-/// A value, as a field takes it.
-fn given<'a>(value: &Value<'a>) -> NewValue<'a> {
-    match value {
-        Value::Number(number) => NewValue::Number(*number),
-        Value::RecordType(rtype) => NewValue::RecordType(*rtype),
-        Value::Name(name) => NewValue::Name(*name),
-        Value::Ipv4(octets) | Value::Ipv6(octets) => address(octets),
-        Value::String(octets) => NewValue::String(octets),
-        Value::Sized(octets) => NewValue::Sized(octets),
-        Value::Octets(octets) => NewValue::Octets(octets),
-    }
-}
-
-/// An address, as a field takes it.
-fn address(octets: &[u8]) -> NewValue<'_> {
-    if let Ok(octets) = <[u8; 4]>::try_from(octets) {
-        return NewValue::Ipv4(octets);
-    }
-    match <[u8; 16]>::try_from(octets) {
-        Ok(octets) => NewValue::Ipv6(octets),
-        Err(_) => NewValue::Octets(octets),
     }
 }
 

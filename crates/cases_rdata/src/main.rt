@@ -11,6 +11,7 @@ mod checks;
 mod fields;
 mod key;
 mod made;
+mod named;
 mod options;
 mod orders;
 mod questions;

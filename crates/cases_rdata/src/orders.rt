@@ -4,7 +4,7 @@ use crate::case::Case;
 use crate::key::Key;
 use dns_data::ParseAnyRecordData;
 use dns_wire::{CanonicalOrd, ParseError, Parser};
-use fields_octets::FieldData;
+use fields_table::FieldData;
 use std::alloc::{AllocError, Global};
 use std::cmp::Ordering;
 use std::hash::{DefaultHasher, Hash, Hasher};

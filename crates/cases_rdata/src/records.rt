@@ -4,9 +4,8 @@ use crate::key::Key;
 use crate::orders::order_shown;
 use dns_item::{ComposeRecord, ParsedRecord, Record};
 use dns_wire::{ParseError, ParsedName, Parser};
-use fields_octets::FieldData;
-use fields_print::RecordText;
-use fields_read_records::read_record;
+use fields_records::{RecordText, read_record};
+use fields_table::FieldData;
 use std::alloc::{AllocError, Global};
 
 /// A record with its RDATA as fields.

@@ -3,7 +3,7 @@ use dns_build::{AnswerBuilder, CopyRecordsError, MessageBuilder, PushError, copy
 use dns_code::Rcode;
 use dns_read::Message;
 use dns_target::TreeCompressor;
-use fields_octets::FieldData;
+use fields_table::FieldData;
 use std::alloc::{AllocError, Global};
 
 /// The digits of the message in these octets, written again from its fields; or why it can't be.

@@ -7,7 +7,7 @@ use crate::questions::{printed_question, read_question};
 use crate::records::record_of_words;
 use crate::rewriting::rewritten_again;
 use cases_files::key_of;
-use fields_read_words::split_words;
+use fields_text::split_words;
 use std::alloc::{AllocError, Global};
 
 /// What a check of this key shows, for a line with this text and these octets.

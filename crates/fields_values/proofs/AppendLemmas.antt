@@ -3,14 +3,14 @@ use Rattle.std.proofs.Common.{◌≡◌, ◌≢◌, ◌∙◌, ℕ, suc, ◌+◌
 use Rattle.std.proofs.lemmas.Bool.{true≢false}
 use Rattle.std.specs.Borrow.{Bor}
 use Rattle.std.specs.Prelude.{Result, Ok, Err, OnOk, IfErr}
-use Rattle.fields_octets.specs.declared.shape.Shape.{Shape}
-use Rattle.fields_octets.specs.declared.shape.Shape.TheVariants.{UncompressedName}
+use Rattle.fields_table.specs.declared.shape.Shape.{Shape}
+use Rattle.fields_table.specs.declared.shape.Shape.TheVariants.{UncompressedName}
 use Rattle.dns_name.specs.Names.{Labels, uncompressed}
 use Rattle.dns_wire.specs.Parts.{Part}
 use Rattle.dns_wire.specs.Parts.Part.{Octets as OctetsPart}
-use Rattle.fields_octets.specs.DataOrders.{octets_of_parts, part_octets}
-use Rattle.fields_octets.specs.Table.{Field, kinds}
-use Rattle.fields_octets.specs.declared.kind.Kind.{Kind}
+use Rattle.fields_table.specs.DataOrders.{octets_of_parts, part_octets}
+use Rattle.fields_table.specs.Table.{Field, kinds}
+use Rattle.fields_table.specs.declared.kind.Kind.{Kind}
 use Rattle.fields_values.specs.Appending.{Appends, AppendsMap, AppendsPart, AppendsValue, AppendsValues, RefusesValue}
 use Rattle.fields_values.specs.Forms.{value_form}
 use Rattle.fields_values.specs.NewValues.{IsEncodedAs, IsPartIn, IsTaken, name_part, takes}

@@ -13,20 +13,21 @@ use Rattle.dns_wire.specs.Parts.{Part, AreParts}
 use Rattle.dns_wire.specs.Parts.Part.{Octets as OctetsPart}
 use Rattle.dns_data.specs.Layout.{Layout, IsLaidOut}
 use Rattle.dns_data.specs.Layout.Layout.{End, Fixed, CharacterString, SizedOctets}
-use Rattle.fields_octets.specs.Accepts.{accepts}
-use Rattle.fields_octets.specs.Layouts.{field_layout, layout_of, rest_is_last, takes_rest}
-use Rattle.fields_octets.specs.RecordTypes.{TypeDefinition}
-use Rattle.fields_octets.specs.Shapes.{shape_of}
-use Rattle.fields_octets.specs.Parameters.{parameters_after}
-use Rattle.fields_octets.specs.Prefixes.{prefixes_after}
-use Rattle.fields_octets.specs.Strings.{strings_after}
-use Rattle.fields_octets.specs.Table.{Definition, fields_in, kinds_in}
-use Rattle.fields_octets.specs.declared.kind.Kind.{Kind}
-use Rattle.fields_octets.specs.declared.kind.Kind.TheVariants as kinds
-use Rattle.fields_octets.specs.declared.shape.Shape.{Shape}
-use Rattle.fields_octets.specs.declared.shape.Shape.TheVariants as shapes
-use Rattle.fields_octets.proofs.theory.SkippedItems.{skip_address, skip_string, skip_value}
-use Rattle.fields_print.specs.declared.prefixes.AddressPrefix.{AddressPrefix}
+use Rattle.fields_table.specs.Accepts.{accepts}
+use Rattle.fields_table.specs.Layouts.{field_layout, layout_of, rest_is_last, takes_rest}
+use Rattle.fields_table.specs.RecordTypes.{TypeDefinition}
+use Rattle.fields_table.specs.Shapes.{shape_of}
+use Rattle.fields_parameters.specs.Parameters.{parameters_after}
+use Rattle.fields_lists.specs.Prefixes.{prefixes_after}
+use Rattle.fields_lists.specs.Strings.{strings_after}
+use Rattle.fields_table.specs.Table.{Definition, fields_in, kinds_in}
+use Rattle.fields_table.specs.declared.kind.Kind.{Kind}
+use Rattle.fields_table.specs.declared.kind.Kind.TheVariants as kinds
+use Rattle.fields_table.specs.declared.shape.Shape.{Shape}
+use Rattle.fields_table.specs.declared.shape.Shape.TheVariants as shapes
+use Rattle.fields_lists.proofs.theory.SkippedItems.{skip_address, skip_string}
+use Rattle.fields_parameters.proofs.theory.SkippedValues.{skip_value}
+use Rattle.fields_lists.specs.declared.prefixes.AddressPrefix.{AddressPrefix}
 use Rattle.fields_values.specs.Forms.{value_form}
 use Rattle.fields_values.specs.NewValues.{AreParametersIn, ArePrefixesIn, AreStringsIn, IsEncodedAs, IsPartIn, IsValueOf, name_part}
 use Rattle.fields_values.specs.ValueData.{AreValuesOf}

@@ -1,4 +1,5 @@
 mod AppendLemmas
+mod GivenLemmas
 mod LaidOutValues
 mod ListSteps
 mod MadeLemmas

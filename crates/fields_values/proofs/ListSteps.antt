@@ -3,9 +3,9 @@ use Rattle.std.proofs.Common.{◌≡◌, ◌∙◌, ℕ, arith, ◌+◌, ◌<◌
 use Rattle.std.specs.Prelude.{Ok}
 use Rattle.std.specs.Borrow.{Bor}
 use Rattle.std.proofs.lemmas.List.{drop_all, drop_more}
-use Rattle.fields_print.specs.declared.prefixes.AddressPrefix.{AddressPrefix}
-use Rattle.fields_read.specs.LengthOctets.{counted, sized}
-use Rattle.fields_read.specs.Reading.{HasValue}
+use Rattle.fields_lists.specs.declared.prefixes.AddressPrefix.{AddressPrefix}
+use Rattle.fields_text.specs.LengthOctets.{counted, sized}
+use Rattle.fields_text.specs.Reading.{HasValue}
 use Rattle.fields_values.specs.Appending.{Appends, Refuses}
 use Rattle.fields_values.specs.NewValues.{AreParametersIn, ArePrefixesIn, AreStringsIn, IsParameterIn, IsPrefixIn, IsStringIn}
 use Rattle.fields_values.specs.declared.value_error.Refusal.{Refusal}

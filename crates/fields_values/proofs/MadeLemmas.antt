@@ -2,14 +2,14 @@
 use Rattle.std.proofs.Common.{◌≡◌, ◌∙◌, ℕ, suc, ◌≤◌, ◌<◌, true, List, [], ◌∷◌, ◌++◌, length, get_or, ap, sym, subst, arith, refl, zero-add}
 use Rattle.std.specs.List.{list_all}
 use Rattle.dns_wire.specs.Parts.{Part, parts_size}
-use Rattle.fields_octets.specs.DataOrders.{octets_of_parts}
-use Rattle.fields_octets.specs.Layouts.{most, rest_is_last}
-use Rattle.fields_octets.specs.MadeData.{MadePartsReadBack}
-use Rattle.fields_octets.specs.OwnedFields.{AreThere, parts_in}
-use Rattle.fields_octets.specs.RecordTypes.{record_types}
-use Rattle.fields_octets.specs.Table.{Field, definitions, definitions_of, kinds, kinds_in, kinds_of}
-use Rattle.fields_octets.specs.declared.kind.Kind.{Kind}
-use Rattle.fields_octets.proofs.theory.PartOctets.{parts_length}
+use Rattle.fields_table.specs.DataOrders.{octets_of_parts}
+use Rattle.fields_table.specs.Layouts.{most, rest_is_last}
+use Rattle.fields_table.specs.MadeData.{MadePartsReadBack}
+use Rattle.fields_table.specs.OwnedFields.{AreThere, parts_in}
+use Rattle.fields_table.specs.RecordTypes.{record_types}
+use Rattle.fields_table.specs.Table.{Field, definitions, definitions_of, kinds, kinds_in, kinds_of}
+use Rattle.fields_table.specs.declared.kind.Kind.{Kind}
+use Rattle.fields_table.proofs.theory.PartOctets.{parts_length}
 use Rattle.fields_values.specs.Appending.{IsErrorFrom, RefusesValue, error_at}
 use Rattle.fields_values.specs.Forms.{value_form}
 use Rattle.fields_values.specs.ValueData.{AreValuesOf, HasWrongKind, HoldsFirstAt, IsErrorOf, IsOutOfRange}

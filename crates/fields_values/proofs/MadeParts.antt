@@ -2,9 +2,9 @@
 use Rattle.std.proofs.Common.{◌≡◌, ◌∙◌, ℕ, zero, suc, ◌≤◌, true, List, [], ◌∷◌, length, refl, ap, sym, arith}
 use Rattle.std.specs.Prelude.{Ok, Err}
 use Rattle.std.proofs.lemmas.Bool.{true≢false}
-use Rattle.fields_octets.specs.Layouts.{most}
-use Rattle.fields_octets.specs.Table.{kinds_of}
-use Rattle.fields_octets.specs.declared.kind.Kind.{Kind}
+use Rattle.fields_table.specs.Layouts.{most}
+use Rattle.fields_table.specs.Table.{kinds_of}
+use Rattle.fields_table.specs.declared.kind.Kind.{Kind}
 use Rattle.dns_wire.specs.Parts.{Part, parts_size}
 use Rattle.fields_values.specs.Forms.{value_form}
 use Rattle.fields_values.specs.Laws.{ValuesAreMade}

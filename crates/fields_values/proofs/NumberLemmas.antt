@@ -2,8 +2,8 @@
 use Rattle.std.proofs.Common.{◌≡◌, ◌≢◌, ◌∙◌, ℕ, ap, refl, zero, suc, ◌+◌, ◌-◌, ◌*◌, ◌/◌, ◌%◌, ◌<◌, ◌^◌, ◌++◌, List, [], ◌∷◌, length, sym, arith}
 use Rattle.std.proofs.Math.Nat.{pow-suc}
 use Rattle.std.proofs.lemmas.List.{length-append}
-use Rattle.fields_octets.specs.Values.{number_after}
-use Rattle.fields_read.specs.Base32Words.{last_octets}
+use Rattle.fields_table.specs.Values.{number_after}
+use Rattle.fields_text.specs.Base32Words.{last_octets}
 
 -- a number of one octet more
 pub fits_more : (n size : ℕ) → size ≢ 0 → n / 256 < 256 ^ (size - 1) → n < 256 ^ size

@@ -1,9 +1,9 @@
 -- A value is at most one part.
 use Rattle.std.proofs.Common.{◌≡◌, ◌∙◌, ℕ, ◌+◌, List, [], ◌∷◌, ◌++◌, ap, sym}
 use Rattle.std.specs.Borrow.{Bor}
-use Rattle.fields_octets.specs.declared.kind.Kind.{Kind}
-use Rattle.fields_read.proofs.theory.OneMaps.{one_type_map}
-use Rattle.fields_print.specs.declared.prefixes.AddressPrefix.{AddressPrefix}
+use Rattle.fields_table.specs.declared.kind.Kind.{Kind}
+use Rattle.fields_lists.proofs.theory.OneMaps.{one_type_map}
+use Rattle.fields_lists.specs.declared.prefixes.AddressPrefix.{AddressPrefix}
 use Rattle.dns_wire.specs.Parts.{Part}
 use Rattle.dns_wire.specs.Parts.Part.{Octets as OctetsPart}
 use Rattle.fields_values.specs.Forms.{value_form}

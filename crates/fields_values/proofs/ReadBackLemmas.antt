@@ -7,20 +7,21 @@ use Rattle.std.proofs.lemmas.Bool.{le-leb, lt-leb}
 use Rattle.dns_name.specs.ParsedName.{labels}
 use Rattle.dns_wire.specs.Parts.{Part}
 use Rattle.dns_wire.specs.Parts.Part.{Octets as OctetsPart}
-use Rattle.fields_octets.specs.Shapes.{shape_of}
-use Rattle.fields_octets.specs.Values.{Number, RecordType, Ipv4, Ipv6, Name, String, Sized, Octets, number_after, octets_value, part_value}
-use Rattle.fields_octets.specs.declared.kind.Kind.{Kind}
-use Rattle.fields_octets.specs.declared.kind.Kind.TheVariants as kinds
-use Rattle.fields_octets.specs.declared.shape.Shape.{Shape}
-use Rattle.fields_octets.specs.declared.shape.Shape.TheVariants as shapes
-use Rattle.fields_print.proofs.theory.ItemLemmas.{items_of_first}
-use Rattle.fields_print.proofs.theory.Shrinking.{parameter_shrinks, prefix_shrinks, string_shrinks}
-use Rattle.fields_print.specs.ItemsLeft.{prefix_item}
-use Rattle.fields_print.specs.ParameterItems.{ParameterItem, parameter_at, parameter_octets, parameters_of}
-use Rattle.fields_print.specs.PrefixItems.{PrefixItem, prefix_at, prefixes_of}
-use Rattle.fields_print.specs.Strings.{string_at, strings_of}
-use Rattle.fields_print.specs.declared.prefixes.AddressPrefix.{AddressPrefix}
-use Rattle.fields_read.specs.PrefixWords.{prefix_octets}
+use Rattle.fields_table.specs.Shapes.{shape_of}
+use Rattle.fields_table.specs.Values.{Number, RecordType, Ipv4, Ipv6, Name, String, Sized, Octets, number_after, octets_value, part_value}
+use Rattle.fields_table.specs.declared.kind.Kind.{Kind}
+use Rattle.fields_table.specs.declared.kind.Kind.TheVariants as kinds
+use Rattle.fields_table.specs.declared.shape.Shape.{Shape}
+use Rattle.fields_table.specs.declared.shape.Shape.TheVariants as shapes
+use Rattle.fields_lists.proofs.theory.ItemLemmas.{items_of_first}
+use Rattle.fields_parameters.proofs.theory.Shrinking.{parameter_shrinks}
+use Rattle.fields_lists.proofs.theory.Shrinking.{prefix_shrinks, string_shrinks}
+use Rattle.fields_lists.specs.ItemsLeft.{prefix_item}
+use Rattle.fields_parameters.specs.ParameterItems.{ParameterItem, parameter_at, parameter_octets, parameters_of}
+use Rattle.fields_lists.specs.PrefixItems.{PrefixItem, prefix_at, prefixes_of}
+use Rattle.fields_lists.specs.Strings.{string_at, strings_of}
+use Rattle.fields_lists.specs.declared.prefixes.AddressPrefix.{AddressPrefix}
+use Rattle.fields_lists.specs.PrefixWords.{prefix_octets}
 use Rattle.fields_values.specs.NewValues.{AreParametersIn, ArePrefixesIn, AreStringsIn, IsPartIn, IsValueOf, name_part, parameter_of}
 use Rattle.fields_values.specs.ReadBack.{ReadsBack}
 use Rattle.fields_values.specs.declared.form.Form.TheVariants as forms

@@ -1,10 +1,10 @@
 -- What appending a value returns. No public contract cites it.
 use Rattle.std.specs.Prelude.{◌≡◌, ◌⊎◌, ℕ, ◌+◌, true, false, List, ◌++◌, Result, MatchResult}
-use Rattle.fields_octets.specs.DataOrders.{octets_of_parts, part_octets}
-use Rattle.fields_octets.specs.declared.kind.Kind.{Kind}
+use Rattle.fields_table.specs.DataOrders.{octets_of_parts, part_octets}
+use Rattle.fields_table.specs.declared.kind.Kind.{Kind}
 use Rattle.dns_wire.specs.Parts.{Part}
 use Rattle.fields_values.specs.Forms.{value_form}
-use Rattle.fields_read.specs.TypeMapWords.{IsTypeMapOf}
+use Rattle.fields_lists.specs.TypeMapWords.{IsTypeMapOf}
 use Rattle.fields_values.specs.NewValues.{IsPartIn, IsTaken, takes}
 use Rattle.fields_values.specs.ValueData.{AreValuesOf, HasWrongKind, HoldsFirstAt, IsOutOfRange, IsTakenBy}
 use Rattle.fields_values.specs.declared.form.Form.{Form}

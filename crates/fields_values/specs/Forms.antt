@@ -1,6 +1,6 @@
 -- What a field of a kind takes as its value.
-use Rattle.fields_octets.specs.declared.kind.Kind.{Kind}
-use Rattle.fields_octets.specs.declared.kind.Kind.TheVariants as kinds
+use Rattle.fields_table.specs.declared.kind.Kind.{Kind}
+use Rattle.fields_table.specs.declared.kind.Kind.TheVariants as kinds
 use Rattle.fields_values.specs.declared.form.Form.{Form}
 use Rattle.fields_values.specs.declared.form.Form.TheVariants.{Number, RecordType, Ipv4, Ipv6, Name, Counted, Sized, Fixed, Strings, Types, Parameters, Prefixes, Rest}
 

@@ -1,5 +1,6 @@
 pub mod Appending
 pub mod Forms
+pub mod GivenValues
 pub mod Laws
 pub mod Named
 pub mod NewValues

@@ -1,7 +1,7 @@
 -- What the functions for one record type return.
 use Rattle.std.specs.Prelude.{◌≡◌, ◌≢◌, ◌⊎◌, Err, ℕ, ◌≤◌, List, [], ◌∷◌, ◌++◌, length, Result}
 use Rattle.std.specs.Borrow.{Bor}
-use Rattle.fields_octets.specs.declared.owned.OwnedFieldData.{OwnedFieldData}
+use Rattle.fields_table.specs.declared.owned.OwnedFieldData.{OwnedFieldData}
 use Rattle.dns_name.specs.Names.{Labels}
 use Rattle.dns_name.specs.ParsedName.{labels}
 use Rattle.dns_name.specs.declared.parsed_name.ParsedName.{ParsedName}

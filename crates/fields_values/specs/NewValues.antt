@@ -5,18 +5,18 @@ use Rattle.dns_name.specs.Names.{Labels}
 use Rattle.dns_name.specs.ParsedName.{labels}
 use Rattle.dns_wire.specs.Parts.{Part}
 use Rattle.dns_wire.specs.Parts.Part.{Octets as OctetsPart, CompressibleName, UncompressedName as UncompressedPart}
-use Rattle.fields_octets.specs.Accepts.{accepts}
-use Rattle.fields_octets.specs.Shapes.{shape_of}
-use Rattle.fields_octets.specs.declared.kind.Kind.{Kind}
-use Rattle.fields_octets.specs.declared.shape.Shape.{Shape}
-use Rattle.fields_octets.specs.declared.shape.Shape.TheVariants.{UncompressedName}
-use Rattle.fields_print.specs.ItemsLeft.{prefix_item}
-use Rattle.fields_print.specs.ParameterItems.{ParameterItem, parameter_octets}
-use Rattle.fields_print.specs.declared.prefixes.AddressPrefix.{AddressPrefix}
-use Rattle.fields_read.specs.Base32Words.{last_octets}
-use Rattle.fields_read.specs.LengthOctets.{counted, sized}
-use Rattle.fields_read.specs.PrefixWords.{prefix_octets}
-use Rattle.fields_read.specs.TypeMapWords.{IsTypeMapOf}
+use Rattle.fields_table.specs.Accepts.{accepts}
+use Rattle.fields_table.specs.Shapes.{shape_of}
+use Rattle.fields_table.specs.declared.kind.Kind.{Kind}
+use Rattle.fields_table.specs.declared.shape.Shape.{Shape}
+use Rattle.fields_table.specs.declared.shape.Shape.TheVariants.{UncompressedName}
+use Rattle.fields_lists.specs.ItemsLeft.{prefix_item}
+use Rattle.fields_parameters.specs.ParameterItems.{ParameterItem, parameter_octets}
+use Rattle.fields_lists.specs.declared.prefixes.AddressPrefix.{AddressPrefix}
+use Rattle.fields_text.specs.Base32Words.{last_octets}
+use Rattle.fields_text.specs.LengthOctets.{counted, sized}
+use Rattle.fields_lists.specs.PrefixWords.{prefix_octets}
+use Rattle.fields_lists.specs.TypeMapWords.{IsTypeMapOf}
 use Rattle.fields_values.specs.Forms.{value_form}
 use Rattle.fields_values.specs.declared.form.Form.{Form}
 use Rattle.fields_values.specs.declared.form.Form.TheVariants as forms

@@ -1,12 +1,12 @@
 -- What is read from a field that has a value.
 use Rattle.std.specs.Prelude.{◌≡◌, ℕ, ◌<◌, List, map}
-use Rattle.fields_octets.specs.Values.{FieldValue, Number, RecordType, Ipv4, Ipv6, Name, String, Sized, Octets}
-use Rattle.fields_print.specs.ItemsLeft.{prefix_item}
-use Rattle.fields_print.specs.ParameterItems.{parameters_of}
-use Rattle.fields_print.specs.PrefixItems.{prefixes_of}
-use Rattle.fields_print.specs.Strings.{strings_of}
-use Rattle.fields_print.specs.TypeMaps.{map_types}
-use Rattle.fields_read.specs.TypeMapWords.{has}
+use Rattle.fields_table.specs.Values.{FieldValue, Number, RecordType, Ipv4, Ipv6, Name, String, Sized, Octets}
+use Rattle.fields_lists.specs.ItemsLeft.{prefix_item}
+use Rattle.fields_parameters.specs.ParameterItems.{parameters_of}
+use Rattle.fields_lists.specs.PrefixItems.{prefixes_of}
+use Rattle.fields_lists.specs.Strings.{strings_of}
+use Rattle.fields_lists.specs.TypeMaps.{map_types}
+use Rattle.fields_lists.specs.TypeMapWords.{has}
 use Rattle.dns_name.specs.ParsedName.{labels}
 use Rattle.fields_values.specs.NewValues.{parameter_of}
 use Rattle.fields_values.specs.declared.new_value.NewValue.{NewValue}

@@ -1,10 +1,10 @@
 -- Record data with these values.
 use Rattle.std.specs.Prelude.{◌≡◌, ◌≢◌, ℕ, zero, suc, ◌<◌, true, false, List, [], ◌∷◌, length, Result, MatchResult}
-use Rattle.fields_octets.specs.Layouts.{most}
-use Rattle.fields_octets.specs.OwnedData.{owned_parts_of, owned_rtype_of}
-use Rattle.fields_octets.specs.Table.{kinds_of}
-use Rattle.fields_octets.specs.declared.kind.Kind.{Kind}
-use Rattle.fields_octets.specs.declared.owned.OwnedFieldData.{OwnedFieldData}
+use Rattle.fields_table.specs.Layouts.{most}
+use Rattle.fields_table.specs.OwnedData.{owned_parts_of, owned_rtype_of}
+use Rattle.fields_table.specs.Table.{kinds_of}
+use Rattle.fields_table.specs.declared.kind.Kind.{Kind}
+use Rattle.fields_table.specs.declared.owned.OwnedFieldData.{OwnedFieldData}
 use Rattle.dns_wire.specs.Parts.{Part, parts_size}
 use Rattle.fields_values.specs.Forms.{value_form}
 use Rattle.fields_values.specs.NewValues.{IsTaken, IsValueOf, takes}

@@ -2,7 +2,7 @@
 ghost use Rattle.std.specs.Prelude.{◌≡◌};
 ghost use Rattle.fields_values.specs.Forms.{value_form};
 
-use fields_octets::Kind;
+use fields_table::Kind;
 
 /// What a field takes as its value.
 #[derive(Clone, Copy, Debug, PartialEq, Eq)]

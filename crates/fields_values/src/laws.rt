@@ -1,6 +1,6 @@
 //! Theorems on values and their errors. Each contract is a theorem.
 ghost use Rattle.std.specs.Prelude.{◌≡◌, ◌↔◌, IsTrue};
-ghost use Rattle.fields_values.specs.Laws.{ValuesAreMade, ValuesAreOne, ValuesReadBack};
+ghost use Rattle.fields_values.specs.Laws.{ReadValuesAreTaken, ValuesAreMade, ValuesAreOne, ValuesReadBack};
 
 use crate::new_value::NewValue;
 use crate::value_error::ValueError;
@@ -13,6 +13,12 @@ pub fn values_read_back()
 /// A value is at most one part in a field of a kind.
 pub fn values_are_one()
     ensures { ValuesAreOne }
+{}
+
+/// What is read can be put in again: the values of the fields of RDATA, as `NewValue`s, have the parts
+/// of the RDATA. So `from_values` makes the same RDATA of them, unless an allocation fails.
+pub fn read_values_are_taken()
+    ensures { ReadValuesAreTaken }
 {}
 
 /// Values that have parts, of at most 65,535 octets, make the record data with these parts.

@@ -1,9 +1,4 @@
-//! Record data (RDATA) of any record type from native values, one for each field: numbers, names,
-//! addresses, strings and lists.
-//!
-//! `from_values` makes the data of any type, and `mx`, `aaaa`, `txt` and others that of one type.
-//! The contracts say which octets the fields have, or why there is no such data. By `laws`, reading
-//! the fields yields the values.
+//! Record data (RDATA) of any record type from native values.
 #![tactic(auto)]
 
 mod form;
@@ -13,9 +8,13 @@ mod made;
 mod named;
 mod new_value;
 mod push;
+mod security;
+mod services;
 mod value_error;
 
 pub use made::from_values;
-pub use named::{aaaa, caa, ds, https, mx, srv, text, txt};
+pub use named::{a, aaaa, caa, cname, mx, ns, ptr, soa, srv, text, txt};
 pub use new_value::NewValue;
+pub use security::{dnskey, ds, nsec, rrsig, sshfp, tlsa};
+pub use services::{https, naptr, svcb};
 pub use value_error::ValueError;

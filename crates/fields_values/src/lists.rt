@@ -1,17 +1,17 @@
 //! Lists of values (RFC 1035 section 3.3.14, RFC 9460 section 2.2, RFC 3123 section 4).
 ghost use Rattle.std.specs.Prelude.{◌≡◌, ◌↔◌, ◌≤◌, ◌++◌, IsTrue, length, IfErr, OnOk};
-ghost use Rattle.fields_print.specs.ParameterItems.{two_octets};
-ghost use Rattle.fields_read.specs.Base32Words.{last_octets};
-ghost use Rattle.fields_read.specs.LengthOctets.{sized};
-ghost use Rattle.fields_read.specs.Reading.{HasValue};
+ghost use Rattle.fields_parameters.specs.ParameterItems.{two_octets};
+ghost use Rattle.fields_text.specs.Base32Words.{last_octets};
+ghost use Rattle.fields_text.specs.LengthOctets.{sized};
+ghost use Rattle.fields_text.specs.Reading.{HasValue};
 ghost use Rattle.fields_values.specs.Appending.{Appends, AppendsMap, Refuses};
 ghost use Rattle.fields_values.specs.NewValues.{AreParametersIn, ArePrefixesIn, AreStringsIn, IsParameterIn, IsPrefixIn, IsStringIn};
 ghost use Rattle.fields_values.specs.declared.value_error.Refusal.TheVariants.{OutOfMemory};
 
 use crate::value_error::Refusal;
 use dns_iana::Rtype;
-use fields_print::AddressPrefix;
-use fields_read::{push_last, push_octets, push_type_map};
+use fields_lists::{AddressPrefix, push_type_map};
+use fields_text::{push_last, push_octets};
 use std::alloc::Global;
 
 /// The most octets that a length octet counts.

@@ -1,6 +1,6 @@
 //! Record data from values.
 ghost use Rattle.std.specs.Prelude.{◌≡◌, ◌+◌, ◌<◌, ◌^◌, length};
-ghost use Rattle.fields_octets.specs.Table.{kinds};
+ghost use Rattle.fields_table.specs.Table.{kinds};
 ghost use Rattle.fields_values.specs.Appending.{AppendsValues, error_at};
 ghost use Rattle.fields_values.specs.ValueData.{MakesData};
 
@@ -9,8 +9,8 @@ use crate::push::push_value;
 use crate::value_error::{Refusal, ValueError};
 use dns_iana::Rtype;
 use dns_wire::MAX_OCTETS;
-use fields_octets::laws::{made_parts_read_back, rest_fields_are_last};
-use fields_octets::{Kind, OwnedFieldData, fields_of, owned_data};
+use fields_table::laws::{made_parts_read_back, rest_fields_are_last};
+use fields_table::{Kind, OwnedFieldData, fields_of, owned_data};
 use std::alloc::Global;
 
 /// The error of the value at this index.
@@ -51,7 +51,7 @@ fn push_values(
 
 /// Makes the RDATA of this record type from a value for each field.
 ///
-/// A type that the table of `fields_octets` doesn't list, such as TYPE65280 or OPT, has one field,
+/// A type that the table of `fields_table` doesn't list, such as TYPE65280 or OPT, has one field,
 /// which takes any `NewValue::Octets`.
 ///
 /// Errors, checked in this order: `WrongCount`; for each value in order `WrongKind` or

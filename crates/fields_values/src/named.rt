@@ -1,11 +1,11 @@
-//! RDATA of one record type.
+//! RDATA of record types for hosts, mail and text.
 ghost use Rattle.std.specs.Prelude.{◌≡◌, [], ◌∷◌, true, IfErr, OnOk};
-ghost use Rattle.fields_read.specs.Base32Words.{last_octets};
+ghost use Rattle.fields_text.specs.Base32Words.{last_octets};
 ghost use Rattle.dns_wire.specs.Parts.Part.{Octets as OctetsPart, CompressibleName, UncompressedName};
-ghost use Rattle.fields_values.specs.Named.{IsSplit, MakesNamed, MakesText};
+ghost use Rattle.fields_values.specs.Named.{IsSplit, MakesText};
 ghost use Rattle.fields_values.specs.ValueData.{MakesData, MakesParts};
 ghost use Rattle.fields_values.specs.declared.value_error.ValueError.TheVariants.{OutOfMemory};
-ghost use Rattle.fields_values.specs.declared.new_value.NewValue.TheVariants.{Number, Strings, String, Octets, Parameters};
+ghost use Rattle.fields_values.specs.declared.new_value.NewValue.TheVariants.{Number, Strings, String, Octets};
 
 use crate::made::from_values;
 use crate::new_value::NewValue;
@@ -13,8 +13,76 @@ use crate::value_error::ValueError;
 use dns_data::laws::names_are_bounded;
 use dns_iana::Rtype;
 use dns_name::ToName;
-use fields_octets::OwnedFieldData;
+use fields_table::OwnedFieldData;
 use std::alloc::Global;
+
+/// Makes the RDATA of A (RFC 1035 section 3.4.1). Fails only if an allocation fails.
+pub fn a(alloc: Global, address: [u8; 4]) -> Result<OwnedFieldData, ValueError>
+    ensures { MakesParts 1 (OctetsPart address ∷ []) result }
+{
+    from_values(alloc, Rtype::A, &[NewValue::Ipv4(address)])
+}
+
+/// Makes the RDATA of AAAA (RFC 3596 section 2.2). Fails only if an allocation fails.
+pub fn aaaa(alloc: Global, address: [u8; 16]) -> Result<OwnedFieldData, ValueError>
+    ensures { MakesParts 28 (OctetsPart address ∷ []) result }
+{
+    from_values(alloc, Rtype::AAAA, &[NewValue::Ipv6(address)])
+}
+
+/// Makes the RDATA of NS (RFC 1035 section 3.3.11). Fails only if an allocation fails.
+pub fn ns<N: ToName>(alloc: Global, nsdname: &N) -> Result<OwnedFieldData, ValueError>
+    ensures { MakesParts 2 (CompressibleName (N.name nsdname.now) ∷ []) result }
+{
+    names_are_bounded();
+    from_values(alloc, Rtype::NS, &[NewValue::Name(nsdname.as_parsed())])
+}
+
+/// Makes the RDATA of CNAME (RFC 1035 section 3.3.1). Fails only if an allocation fails.
+pub fn cname<N: ToName>(alloc: Global, target: &N) -> Result<OwnedFieldData, ValueError>
+    ensures { MakesParts 5 (CompressibleName (N.name target.now) ∷ []) result }
+{
+    names_are_bounded();
+    from_values(alloc, Rtype::CNAME, &[NewValue::Name(target.as_parsed())])
+}
+
+/// Makes the RDATA of PTR (RFC 1035 section 3.3.12). Fails only if an allocation fails.
+pub fn ptr<N: ToName>(alloc: Global, ptrdname: &N) -> Result<OwnedFieldData, ValueError>
+    ensures { MakesParts 12 (CompressibleName (N.name ptrdname.now) ∷ []) result }
+{
+    names_are_bounded();
+    from_values(alloc, Rtype::PTR, &[NewValue::Name(ptrdname.as_parsed())])
+}
+
+/// Makes the RDATA of SOA (RFC 1035 section 3.3.13). The last four numbers are seconds. Fails only if
+/// an allocation fails.
+pub fn soa<'a, M: ToName, R: ToName>(
+    alloc: Global,
+    mname: &'a M,
+    rname: &'a R,
+    serial: u32,
+    refresh: u32,
+    retry: u32,
+    expire: u32,
+    minimum: u32,
+) -> Result<OwnedFieldData, ValueError>
+    ensures { MakesParts 6 (CompressibleName (M.name mname.now) ∷ CompressibleName (R.name rname.now)
+        ∷ OctetsPart (last_octets 4 serial) ∷ OctetsPart (last_octets 4 refresh)
+        ∷ OctetsPart (last_octets 4 retry) ∷ OctetsPart (last_octets 4 expire)
+        ∷ OctetsPart (last_octets 4 minimum) ∷ []) result }
+{
+    names_are_bounded();
+    let values = [
+        NewValue::Name(mname.as_parsed()),
+        NewValue::Name(rname.as_parsed()),
+        NewValue::Number(u64::from(serial)),
+        NewValue::Number(u64::from(refresh)),
+        NewValue::Number(u64::from(retry)),
+        NewValue::Number(u64::from(expire)),
+        NewValue::Number(u64::from(minimum)),
+    ];
+    from_values(alloc, Rtype::SOA, &values)
+}
 
 /// Makes the RDATA of MX (RFC 1035 section 3.3.9). Fails only if an allocation fails.
 pub fn mx<N: ToName>(
@@ -31,13 +99,6 @@ pub fn mx<N: ToName>(
         NewValue::Name(exchange.as_parsed()),
     ];
     from_values(alloc, Rtype::MX, &values)
-}
-
-/// Makes the RDATA of AAAA (RFC 3596 section 2.2). Fails only if an allocation fails.
-pub fn aaaa(alloc: Global, address: [u8; 16]) -> Result<OwnedFieldData, ValueError>
-    ensures { MakesParts 28 (OctetsPart address ∷ []) result }
-{
-    from_values(alloc, Rtype::AAAA, &[NewValue::Ipv6(address)])
 }
 
 /// Makes the RDATA of SRV (RFC 2782). Fails only if an allocation fails.
@@ -117,43 +178,4 @@ pub fn caa<'a>(
         NewValue::Octets(value),
     ];
     from_values(alloc, Rtype::CAA, &values)
-}
-
-/// Makes the RDATA of DS (RFC 4034 section 5.1).
-pub fn ds(
-    alloc: Global,
-    key_tag: u16,
-    algorithm: u8,
-    digest_type: u8,
-    digest: &[u8],
-) -> Result<OwnedFieldData, ValueError>
-    ensures { MakesData 43 (Number key_tag ∷ Number algorithm ∷ Number digest_type
-        ∷ Octets digest.entry ∷ []) result }
-{
-    let values = [
-        NewValue::Number(u64::from(key_tag)),
-        NewValue::Number(u64::from(algorithm)),
-        NewValue::Number(u64::from(digest_type)),
-        NewValue::Octets(digest),
-    ];
-    from_values(alloc, Rtype::DS, &values)
-}
-
-/// Makes the RDATA of HTTPS (RFC 9460 section 9) from a priority, a name and parameters, each a key
-/// and a value, by increasing keys.
-pub fn https<'a, N: ToName>(
-    alloc: Global,
-    priority: u16,
-    target: &'a N,
-    parameters: &'a [(u16, &'a [u8])],
-) -> Result<OwnedFieldData, ValueError>
-    ensures { MakesNamed 65 (N.name target.now)
-        (λ name. Number priority ∷ name ∷ Parameters parameters.entry ∷ []) result }
-{
-    let values = [
-        NewValue::Number(u64::from(priority)),
-        NewValue::Name(target.as_parsed()),
-        NewValue::Parameters(parameters),
-    ];
-    from_values(alloc, Rtype::HTTPS, &values)
 }

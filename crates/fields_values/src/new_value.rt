@@ -1,11 +1,14 @@
 //! Values of fields.
+ghost use Rattle.std.specs.Prelude.{◌≡◌};
+ghost use Rattle.fields_values.specs.GivenValues.{given};
 
 use dns_iana::Rtype;
 use dns_name::ParsedName;
-use fields_print::AddressPrefix;
+use fields_lists::AddressPrefix;
+use fields_table::Value;
 
 /// A value for a field of record data. Which variant a field takes depends on its kind
-/// (`fields_octets::Kind`).
+/// (`fields_table::Kind`).
 #[derive(Clone, Copy, Debug)]
 pub enum NewValue<'a> {
     /// A number, a number of seconds, or a time in seconds since 1970.
@@ -30,7 +33,39 @@ pub enum NewValue<'a> {
     Parameters(&'a [(u16, &'a [u8])]),
     /// Address prefixes, whose addresses have at most 127 octets.
     Prefixes(&'a [AddressPrefix<'a>]),
-    /// The octets of a field of any other kind, or of a list, as `fields_octets::Value::Octets` shows
+    /// The octets of a field of any other kind, or of a list, as `fields_table::Value::Octets` shows
     /// them.
     Octets(&'a [u8]),
+}
+
+/// A value that was read, as a field of the same kind takes it. An address that doesn't have four or
+/// sixteen octets becomes `Octets`; a field has no such address.
+impl<'a> From<&Value<'a>> for NewValue<'a> {
+    ghost from_gives = { λ old new. new ≡ given old.now };
+
+    fn from(value: &Value<'a>) -> Self {
+        given(value)
+    }
+}
+
+/// The variant of the same name.
+fn given<'a>(value: &Value<'a>) -> NewValue<'a>
+    ensures { result ≡ given value.now }
+{
+    match value {
+        Value::Number(number) => NewValue::Number(*number),
+        Value::RecordType(rtype) => NewValue::RecordType(*rtype),
+        Value::Ipv4(octets) => match <[u8; 4]>::try_from(*octets) {
+            Ok(address) => NewValue::Ipv4(address),
+            Err(_) => NewValue::Octets(octets),
+        },
+        Value::Ipv6(octets) => match <[u8; 16]>::try_from(*octets) {
+            Ok(address) => NewValue::Ipv6(address),
+            Err(_) => NewValue::Octets(octets),
+        },
+        Value::Name(name) => NewValue::Name(*name),
+        Value::String(octets) => NewValue::String(octets),
+        Value::Sized(octets) => NewValue::Sized(octets),
+        Value::Octets(octets) => NewValue::Octets(octets),
+    }
 }

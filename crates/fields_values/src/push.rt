@@ -12,8 +12,8 @@ use crate::new_value::NewValue;
 use crate::value_error::Refusal;
 use dns_iana::Rtype;
 use dns_name::ParsedName;
-use fields_octets::Kind;
-use fields_print::AddressPrefix;
+use fields_lists::AddressPrefix;
+use fields_table::Kind;
 use std::alloc::Global;
 
 /// Whether a number has at most this many octets.

@@ -1,4 +1,5 @@
 //! Errors of values.
+
 use thiserror::Error;
 
 /// Why there is no record data with these values.

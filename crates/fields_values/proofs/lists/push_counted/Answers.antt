@@ -1,5 +1,5 @@
 use Rattle.std.proofs.Common.{refl, inl}
-use Rattle.fields_read.specs.LengthOctets.{counted}
+use Rattle.fields_text.specs.LengthOctets.{counted}
 use Rattle.fields_values.proofs.lists.push_counted.Goals as goal
 
 pub returns-then-is_err : goal.returns-then-is_err

@@ -1,5 +1,5 @@
 use Rattle.std.proofs.Common.{refl, inl}
-use Rattle.fields_read.specs.LengthOctets.{sized}
+use Rattle.fields_text.specs.LengthOctets.{sized}
 use Rattle.fields_values.proofs.lists.push_sized.Goals as goal
 
 pub returns-in-Err : goal.returns-in-Err

@@ -1,6 +1,6 @@
 use Rattle.std.proofs.Common.{◌+◌, ◌-◌, List, drop, length, subst, take}
 use Rattle.std.proofs.lemmas.List.{take_rest}
-use Rattle.fields_octets.specs.Table.{Field, kinds}
+use Rattle.fields_table.specs.Table.{Field, kinds}
 use Rattle.fields_values.specs.Appending.{AppendsValues}
 use Rattle.fields_values.specs.declared.new_value.NewValue.{NewValue}
 use Rattle.fields_values.proofs.AppendLemmas.{values_more}

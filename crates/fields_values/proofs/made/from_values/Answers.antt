@@ -1,6 +1,6 @@
 use Rattle.std.proofs.Common.{◌∙◌, ◌≤◌, ◌<◌, ap, length, arith}
-use Rattle.fields_octets.specs.Layouts.{most}
-use Rattle.fields_octets.specs.Table.{definitions_of}
+use Rattle.fields_table.specs.Layouts.{most}
+use Rattle.fields_table.specs.Table.{definitions_of}
 use Rattle.fields_values.proofs.MadeLemmas.{error_of, have_values, short, there, too_long, whole_octets}
 use Rattle.fields_values.proofs.made.from_values.Goals as goal
 

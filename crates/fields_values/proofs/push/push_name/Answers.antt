@@ -1,5 +1,5 @@
 use Rattle.std.proofs.Common.{◌∙◌, refl, sym}
-use Rattle.fields_octets.specs.Shapes.{shape_of}
+use Rattle.fields_table.specs.Shapes.{shape_of}
 use Rattle.dns_name.specs.ParsedName.{labels}
 use Rattle.fields_values.specs.NewValues.{name_part}
 use Rattle.fields_values.specs.declared.form.Form.TheVariants as forms

@@ -1,5 +1,5 @@
 use Rattle.std.proofs.Common.{refl}
-use Rattle.fields_read.specs.Base32Words.{last_octets}
+use Rattle.fields_text.specs.Base32Words.{last_octets}
 use Rattle.fields_values.specs.NewValues.{IsEncodedAs}
 use Rattle.fields_values.specs.declared.form.Form.TheVariants as forms
 use Rattle.fields_values.specs.declared.new_value.NewValue.TheVariants as values

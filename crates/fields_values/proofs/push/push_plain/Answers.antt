@@ -1,5 +1,5 @@
 use Rattle.std.proofs.Common.{◌≡◌, ◌∙◌, true, refl, sym, inl, inr}
-use Rattle.fields_octets.specs.Accepts.{accepts}
+use Rattle.fields_table.specs.Accepts.{accepts}
 use Rattle.fields_values.specs.declared.form.Form.TheVariants as forms
 use Rattle.fields_values.proofs.AppendLemmas.{plain_appended}
 use Rattle.fields_values.proofs.push.push_plain.Goals as goal
