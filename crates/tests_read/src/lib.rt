@@ -18,4 +18,6 @@ mod iterators;
 #[cfg(test)]
 mod messages;
 #[cfg(test)]
+mod streams;
+#[cfg(test)]
 mod ttls;

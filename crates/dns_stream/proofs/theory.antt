@@ -1,0 +1,2 @@
+-- Lemmas that other crates cite, so a change here affects them too.
+pub mod FrameLemmas
