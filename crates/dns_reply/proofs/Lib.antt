@@ -1,0 +1,12 @@
+mod OwnerLemmas
+mod FoundLemmas
+mod ChainLemmas
+mod FaultLemmas
+mod MatchLemmas
+mod OneSayingLemmas
+mod WithinLemmas
+mod SayingLemmas
+mod DenialLemmas
+mod SubstitutionLemmas
+mod RdataLemmas
+mod ReadLemmas

@@ -1,0 +1,13 @@
+pub mod Owners
+pub mod Records
+pub mod Chains
+pub mod Said
+pub mod Replies
+pub mod Sayings
+pub mod Matches
+pub mod Substitutions
+pub mod Dname
+pub mod Finding
+pub mod RrsetMembers
+pub mod Rrsets
+pub mod Laws
