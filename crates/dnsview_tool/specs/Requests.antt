@@ -4,7 +4,7 @@ use Rattle.std.specs.List.{list_any}
 use Rattle.std.specs.declared.string.String.{String}
 use Rattle.std.specs.declared.alloc.Global.{Global}
 use Rattle.dnsview_tool.specs.declared.request.Form.{Form}
-use Rattle.dnsview_tool.specs.declared.request.Form.TheVariants.{Text, Page, Lines}
+use Rattle.dnsview_tool.specs.declared.request.Form.TheVariants.{Text, Page, Lines, Json}
 use Rattle.dnsview_tool.specs.declared.request.Request.{Request}
 use Rattle.dnsview_tool.specs.declared.request.Request.TheVariants as requests
 
@@ -20,6 +20,13 @@ is_html word = bytes_eq word (codes "--html")
 abbrev pub is_short : List ℕ → Bool
 is_short word = bytes_eq word (codes "--short")
 
+abbrev pub is_json : List ℕ → Bool
+is_json word = bytes_eq word (codes "--json")
+
+-- a form without markup
+abbrev pub is_plain : List ℕ → Bool
+is_plain word = is_short word || is_json word
+
 -- a word that begins with `-` (45) and isn't `-` alone
 abbrev pub is_option : List ℕ → Bool
 is_option word = nat_lt 1 (length word) && (slice_index word 0 == 45)
@@ -30,7 +37,7 @@ is_file word = not (is_option word)
 
 -- an option that the program doesn't know
 abbrev pub is_unknown : List ℕ → Bool
-is_unknown word = is_option word && not (is_help word) && not (is_version word) && not (is_html word) && not (is_short word)
+is_unknown word = is_option word && not (is_help word) && not (is_version word) && not (is_html word) && not (is_plain word)
 
 -- the arguments
 abbrev pub Words : Type 0
@@ -58,15 +65,18 @@ file_after words (Some index) = first_file (drop (index + 1) words)
 abbrev pub second_file : Words → Option (String Global)
 second_file words = file_after words (file_index words)
 
--- the first `--short`
-abbrev pub short_option : Words → Option (String Global)
-short_option words = find (λ word. is_short (string_bytes word)) words
+-- the first `--short` or `--json`, and the first `--json`
+abbrev pub plain_option : Words → Option (String Global)
+plain_option words = find (λ word. is_plain (string_bytes word)) words
 
--- `--short` if `--html` is given too
+abbrev pub json_option : Words → Option (String Global)
+json_option words = find (λ word. is_json (string_bytes word)) words
+
+-- the first `--short` or `--json` if `--html` is given too, else the first `--json` if `--short` is
 abbrev pub contrary_option : Words → Option (String Global)
-contrary_option words = if has is_html words then short_option words else None
+contrary_option words = if has is_html words then plain_option words else if has is_short words then json_option words else None
 
--- the argument that is wrong: the first unknown option, else the second file, else `--short` beside `--html`
+-- the argument that is wrong: the first unknown option, else the second file, else one of `--html`, `--short` and `--json` beside another
 abbrev pub wrong_word : Words → Option (String Global)
 wrong_word words =
     if is_some (unknown_option words) then unknown_option words
@@ -75,7 +85,7 @@ wrong_word words =
 
 -- what is printed of a message
 abbrev pub form_of : Words → Form
-form_of words = if has is_html words then Page else if has is_short words then Lines else Text
+form_of words = if has is_html words then Page else if has is_short words then Lines else if has is_json words then Json else Text
 
 -- What the arguments ask for: help if one of them does, else the version if one does, else a view if none is wrong.
 abbrev pub asked : Words → Request

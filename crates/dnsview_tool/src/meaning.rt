@@ -7,8 +7,8 @@ use dns_code::Header;
 use dns_iana::{Class, OptRcode, Rtype};
 use dns_name::{ParsedName, Parser};
 use dnsview_rows::{NameOf, Part, Row, RowFault, RowField, RowKind, octets_of, target_of};
-use fields_octets::layout_type;
-use fields_print::Strings;
+use fields_lists::Strings;
+use fields_table::layout_type;
 use fields_text::Quoted;
 use std::fmt;
 

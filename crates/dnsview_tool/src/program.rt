@@ -5,12 +5,13 @@ ghost use Rattle.std.specs.Io.KnownBytes.{Appends};
 ghost use Rattle.dnsview_tool.specs.Failures.{IsFailureText, IsPrintingFailure, IsReportingFailure, PrintsBefore, ReportsFailure};
 ghost use Rattle.dnsview_tool.specs.Printed.{Prints};
 ghost use Rattle.dnsview_tool.specs.Requests.{asked};
-ghost use Rattle.dnsview_tool.specs.Viewing.{is_digits, lines_text, named_text, wrong_text, CanEnd, Gives, IsOdd, IsPrinted, IsViewed, PrintsForm, Reports};
+ghost use Rattle.dnsview_tool.specs.Viewing.{is_digits, json_line, json_object, lines_text, named_text, wrong_text, CanEnd, Gives, IsOdd, IsPrinted, IsViewed, PrintsForm, Reports};
 
 use crate::failure::{Failure, print_failure};
 use crate::html::print_page;
 use crate::request::{Form, Request, wrong_word};
 use crate::text::print_text;
+use dns_json::{print_json, print_octets_json};
 use dns_lines::{print_zone_lines, unspaced};
 use dns_read::Message;
 use dnsview_rows::rows;
@@ -32,10 +33,10 @@ const FAILED: u8 = 3;
 const EMPTY: u8 = 4;
 
 /// How the program is called.
-pub const USAGE: &str = "usage: dnsview [--html | --short] [FILE]\n";
+pub const USAGE: &str = "usage: dnsview [--html | --short | --json] [FILE]\n";
 
 /// What `--help` prints.
-const HELP: &str = "usage: dnsview [--html | --short] [FILE]
+const HELP: &str = "usage: dnsview [--html | --short | --json] [FILE]
 
 Prints a DNS message (RFC 1035) field by field: the offset, the octets and
 what they mean. Reads FILE, or standard input if there is none or it is -.
@@ -43,6 +44,7 @@ The message is hexadecimal digits with any white space, or octets.
 
       --html     print a page of HTML
       --short    print each record as a line, as dig does
+      --json     print one JSON object (RFC 8427)
   -h, --help     print this text
       --version  print the name and the version
 
@@ -59,7 +61,8 @@ const VERSION: &str = "dnsview 2.0.0\n";
 /// the program. Only what is wrong is printed to `errors`.
 ///
 /// Prints the rows of the message as text; with `--html` as a page. With `--short` it prints each
-/// record of the answer, authority and additional section as a line. `reader` is the file that
+/// record of the answer, authority and additional section as a line, with `--json` a JSON object
+/// (RFC 8427) on one line. `reader` is the file that
 /// `file_of` returns. If the input is hexadecimal digits and ASCII white space alone, it is read as
 /// digits. The exit status is 0; 1 if the number of digits is odd; 2 for a wrong argument; 3 if
 /// reading, writing or an allocation fails; and 4 if the input has no octets.
@@ -280,6 +283,7 @@ fn print_form<W: Write>(alloc: Global, form: Form, message: &[u8], writer: &mut 
         Form::Text => print_as_text(alloc, message, writer),
         Form::Page => print_as_page(alloc, message, writer),
         Form::Lines => print_lines(message, writer),
+        Form::Json => print_json_line(message, writer),
     }
 }
 
@@ -309,6 +313,26 @@ fn print_lines<W: Write>(message: &[u8], writer: &mut W) -> io::Result<()>
     match Message::from_slice(message) {
         Ok(message) => print_zone_lines(writer, &message),
         Err(_) => writer.write_all(b";; the message has fewer than 12 octets\n"),
+    }
+}
+
+/// Prints a message as a JSON object and a line feed.
+fn print_json_line<W: Write>(message: &[u8], writer: &mut W) -> io::Result<()>
+    ensures { OnOk result (Appends (W.contents writer.old) (W.contents writer.new)
+        (json_line message.now)) }
+{
+    print_json_object(message, writer)?;
+    writer.write_all(b"\n")
+}
+
+/// Prints a message as a JSON object, or octets that are too few for a message.
+fn print_json_object<W: Write>(message: &[u8], writer: &mut W) -> io::Result<()>
+    ensures { OnOk result (Appends (W.contents writer.old) (W.contents writer.new)
+        (json_object message.now)) }
+{
+    match Message::from_slice(message) {
+        Ok(message) => print_json(writer, &message),
+        Err(_) => print_octets_json(writer, message),
     }
 }
 

@@ -1,13 +1,16 @@
-//! Fields of RDATA in words: their names in `fields_octets::TABLE`, and their values.
+//! Fields of RDATA in words: their names in `fields_table::TABLE`, and their values.
 use crate::codes::Mnemonic;
 use crate::counts::{octet_count, second_count, write_address};
 use crate::meaning::number_of;
 use base64::display::Base64Display;
 use base64::engine::general_purpose::STANDARD;
 use dns_iana::Rtype;
-use fields_octets::{Kind, Shape, fields_of};
-use fields_print::{AddressPrefixes, ParameterText, Parameters, PrefixText, SmallTypeMap, TypeMap};
-use fields_text::{Base32, Eui, Hex, Location, Locator64, Quoted, Timestamp};
+use fields_forms::Location;
+use fields_lists::{AddressPrefixes, PrefixText, SmallTypeMap, TypeMap};
+use fields_parameters::{ParameterText, Parameters};
+use fields_plain::{Eui, Locator64, Timestamp};
+use fields_table::{Kind, Shape, fields_of};
+use fields_text::{Base32, Hex, Quoted};
 use std::fmt;
 
 /// The name of a field of RDATA, printed in words: each hyphen is printed as a space. Names in

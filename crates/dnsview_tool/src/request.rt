@@ -1,7 +1,7 @@
 //! The arguments of the program `dnsview`, and what they ask for.
 ghost use Rattle.std.specs.Prelude.{◌≡◌, ◌<◌, length, IfSome};
 ghost use Rattle.std.specs.Option.{option_copied};
-ghost use Rattle.dnsview_tool.specs.Requests.{asked, contrary_option, file_index, file_of, first_file, form_of, has, is_file, is_help, is_html, is_option, is_short, is_unknown, is_version, second_file, short_option, unknown_option, wrong_word};
+ghost use Rattle.dnsview_tool.specs.Requests.{asked, contrary_option, file_index, file_of, first_file, form_of, has, is_file, is_help, is_html, is_json, is_option, is_plain, is_short, is_unknown, is_version, json_option, plain_option, second_file, unknown_option, wrong_word};
 
 /// What the program prints of a message.
 #[derive(Clone, Copy)]
@@ -12,6 +12,8 @@ pub(crate) enum Form {
     Page,
     /// Its records as lines of a zone file.
     Lines,
+    /// All of it as a JSON object.
+    Json,
 }
 
 /// What the arguments ask for.
@@ -49,14 +51,16 @@ impl Form {
             Form::Page
         } else if asks_short(words) {
             Form::Lines
+        } else if asks_json(words) {
+            Form::Json
         } else {
             Form::Text
         }
     }
 }
 
-/// The first argument that the program doesn't know, or else the second file, or else `--short`
-/// beside `--html`.
+/// The first argument that the program doesn't know, or else the second file, or else `--short` or
+/// `--json` beside `--html`, or `--json` beside `--short`.
 pub(crate) fn wrong_word(words: &[String]) -> Option<&String>
     ensures { option_copied result ≡ wrong_word words.now }
 {
@@ -106,21 +110,38 @@ fn asks_short(words: &[String]) -> bool
     words.iter().any(|word| is_short(word.as_str()))
 }
 
-/// The option `--short`, if `--html` is given too.
+fn asks_json(words: &[String]) -> bool
+    ensures { result ≡ has is_json words.now }
+{
+    words.iter().any(|word| is_json(word.as_str()))
+}
+
+/// The first option that asks for another form than the one that is printed: `--short` or `--json`
+/// if `--html` is given too, else `--json` if `--short` is.
 fn contrary_option(words: &[String]) -> Option<&String>
     ensures { option_copied result ≡ contrary_option words.now }
 {
     if asks_html(words) {
-        short_option(words)
+        plain_option(words)
+    } else if asks_short(words) {
+        json_option(words)
     } else {
         None
     }
 }
 
-fn short_option(words: &[String]) -> Option<&String>
-    ensures { option_copied result ≡ short_option words.now }
+/// The first `--short` or `--json`.
+fn plain_option(words: &[String]) -> Option<&String>
+    ensures { option_copied result ≡ plain_option words.now }
 {
-    words.iter().find(|word| is_short(word.as_str()))
+    words.iter().find(|word| is_plain(word.as_str()))
+}
+
+/// The first `--json`.
+fn json_option(words: &[String]) -> Option<&String>
+    ensures { option_copied result ≡ json_option words.now }
+{
+    words.iter().find(|word| is_json(word.as_str()))
 }
 
 /// The first option that the program doesn't know.
@@ -177,6 +198,19 @@ fn is_short(word: &str) -> bool
     word == "--short"
 }
 
+fn is_json(word: &str) -> bool
+    ensures { result ≡ is_json word.now }
+{
+    word == "--json"
+}
+
+/// Whether a word asks for a form without markup: `--short` or `--json`.
+fn is_plain(word: &str) -> bool
+    ensures { result ≡ is_plain word.now }
+{
+    is_short(word) || is_json(word)
+}
+
 /// Whether a word is an option: it begins with `-` and isn't `-` alone.
 fn is_option(word: &str) -> bool
     ensures { result ≡ is_option word.now }
@@ -195,5 +229,5 @@ fn is_file(word: &str) -> bool
 fn is_unknown(word: &str) -> bool
     ensures { result ≡ is_unknown word.now }
 {
-    is_option(word) && !is_help(word) && !is_version(word) && !is_html(word) && !is_short(word)
+    is_option(word) && !is_help(word) && !is_version(word) && !is_html(word) && !is_plain(word)
 }

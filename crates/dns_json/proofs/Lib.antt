@@ -1,0 +1,10 @@
+mod EntryTexts
+mod Found
+mod HeaderTexts
+mod Lines
+mod MemberLists
+mod Numbers
+mod Readings
+mod RecordTexts
+mod Sound
+mod UniqueNames

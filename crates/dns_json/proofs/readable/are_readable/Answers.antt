@@ -1,0 +1,17 @@
+use Rattle.std.proofs.Common.{◌≡◌, ◌∙◌, true, false, rules, sym}
+use Rattle.dns_json.proofs.EntryTexts.{first_readable, first_unreadable, none_unreadable}
+use Rattle.dns_json.proofs.Readings.{question_ok}
+use Rattle.dns_json.proofs.readable.are_readable.Goals as goal
+
+pub loop-question-preserved : goal.loop-question-preserved
+loop-question-preserved c =
+    let yes : c.is_ok.result ≡ true = search rules in
+    c.loop-question.invariant ∙ first_readable _ _ _ c.in-Some.ensures.steps (question_ok c.in-Some.question ∙ (sym c.is_ok.ensures.value ∙ yes))
+
+pub returns-then-not-is_ok : goal.returns-then-not-is_ok
+returns-then-not-is_ok c =
+    let no : c.is_ok.result ≡ false = search rules in
+    sym (c.loop-question.invariant ∙ first_unreadable _ _ _ c.in-Some.ensures.steps (question_ok c.in-Some.question ∙ (sym c.is_ok.ensures.value ∙ no)))
+
+pub returns : goal.returns
+returns c = sym (c.loop-question.invariant ∙ none_unreadable _ c.in_default.ensures.steps.0)

@@ -1,0 +1,16 @@
+use Rattle.std.proofs.Common.{map, rules}
+use Rattle.dns_print.proofs.theory.Prints.{print_four}
+use Rattle.dns_read.specs.RecordSection.{records_left}
+use Rattle.json_print.proofs.theory.Pieces.{array_made}
+use Rattle.dns_json.specs.Entries.{readable}
+use Rattle.dns_json.specs.Messages.{section_name}
+use Rattle.dns_json.specs.Records.{record_json}
+use Rattle.dns_json.proofs.section.write_records.Goals as goal
+
+pub returns-clause-text : goal.returns-clause-text
+returns-clause-text g c = λ ok.
+    let name = rw c.section_name.ensures at (c.write_member_name.ensures.text (search rules)) in
+    let bracket = c.write_text.ensures.text (search rules) in
+    let items = c.write_each.ensures.text (search rules) in
+    let close = c.write_text-2.ensures.text ok in
+    print_four _ _ _ _ _ _ _ _ _ _ _ name bracket items close (array_made (section_name c.args.section) (map record_json (readable (records_left c.args.records))))

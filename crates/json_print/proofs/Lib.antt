@@ -1,0 +1,2 @@
+pub mod theory
+mod Escapes

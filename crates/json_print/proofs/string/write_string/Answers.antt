@@ -1,0 +1,9 @@
+use Rattle.std.proofs.Common.{sym, rules}
+use Rattle.dns_print.proofs.theory.Prints.{print_three}
+use Rattle.json_print.proofs.theory.JsonTexts.{string_text}
+use Rattle.json_print.proofs.string.write_string.Goals as goal
+
+pub returns-clause-text : goal.returns-clause-text
+returns-clause-text g c = λ ok.
+    print_three _ _ _ _ _ _ _ _ _ (c.write_text.ensures.text (search rules)) (c.write_content.ensures.text (search rules)) (c.write_text-2.ensures.text ok)
+    (sym (string_text (g.V.PrintText.printed c.args.value.now)))
