@@ -11,6 +11,7 @@ mod message;
 mod opt;
 mod part;
 mod reading;
+mod replies;
 mod returned;
 mod run;
 

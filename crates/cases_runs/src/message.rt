@@ -2,6 +2,7 @@
 ghost use Rattle.std.specs.Prelude.{◌<◌, IfOk, IsTrue, length};
 
 use crate::opt::opt_line;
+use crate::replies::{redirected_shown, reply_shown};
 use crate::returned::write_call;
 use crate::run::{Run, words_of};
 use cases_files::{Report, key_of, octets_of};
@@ -37,6 +38,9 @@ pub(crate) enum Call {
     Additional,
     Items,
     Limited,
+    Reply,
+    ReplyExact,
+    Redirected,
 }
 
 impl Call {
@@ -64,6 +68,9 @@ impl Call {
             "additional" => Some(Call::Additional),
             "items" => Some(Call::Items),
             "limited" => Some(Call::Limited),
+            "reply" => Some(Call::Reply),
+            "reply-exact" => Some(Call::ReplyExact),
+            "redirected" => Some(Call::Redirected),
             _ => None,
         }
     }
@@ -84,6 +91,8 @@ pub(crate) fn check_call<W: Write + Drop>(
         Call::Opt => opt_line(alloc, run.input.as_slice())?,
         Call::File => file_shown(alloc, text)?,
         Call::Rows => rows_shown(alloc, text)?,
+        Call::Reply | Call::ReplyExact => reply_shown(alloc, run, call, text)?,
+        Call::Redirected => redirected_shown(alloc, text)?,
         Call::Age | Call::Cap | Call::ChangeCap | Call::RemoveLast => {
             changed_shown(alloc, run, call, text)?
         }

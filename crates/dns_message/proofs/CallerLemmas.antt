@@ -1,4 +1,4 @@
--- The lemmas that callers' proofs cite: of names, sizes, records, sections, builders and printing. Above each is what it says.
+-- The lemmas that callers' proofs cite: of names, sizes, records, sections, frames, builders and printing. Above each is what it says.
 
 -- The uncompressed octets of a name are one more than its size, for the root's zero octet.
 pub use Rattle.dns_name.proofs.theory.LabelsLemmas.{length-uncompressed}
@@ -28,6 +28,10 @@ pub use Rattle.dns_read.proofs.theory.QuestionsFromLemmas.{questions_from_are_re
 pub use Rattle.dns_read.proofs.theory.RecordsFromLemmas.{records_from_are_read}
 -- A reading has at most as many items as the count, and an error only as its last item.
 pub use Rattle.dns_read.proofs.theory.ReadingLemmas.{readings_of_questions_end, readings_of_records_end}
+-- Octets begin with the frames of no messages; of those of some messages and of one more, if its frame follows. A frame makes octets longer.
+pub use Rattle.dns_stream.proofs.theory.FrameLemmas.{no_frames, one_frame_more, frame_length}
+-- Octets are the frames of one list of messages, and begin with one frame. It is read if its length is accepted.
+pub use Rattle.dns_stream.proofs.theory.FrameLemmas.{one_framing, one_frame, frames_are_read}
 -- A message within its limit stays so when accepted questions are pushed.
 pub use Rattle.dns_build.proofs.theory.Asking.{accepted_within}
 -- The encoding of a state is a message with its items.

@@ -87,6 +87,52 @@ pub mod edit {
     pub use dns_edit::{EditError, TtlChange, age_ttls, cap_ttls, change_ttls, laws, min_ttl};
 }
 
+/// Messages on a stream, such as a TCP connection, whose octets come in pieces.
+///
+/// The messages that are complete once octets were received:
+///
+/// ```rust
+/// reader.push(octets).ok()?;
+/// let mut messages = Vec::new(alloc);
+/// loop {
+///     match reader.next() {
+///         Ok(Some(message)) => {
+///             let copy = Vec::from_slice(alloc, message.as_slice()).ok()?;
+///             messages.push(copy).ok()?;
+///         }
+///         Ok(None) => return Some(messages),
+///         Err(_) => return None,
+///     }
+/// }
+/// ```
+pub mod stream {
+    pub use dns_stream::{
+        FrameError, MAX_FRAME, StreamReader, first_message, laws, missing_octets,
+    };
+}
+
+/// What a reply says of a question: the records, that there are none, or where to ask on; and
+/// theorems on that.
+///
+/// The address records that a message gives, if it is a reply to the query of a server that
+/// resolves:
+///
+/// ```rust
+/// match reply_to(query, received, &Name::root_slice()) {
+///     Ok(Reply::Answer(answer)) => {
+///         let (section, name) = (answer.section(), answer.name());
+///         Some(Rrset::new(section, name, Class::IN, Rtype::A))
+///     }
+///     _ => None,
+/// }
+/// ```
+pub mod reply {
+    pub use dns_reply::{
+        Alias, Answer, Denial, LetterCase, NotReply, Redirection, Referral, Reply, Rrset, Unusable,
+        check_reply, laws, reply_to, reply_to_exact, substitute,
+    };
+}
+
 /// Names, in octets and as texts.
 ///
 /// Whether the name at the start of `octets` is `name`, ignoring ASCII case:
@@ -243,21 +289,23 @@ pub mod data {
 /// RDATA from native values, one for each field; the calls of `make` are for one type each:
 ///
 /// ```rust
-/// let values = [NewValue::Name(next.as_parsed()), NewValue::Types(types)];
-/// from_values(alloc, Rtype::NSEC, &values)
+/// let values = [
+///     NewValue::Number(u64::from(serial)),
+///     NewValue::Number(u64::from(flags)),
+///     NewValue::Types(types),
+/// ];
+/// from_values(alloc, Rtype::CSYNC, &values)
 /// ```
 pub mod fields {
-    pub use fields_octets::{
+    pub use fields_lists::{AddressPrefix, AddressPrefixes, Strings, TypeMap, Types};
+    pub use fields_parameters::{Parameter, Parameters};
+    pub use fields_plain::{ClassName, TypeName, ZoneName};
+    pub use fields_records::{DataText, RecordText, from_text, read_record};
+    pub use fields_table::{
         DataOf, Encoded, Field, FieldData, Fields, Kind, OPAQUE, OwnedFieldData, RecordFields,
         Shape, TABLE, Value, fields_of, laws, layout_type,
     };
-    pub use fields_print::{
-        AddressPrefix, AddressPrefixes, ClassName, DataText, Parameter, Parameters, RecordText,
-        Strings, TypeMap, TypeName, Types, ZoneName,
-    };
-    pub use fields_read_records::{from_text, read_record};
-    pub use fields_read_words::split_words;
-    pub use fields_text::{TextError, laws as word_laws};
+    pub use fields_text::{TextError, laws as word_laws, split_words};
     pub use fields_values::{NewValue, ValueError, from_values, laws as value_laws};
 }
 
@@ -270,7 +318,10 @@ pub mod fields {
 /// response.push((owner, 3600u32, mail.as_field_data())).ok()?;
 /// ```
 pub mod make {
-    pub use fields_values::{aaaa, caa, ds, https, mx, srv, text, txt};
+    pub use fields_values::{
+        a, aaaa, caa, cname, dnskey, ds, https, mx, naptr, ns, nsec, ptr, rrsig, soa, srv, sshfp,
+        svcb, text, tlsa, txt,
+    };
 }
 
 /// Serial numbers of zones, compared and added by RFC 1982.
@@ -351,5 +402,6 @@ pub mod question {
     };
 }
 
+pub use dns_json::{MessageJson, laws as json_laws, print_json, print_octets_json};
 pub use dns_lines::{print_message, print_zone_lines};
 pub use dnsmsg_tool::tool;

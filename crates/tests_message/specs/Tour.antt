@@ -5,6 +5,8 @@ use Rattle.dns_message.specs.Headers.{header_size, fields_in}
 use Rattle.dns_message.specs.declared.data.A.{A}
 use Rattle.dns_message.specs.Questions.{QuestionItem}
 use Rattle.dns_message.specs.Records.{RecordItem}
+use Rattle.dns_message.specs.Names.{Labels}
+use Rattle.dns_message.specs.Replies.{Records, Says, Answered, members}
 use Rattle.dns_message.specs.Sections.{questions_from, question_count}
 use Rattle.dns_message.specs.Builders.{answer_header, readable_questions, fresh, InAnswer, State}
 
@@ -27,3 +29,11 @@ response_with query x = record fresh {
   questions = readable_questions query;
   answers = x ∷ [];
 }
+
+-- A reply gives this set: the A records, of type 1 and class 1, of the name at the end of its chain of aliases, in the answer section.
+pub record GivesSet (b : List ℕ) (zone : Labels) (set : Records) : Type 0 where
+  pub name : Labels
+  pub answers : Records
+  pub ttl : ℕ
+  pub says : Says b zone (Answered name answers ttl)
+  pub left : set ≡ members name 1 1 answers

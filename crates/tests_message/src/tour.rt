@@ -1,5 +1,5 @@
 //! The examples of the modules of `dns_message`.
-ghost use Rattle.std.specs.Prelude.{◌≡◌, ◌↔◌, ◌+◌, ◌==◌, ◌&&◌, ◌||◌, IsTrue, IfOk, IfSome, ◌∷◌, [], codes, slice_range, unwrap_or};
+ghost use Rattle.std.specs.Prelude.{◌≡◌, ◌↔◌, ◌+◌, ◌==◌, ◌&&◌, ◌||◌, ◌++◌, IsTrue, IfOk, IfSome, ◌∷◌, [], codes, map, slice_range, unwrap_or, vec_items};
 ghost use Rattle.std.specs.Int.{w16};
 ghost use Rattle.std.specs.String.{string_bytes};
 ghost use Rattle.dns_message.specs.Names.{name_labels, Labels, lowered, NameAt, name_text};
@@ -12,9 +12,11 @@ ghost use Rattle.dns_message.specs.Records.{record_fields_text};
 ghost use Rattle.dns_message.specs.Messages.{message_octets};
 ghost use Rattle.dns_message.specs.Builders.{IsMessageOf};
 ghost use Rattle.dns_message.specs.Edits.{ReadsAlike};
+ghost use Rattle.dns_message.specs.Streams.{AreFrames, left};
 ghost use Rattle.dns_message.specs.declared.edit.TtlChange.TheVariants.{Age};
 ghost use Rattle.tests_message.specs.Callers.{AreAnswers};
-ghost use Rattle.tests_message.specs.Tour.{HasQuestions, a_layout, address_parts, response_with};
+ghost use Rattle.dns_message.specs.Replies.{members_left};
+ghost use Rattle.tests_message.specs.Tour.{GivesSet, HasQuestions, a_layout, address_parts, response_with};
 
 use crate::asserts::{assert_holds, assert_octets};
 use arrayvec::ArrayVec;
@@ -26,6 +28,8 @@ use dns_message::message::Message;
 use dns_message::name::{Name, ParsedName, ToName, ToNameExt};
 use dns_message::question::Question;
 use dns_message::record::{ComposeRecord, Record, Ttl};
+use dns_message::reply::{Reply, Rrset, reply_to};
+use dns_message::stream::{MAX_FRAME, StreamReader};
 use dns_message::target::{StaticCompressor, TreeCompressor};
 use dns_message::wire::{Octets, ParseError, Parser};
 use std::alloc::{AllocError, Global};
@@ -141,6 +145,64 @@ fn answers_and_lowers_the_ttl(rt: HostRuntime) {
     expected[37] = 0x0B;
     expected[38] = 0xB8;
     assert_octets(&rt, "the TTL", later.as_slice(), &expected);
+}
+
+/// The messages that are complete once octets were received, in order. Returns `None` if the octets
+/// exceed what the reader stores, the length of a message is refused, or an allocation fails.
+fn received(alloc: Global, reader: &mut StreamReader, octets: &[u8]) -> Option<Vec<Vec<u8>>>
+    ensures { IfSome result (λ messages. AreFrames (left reader.old ++ octets.now)
+        (map vec_items messages.items) (left reader.new)) }
+{
+    reader.push(octets).ok()?;
+    let mut messages = Vec::new(alloc);
+    loop {
+        match reader.next() {
+            Ok(Some(message)) => {
+                let copy = Vec::from_slice(alloc, message.as_slice()).ok()?;
+                messages.push(copy).ok()?;
+            }
+            Ok(None) => return Some(messages),
+            Err(_) => return None,
+        }
+    }
+}
+
+/// The query, and then part of the response, each after its length.
+#[test]
+fn receives_messages(rt: HostRuntime) {
+    let mut reader = StreamReader::new(rt.alloc(), MAX_FRAME);
+    reader.push(b"\x00\x1D").expect(&rt, "memory");
+    reader.push(QUERY).expect(&rt, "memory");
+    let messages = received(rt.alloc(), &mut reader, b"\x00\x2D\x00").expect(&rt, "messages");
+    let is_one = messages.len() == 1 && messages[0].as_slice() == QUERY.as_slice();
+    assert_holds(&rt, "the query", is_one);
+    assert_holds(&rt, "the response", reader.missing_octets() == 44);
+}
+
+/// The address records that a message gives, if it is a reply to the query of a server that
+/// resolves.
+fn address_set<'a, Asked: Octets, Received: Octets>(
+    query: &Message<Asked>,
+    received: &'a Message<Received>,
+) -> Option<Rrset<'a>>
+    ensures { IfSome result (λ set. GivesSet (message_octets received.now) [] (members_left set)) }
+{
+    match reply_to(query, received, &Name::root_slice()) {
+        Ok(Reply::Answer(answer)) => {
+            let (section, name) = (answer.section(), answer.name());
+            Some(Rrset::new(section, name, Class::IN, Rtype::A))
+        }
+        _ => None,
+    }
+}
+
+#[test]
+fn gives_a_set_of_addresses(rt: HostRuntime) {
+    let query = Message::from_slice(QUERY).expect(&rt, "a query");
+    let received = Message::from_slice(RESPONSE).expect(&rt, "a message");
+    let mut set = address_set(&query, &received).expect(&rt, "an answer");
+    let has_one = set.next().is_some();
+    assert_holds(&rt, "one address", has_one && set.next().is_none());
 }
 
 /// The query for the records of a name and a type, in a buffer of 512 octets. Nothing is allocated.

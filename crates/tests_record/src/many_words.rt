@@ -1,7 +1,8 @@
 //! Readers of many words and values, which take time and stack that don't grow faster.
 use crate::asserts::assert_octets;
-use fields_read::{push_type_map, read_host_identity, read_prefixes, read_small_type_map};
-use fields_read_parameters::read_parameters;
+use fields_forms::read_host_identity;
+use fields_lists::{push_type_map, read_prefixes, read_small_type_map};
+use fields_parameters::read_parameters;
 use std::alloc::Global;
 use std::process::Abort;
 

@@ -6,9 +6,9 @@ use dns_data::ComposeRecordData;
 use dns_message::fields::{
     AddressPrefix, NewValue, OwnedFieldData, TypeMap, ValueError, from_values,
 };
-use dns_message::make::{aaaa, caa, ds, https, mx, srv, text, txt};
+use dns_message::make::{aaaa, caa, ds, https, mx, nsec, srv, svcb, text, txt};
 use dns_wire::{Name, ToName};
-use fields_print::SmallTypeMap;
+use fields_lists::SmallTypeMap;
 use fields_text::Tag;
 use std::alloc::Global;
 use std::process::Abort;
@@ -56,6 +56,8 @@ fn makes_one_type(rt: HostRuntime) {
     let made = https(alloc, 16, &target, &[(3, b"\x00\x35")]);
     let endpoint = b"\x00\x10\x03foo\x07example\x03com\x00\x00\x03\x00\x02\x00\x35";
     assert_made(&rt, alloc, "https", made, endpoint);
+    let made = svcb(alloc, 16, &target, &[(3, b"\x00\x35")]);
+    assert_made(&rt, alloc, "svcb", made, endpoint);
 }
 
 #[test]
@@ -71,8 +73,7 @@ fn makes_lists(rt: HostRuntime) {
         Rtype::A,
         Rtype::MX,
     ];
-    let values = [NewValue::Name(next.as_parsed()), NewValue::Types(&types)];
-    let made = from_values(alloc, Rtype::NSEC, &values);
+    let made = nsec(alloc, &next, &types);
     let wanted =
         b"\x04host\x07example\x03com\x00\x00\x06\x40\x01\x00\x00\x00\x03\x04\x1b\x00\x00\x00\x00\x00\x00\x00\x00\x00\x00\x00\x00\x00\x00\x00\x00\x00\x00\x00\x00\x00\x00\x00\x00\x00\x00\x20";
     assert_made(&rt, alloc, "nsec", made, wanted);

@@ -1,4 +1,0 @@
-use Rattle.tests_message.proofs.made.nsec.Goals as goal
-
-pub returns : goal.returns
-returns g c = (c.as_parsed.result, c.as_parsed.ensures.labels, c.from_values.ensures)
