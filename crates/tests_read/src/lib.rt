@@ -20,4 +20,6 @@ mod messages;
 #[cfg(test)]
 mod streams;
 #[cfg(test)]
+mod transfers;
+#[cfg(test)]
 mod ttls;

@@ -1,0 +1,11 @@
+mod SerialLemmas
+mod OwnerLemmas
+mod KindLemmas
+mod RunLemmas
+mod StepLemmas
+mod MessageLemmas
+mod FormLemmas
+mod ZoneLemmas
+mod TransferLemmas
+mod ReadForms
+mod FormShapes

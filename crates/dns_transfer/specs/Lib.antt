@@ -1,0 +1,12 @@
+pub mod Serials
+pub mod Errors
+pub mod Grammar
+pub mod Asked
+pub mod Kinds
+pub mod Runs
+pub mod Messages
+pub mod Transfer
+pub mod Steps
+pub mod Forms
+pub mod Zones
+pub mod Transfers
