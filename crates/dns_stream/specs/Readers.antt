@@ -33,11 +33,12 @@ Leaves old (Err error) new = new ≡ old
 
 -- What becomes of a reader once the message that `next` returned isn't used any more.
 abbrev pub EndsAs : {X : Type 0} {holds : Ghosts X} → MutBor StreamReader → Result (Option (Message X holds)) FrameError → Fml
-EndsAs reader result = Rests the_row reader (λ new. Leaves (left reader.now) result (left new) × (limit new ≡ limit reader.now))
+EndsAs reader result = Rests the_row reader (λ new. Leaves (left reader.now) result (left new) × (limit new ≡ limit reader.now) × (allocated new ≡ allocated reader.now))
 
 -- A reader moved past the first frame, whose message has this length.
 pub record TakesFrame (old new : StreamReader) (len : ℕ) : Type 0 where
   pub limit_stays : limit new ≡ limit old
+  pub allocated_stays : allocated new ≡ allocated old
   pub accepted : Accepts (limit old) (left old)
   pub not_short : header_size ≤ len
   pub there : len ≤ new.start

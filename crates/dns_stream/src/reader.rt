@@ -1,5 +1,5 @@
 //! A reader of the messages on a stream.
-ghost use Rattle.std.specs.Prelude.{◌≡◌, ◌+◌, ◌-◌, ◌≤◌, ◌↔◌, ◌++◌, [], length, take, true, Some, IfOk, IfErr, IfNone, IsTrue, OnOk, OnErr, slice_range, vec_len, vec_capacity};
+ghost use Rattle.std.specs.Prelude.{◌≡◌, ◌+◌, ◌-◌, ◌<◌, ◌≤◌, ◌↔◌, ◌++◌, [], length, take, true, Some, IfOk, IfErr, IfNone, IsTrue, OnOk, OnErr, slice_range, vec_len, vec_capacity};
 ghost use Rattle.dns_octets.specs.Octets.{overwritten};
 ghost use Rattle.dns_code.specs.HeaderSection.{header_size};
 ghost use Rattle.dns_read.specs.Message.{message_octets};
@@ -32,6 +32,7 @@ pub struct StreamReader {
 
 impl StreamReader {
     ghost use Rattle.std.specs.Borrow.{sem};
+    ghost use Rattle.dns_octets.specs.declared.error.AppendError.TheVariants.{OutOfMemory};
     ghost use Rattle.dns_stream.specs.Readers.{allocated, left, limit, Advances, EndsAs};
 
     /// Creates a reader at the start of a stream. It allocates only when octets are pushed.
@@ -42,6 +43,7 @@ impl StreamReader {
     pub fn new(alloc: Global, most: usize) -> Self
         ensures empty { left result ≡ [] }
         ensures most { limit result ≡ most }
+        ensures allocated { allocated result ≡ 0 }
     {
         StreamReader {
             buffer: Vec::new(alloc),
@@ -54,20 +56,23 @@ impl StreamReader {
     /// Appends octets that were received.
     ///
     /// Errors: `ShortBuf` exactly if they exceed the [`spare_capacity`](Self::spare_capacity);
-    /// `OutOfMemory` if an allocation fails. On error none of them is appended.
+    /// `OutOfMemory` if an allocation fails, never while all octets fit in the
+    /// [`capacity`](Self::capacity). On error none of them is appended.
     pub fn push(&mut self, octets: &[u8]) -> Result<(), AppendError>
         ensures ok { OnOk result (left self.new ≡ left self.old ++ octets.now) }
         ensures err { OnErr result (left self.new ≡ left self.old) }
         ensures outcome { AppendReturns (Some (limit self.old)) true
             (length (left self.old) + length octets.now) result }
+        ensures memory { IfErr result (λ error. error ≡ OutOfMemory
+            → allocated self.old < length (left self.old) + length octets.now) }
         ensures same_limit { limit self.new ≡ limit self.old }
+        ensures never_less { allocated self.old ≤ allocated self.new }
     {
         if octets.len() > self.spare_capacity() {
             return Err(AppendError::ShortBuf);
         }
-        self.discard(octets.len());
+        self.lengthen(octets.len())?;
         let end = self.end + octets.len();
-        grow(&mut self.buffer, end, self.most)?;
         overwrite(&mut self.buffer, self.end, octets);
         self.end = end;
         Ok(())
@@ -130,6 +135,7 @@ impl StreamReader {
     pub fn capacity(&self) -> usize
         ensures value { result ≡ allocated self.now }
         ensures within { result ≤ limit self.now }
+        ensures enough { length (left self.now) ≤ result }
     {
         self.buffer.capacity()
     }
@@ -138,6 +144,7 @@ impl StreamReader {
     pub fn clear(&mut self)
         ensures empty { left self.new ≡ [] }
         ensures same_limit { limit self.new ≡ limit self.old }
+        ensures allocated { allocated self.new ≡ allocated self.old }
     {
         self.start = 0;
         self.end = 0;
@@ -168,43 +175,106 @@ impl StreamReader {
         long_message(&self.buffer[self.start - len..self.start])
     }
 
+    /// Makes the buffer long enough for `more` octets after those that are left. If an allocation
+    /// fails, it moves these to the start.
+    fn lengthen(&mut self, more: usize) -> Result<(), AllocError>
+        requires { length (left self.old) + more ≤ limit self.old }
+        ensures same_left { left self.new ≡ left self.old }
+        ensures same_limit { limit self.new ≡ limit self.old }
+        ensures long { OnOk result (self.new.end + more ≤ length self.new.buffer.items) }
+        ensures memory { OnErr result (allocated self.old < length (left self.old) + more) }
+        ensures never_less { allocated self.old ≤ allocated self.new }
+    {
+        self.discard(more);
+        if self.grow(more).is_ok() {
+            return Ok(());
+        }
+        self.move_to_start();
+        self.grow(more)
+    }
+
     /// Moves the octets that are left to the start, if at least as many were handed out, or `more`
     /// octets don't fit after them.
     fn discard(&mut self, more: usize)
         requires { length (left self.old) + more ≤ limit self.old }
         ensures same_left { left self.new ≡ left self.old }
         ensures same_limit { limit self.new ≡ limit self.old }
+        ensures same_capacity { allocated self.new ≡ allocated self.old }
         ensures fits { self.new.end + more ≤ limit self.new }
     {
         let len = self.as_slice().len();
         if self.start < len && more <= self.most - self.end {
             return;
         }
+        self.move_to_start();
+    }
+
+    /// Moves the octets that are left to the start.
+    fn move_to_start(&mut self)
+        ensures same_left { left self.new ≡ left self.old }
+        ensures same_limit { limit self.new ≡ limit self.old }
+        ensures same_capacity { allocated self.new ≡ allocated self.old }
+        ensures end { self.new.end ≡ length (left self.old) }
+    {
+        let len = self.as_slice().len();
         self.buffer.copy_within(self.start..self.end, 0);
         self.start = 0;
         self.end = len;
     }
+
+    /// Lengthens the buffer for `more` octets after those that are left.
+    fn grow(&mut self, more: usize) -> Result<(), AllocError>
+        requires { self.old.end + more ≤ limit self.old }
+        ensures same_left { left self.new ≡ left self.old }
+        ensures same_limit { limit self.new ≡ limit self.old }
+        ensures same_end { self.new.end ≡ self.old.end }
+        ensures long { OnOk result (self.new.end + more ≤ length self.new.buffer.items) }
+        ensures memory { OnErr result (allocated self.old < self.old.end + more) }
+        ensures same_capacity { OnErr result (allocated self.new ≡ allocated self.old) }
+        ensures never_less { allocated self.old ≤ allocated self.new }
+    {
+        let end = self.end + more;
+        grow(&mut self.buffer, end, self.most)
+    }
 }
 
-/// Appends zeros until there are at least `len` octets: at least twice the old number, but not more
-/// than `most`.
+/// Appends zeros until there are at least `len` octets. If these exceed the capacity, it becomes at
+/// least twice the old one, but not more than `most`.
 fn grow(buffer: &mut Vec<u8>, len: usize, most: usize) -> Result<(), AllocError>
     requires fits { len ≤ most }
     requires old { vec_capacity buffer.old ≤ most }
     ensures long { OnOk result (len ≤ length buffer.new.items) }
     ensures kept { take (length buffer.old.items) buffer.new.items ≡ buffer.old.items }
     ensures bounded { vec_capacity buffer.new ≤ most }
+    ensures memory { OnErr result (vec_capacity buffer.old < len) }
+    ensures same_capacity { OnErr result (vec_capacity buffer.new ≡ vec_capacity buffer.old) }
+    ensures never_less { vec_capacity buffer.old ≤ vec_capacity buffer.new }
 {
-    let old = buffer.len();
+    reserve(buffer, len, most)?;
+    while buffer.len() < len {
+        buffer.push_reserved(0);
+    }
+    Ok(())
+}
+
+/// Raises the capacity to at least `len` octets: to at least twice the old one, but not more than
+/// `most`.
+fn reserve(buffer: &mut Vec<u8>, len: usize, most: usize) -> Result<(), AllocError>
+    requires fits { len ≤ most }
+    requires old { vec_capacity buffer.old ≤ most }
+    ensures items { buffer.new.items ≡ buffer.old.items }
+    ensures long { OnOk result (len ≤ vec_capacity buffer.new) }
+    ensures bounded { vec_capacity buffer.new ≤ most }
+    ensures memory { OnErr result (vec_capacity buffer.old < len) }
+    ensures same_capacity { OnErr result (vec_capacity buffer.new ≡ vec_capacity buffer.old) }
+    ensures never_less { vec_capacity buffer.old ≤ vec_capacity buffer.new }
+{
+    let old = buffer.capacity();
     if len <= old {
         return Ok(());
     }
     let wanted = old.saturating_mul(2).min(most).max(len);
-    buffer.reserve_exact(wanted - old)?;
-    while buffer.len() < wanted {
-        buffer.push_reserved(0);
-    }
-    Ok(())
+    buffer.reserve_exact(wanted - buffer.len())
 }
 
 /// Overwrites octets of the buffer from offset `offset` on.

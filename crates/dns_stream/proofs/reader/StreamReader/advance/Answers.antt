@@ -13,6 +13,7 @@ returns-in-Frame c =
     let within : reader.start + (2 + len) ≤ reader.end = omega (arith, whole.there, length-range reader.buffer.items reader.start reader.end) in
     record {
       limit_stays = refl;
+      allocated_stays = refl;
       accepted = whole.accepted;
       not_short = whole.not_short;
       there = omega arith;
