@@ -1,5 +1,6 @@
 pub mod Owners
 pub mod Records
+pub mod Opts
 pub mod Chains
 pub mod Said
 pub mod Replies

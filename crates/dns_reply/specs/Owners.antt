@@ -15,9 +15,17 @@ is_within (label ∷ name) other = names_equal (label ∷ name) other || is_with
 abbrev pub is_below : Labels → Labels → Bool
 is_below name other = is_within name other && not (names_equal name other)
 
--- whether QTYPE asks for records of a type: 255 asks for all types, and IXFR (251) and AXFR (252) for all records of a zone (RFC 1035 section 3.2.3, RFC 1995)
+-- whether QTYPE asks for records of all types: 255 does, and IXFR (251) and AXFR (252), which ask for all records of a zone (RFC 1035 section 3.2.3, RFC 1995)
+abbrev pub asks_for_all : ℕ → Bool
+asks_for_all qtype = (qtype == 255) || (qtype == 251) || (qtype == 252)
+
+-- whether QTYPE is MAILB (253) and a type MB (7), MG (8) or MR (9), or QTYPE is MAILA (254) and the type MD (3) or MF (4): RFC 1035 section 3.2.3
+abbrev pub asks_for_mail : ℕ → ℕ → Bool
+asks_for_mail qtype rtype = ((qtype == 253) && ((rtype == 7) || (rtype == 8) || (rtype == 9))) || ((qtype == 254) && ((rtype == 3) || (rtype == 4)))
+
+-- whether QTYPE asks for records of a type
 abbrev pub asks_for_type : ℕ → ℕ → Bool
-asks_for_type qtype rtype = (rtype == qtype) || (qtype == 255) || (qtype == 251) || (qtype == 252)
+asks_for_type qtype rtype = (rtype == qtype) || asks_for_all qtype || asks_for_mail qtype rtype
 
 -- whether QCLASS asks for records of a class: 255 asks for all classes (RFC 1035 section 3.2.5)
 abbrev pub asks_for_class : ℕ → ℕ → Bool

@@ -72,7 +72,8 @@ asked_records q answers name = filter (is_asked_for q name) (values answers)
 abbrev pub owns_asked : QuestionItem → Records → Labels → Bool
 owns_asked q answers name = list_any (is_asked_for q name) (values answers)
 
--- The least of a TTL and those of these records. RFC 2181 section 5.2: the records of a set are treated as if their TTLs were the lowest of them.
+-- The least of a TTL and those of these records. RFC 2181 section 5.2: the records of a set are treated as if their TTLs were the lowest of them. A TTL with its highest bit set is a large
+-- number: RFC 8767 section 4.
 abbrev pub least_ttl : ℕ → List EncodedRecord → ℕ
 least_ttl ttl xs = fold min ttl (map (λ (x : EncodedRecord). x.entry.ttl) xs)
 

@@ -43,7 +43,7 @@ pub data SaysNone (authorities : Records) (rcode qclass : ℕ) (zone name : Labe
   -- RFC 2308 section 2.2, types 1 and 2: an SOA record
   no_data : (soa : RecordItem) → IsNoError rcode → soa_for qclass zone authorities name ≡ Some soa
       → SaysNone authorities rcode qclass zone name (NoData name (Some soa) (negative_ttl (Some soa)))
-  -- RFC 2308 section 2.2, type 3: neither SOA nor NS records
+  -- RFC 2308 section 2.2, type 3: no NS records, and no SOA record of a zone that the name is in
   no_authority : IsNoError rcode → soa_for qclass zone authorities name ≡ None → has_ns qclass authorities ≡ false
       → SaysNone authorities rcode qclass zone name (NoData name None (negative_ttl None))
   -- RFC 1034 section 4.3.2, step 3b, and RFC 2308 section 2.2: NS records of a zone below, without an SOA record

@@ -43,7 +43,7 @@ fn check<'a, D: ParseRecordData<'a> + Drop>(section: RecordSection<'a>) -> Resul
 }
 
 /// Whether there is more than one OPT record.
-pub(crate) fn has_many_opts<'a>(additionals: RecordSection<'a>) -> bool
+pub(crate) fn reads_many_opts<'a>(additionals: RecordSection<'a>) -> bool
     ensures { IsTrue result ↔ (1 < length (opt_records (records_left additionals.entry))) }
 {
     let mut opts = additionals.limit_to::<Opt<&'a [u8]>>();

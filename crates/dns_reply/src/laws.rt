@@ -3,7 +3,7 @@ ghost use Rattle.std.specs.Prelude.{◌≡◌, ◌↔◌, IsTrue};
 ghost use Rattle.dns_reply.specs.Laws.{OneSaying, AllWithin, NamesAreLed, AnswersAreAnswers, AnswersAreRead, OneEnd, ReplyOrReason, RepliesAnswer, WithinIsSuffix};
 
 use crate::matching::LetterCase;
-use crate::reply::{NotReply, Reply, Unusable};
+use crate::reply::{Alias, Answer, Denial, NotReply, Redirection, Referral, Reply, Unusable};
 use crate::rrset::Rrset;
 
 /// A reply says exactly one thing: `reply_to` returns for each, and no other case applies.
@@ -64,6 +64,11 @@ pub fn reason_equality()
 /// A clone of what a reply says, of a reason, or of a set of records is the same.
 pub fn reply_clones()
     ensures reply { (a b : _) → ⟦<Reply<'static> as Clone>⟧.is_clone a b → b ≡ a }
+    ensures answer { (a b : _) → ⟦<Answer<'static> as Clone>⟧.is_clone a b → b ≡ a }
+    ensures denial { (a b : _) → ⟦<Denial<'static> as Clone>⟧.is_clone a b → b ≡ a }
+    ensures referral { (a b : _) → ⟦<Referral<'static> as Clone>⟧.is_clone a b → b ≡ a }
+    ensures alias { (a b : _) → ⟦<Alias<'static> as Clone>⟧.is_clone a b → b ≡ a }
+    ensures redirection { (a b : _) → ⟦<Redirection<'static> as Clone>⟧.is_clone a b → b ≡ a }
     ensures not_reply { (a b : _) → ⟦<NotReply as Clone>⟧.is_clone a b → b ≡ a }
     ensures unusable { (a b : _) → ⟦<Unusable as Clone>⟧.is_clone a b → b ≡ a }
     ensures case { (a b : _) → ⟦<LetterCase as Clone>⟧.is_clone a b → b ≡ a }
@@ -73,6 +78,11 @@ pub fn reply_clones()
 /// Cloning them never fails.
 pub fn reply_clones_never_fail()
     ensures reply { (a : _) → ⟦<Reply<'static> as Clone>⟧.is_infallible a }
+    ensures answer { (a : _) → ⟦<Answer<'static> as Clone>⟧.is_infallible a }
+    ensures denial { (a : _) → ⟦<Denial<'static> as Clone>⟧.is_infallible a }
+    ensures referral { (a : _) → ⟦<Referral<'static> as Clone>⟧.is_infallible a }
+    ensures alias { (a : _) → ⟦<Alias<'static> as Clone>⟧.is_infallible a }
+    ensures redirection { (a : _) → ⟦<Redirection<'static> as Clone>⟧.is_infallible a }
     ensures not_reply { (a : _) → ⟦<NotReply as Clone>⟧.is_infallible a }
     ensures unusable { (a : _) → ⟦<Unusable as Clone>⟧.is_infallible a }
     ensures case { (a : _) → ⟦<LetterCase as Clone>⟧.is_infallible a }

@@ -12,6 +12,7 @@ mod dname;
 mod find;
 pub mod laws;
 pub mod matching;
+mod opts;
 mod owners;
 pub mod reply;
 mod rrset;
@@ -19,6 +20,7 @@ mod saying;
 mod substitution;
 
 pub use matching::{LetterCase, check_reply};
+pub use opts::has_many_opts;
 pub use reply::{Alias, Answer, Denial, NotReply, Redirection, Referral, Reply, Unusable};
 pub use rrset::Rrset;
 pub use saying::{reply_to, reply_to_exact};

@@ -4,7 +4,7 @@ ghost use Rattle.std.specs.Prelude.{◌≡◌};
 ghost use Rattle.dns_item.specs.ParsedRecord.{encoded_record};
 ghost use Rattle.dns_item.specs.Question.{parsed_question};
 ghost use Rattle.dns_name.specs.ParsedName.{labels};
-ghost use Rattle.dns_reply.specs.Owners.{is_within, is_below, asks_for_type, asks_for_class, is_asked_for};
+ghost use Rattle.dns_reply.specs.Owners.{is_within, is_below, asks_for_type, asks_for_all, asks_for_mail, asks_for_class, is_asked_for};
 
 use dns_iana::{Class, Rtype};
 use dns_item::{ParsedRecord, Question};
@@ -28,7 +28,22 @@ pub(crate) fn is_below(name: &ParsedName<'_>, other: &ParsedName<'_>) -> bool
 fn asks_for_type(qtype: Rtype, rtype: Rtype) -> bool
     ensures { result ≡ asks_for_type qtype rtype }
 {
-    rtype == qtype || qtype == Rtype::ANY || qtype == Rtype::IXFR || qtype == Rtype::AXFR
+    rtype == qtype || asks_for_all(qtype) || asks_for_mail(qtype, rtype)
+}
+
+/// Whether QTYPE asks for records of all types.
+fn asks_for_all(qtype: Rtype) -> bool
+    ensures { result ≡ asks_for_all qtype }
+{
+    qtype == Rtype::ANY || qtype == Rtype::IXFR || qtype == Rtype::AXFR
+}
+
+/// Whether QTYPE asks for several types, and this is one: for mailboxes, or for mail agents.
+fn asks_for_mail(qtype: Rtype, rtype: Rtype) -> bool
+    ensures { result ≡ asks_for_mail qtype rtype }
+{
+    (qtype == Rtype::MAILB && (rtype == Rtype::MB || rtype == Rtype::MG || rtype == Rtype::MR))
+        || (qtype == Rtype::MAILA && (rtype == Rtype::MD || rtype == Rtype::MF))
 }
 
 /// Whether QCLASS asks for records of a class.

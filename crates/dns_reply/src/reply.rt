@@ -100,7 +100,7 @@ impl<'a> Answer<'a> {
     }
 
     /// The least TTL of the records, and of the CNAME records that lead to the name (RFC 2181
-    /// section 5.2).
+    /// section 5.2). If its highest bit is set, it is a large number (RFC 8767 section 4).
     pub fn ttl(&self) -> Ttl
         ensures { result ≡ answer_ttl self.now }
     {

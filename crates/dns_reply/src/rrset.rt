@@ -66,7 +66,8 @@ impl<'a> Rrset<'a> {
     /// Whether a record that is left has the same RDATA as `member`, octet for octet.
     ///
     /// A set has no such records (RFC 2181 section 5): of each, all but the last can be dropped.
-    /// Pointers aren't followed, so the same name compressed in two ways is different.
+    /// Pointers aren't followed: `member` has to be of the same message, and the same name
+    /// compressed in two ways is different.
     pub fn repeats(&self, member: &ParsedRecord<'_>) -> bool
         ensures { result ≡ repeats (encoded_record member.now) (members_left self.now) }
     {

@@ -12,7 +12,7 @@ ghost use Rattle.dns_reply.specs.Sayings.{IsSound, Says, SaysAt, SaysNone, SaysO
 ghost use Rattle.dns_reply.specs.declared.matching.LetterCase.TheVariants.{Ignored, Kept};
 
 use crate::chain::chain_end;
-use crate::checks::{check_sections, has_many_opts};
+use crate::checks::{check_sections, reads_many_opts};
 use crate::dname::Dname;
 use crate::find::{Owner, first_found, least_ttl, owns_asked};
 use crate::matching::{LetterCase, check_reply};
@@ -98,7 +98,7 @@ fn said_to<'a, Octs: Octets>(
             if let Err(error) = check_sections(answers, authorities, additionals) {
                 return Reply::Unusable(Unusable::Unreadable(error));
             }
-            if has_many_opts(additionals) {
+            if reads_many_opts(additionals) {
                 return Reply::Unusable(Unusable::ManyOpts);
             }
             said_soundly(received, zone, question, answers, authorities)

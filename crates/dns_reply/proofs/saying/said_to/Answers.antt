@@ -18,12 +18,12 @@ returns-in-Err-check_sections g c =
     let e = c.in-Ok.ensures in
     unreadable (unreadable_within b c.in-Ok.answers c.in-Ok.authorities c.in-Ok.additionals e.answer e.authority e.additional (fault_of c.in-Err-check_sections.error) c.in-Err-check_sections.ensures)
 
-pub returns-then-has_many_opts : goal.returns-then-has_many_opts
-returns-then-has_many_opts g c =
+pub returns-then-reads_many_opts : goal.returns-then-reads_many_opts
+returns-then-reads_many_opts g c =
     let b = message_octets c.args.received.now in
     let e = c.in-Ok.ensures in
     let readable = is_readable b c.in-Ok.answers c.in-Ok.authorities c.in-Ok.additionals e.answer e.authority e.additional c.in_default.ensures in
-    let more = c.has_many_opts.ensures.0 c.if-has_many_opts.true in
+    let more = c.reads_many_opts.ensures.0 c.if-reads_many_opts.true in
     many_opts readable (subst (λ n. 1 < n) (opts_read b c.in-Ok.answers c.in-Ok.authorities c.in-Ok.additionals e.answer e.authority e.additional) more)
 
 pub said_soundly-requires : goal.said_soundly-requires
@@ -32,5 +32,5 @@ said_soundly-requires g c =
     let e = c.in-Ok.ensures in
     let readable = is_readable b c.in-Ok.answers c.in-Ok.authorities c.in-Ok.additionals e.answer e.authority e.additional c.in_default.ensures in
     let same = opts_read b c.in-Ok.answers c.in-Ok.authorities c.in-Ok.additionals e.answer e.authority e.additional in
-    let few = at_most_one (length (opt_records (records_left c.in-Ok.additionals))) (opt_count b) same c.has_many_opts.ensures c.if-has_many_opts.false in
+    let few = at_most_one (length (opt_records (records_left c.in-Ok.additionals))) (opt_count b) same c.reads_many_opts.ensures c.if-reads_many_opts.false in
     record { sound = record { readable = readable; one_opt = few }; answers = e.answer; authorities = e.authority }

@@ -6,7 +6,7 @@ use Rattle.dns_data.specs.RecordData.{only}
 use Rattle.dns_item.specs.Items.{RecordItem}
 use Rattle.dns_read.specs.RecordIter.{typed_left}
 use Rattle.dns_reply.proofs.FaultLemmas.{second_some}
-use Rattle.dns_reply.proofs.checks.has_many_opts.Goals as goal
+use Rattle.dns_reply.proofs.checks.reads_many_opts.Goals as goal
 
 pub returns : goal.returns
 returns c =
