@@ -21,7 +21,7 @@ use Rattle.fields_plain.specs.ZoneNames.{zone_name_text}
 use Rattle.json_print.specs.Values.{Member, members_of, numeral}
 use Rattle.dns_json.specs.Entries.{entries_json}
 use Rattle.dns_json.specs.Header.{owner_members}
-use Rattle.dns_json.specs.Laws.{MembersReadBack, QuestionMembersReadBack, RecordMembersReadBack}
+use Rattle.dns_json.specs.Laws.{MembersReadBack, OctetsReadBack, QuestionMembersReadBack, RecordMembersReadBack}
 use Rattle.dns_json.specs.Messages.{asked_members, body_members, head_members, is_whole, message_json, octets_members, question_json, reading_of, section_members, section_name, sections_members}
 use Rattle.dns_json.proofs.MemberLists.{additionals, after_asked, answers, authorities}
 use Rattle.dns_json.proofs.UniqueNames.{same_text}
@@ -247,7 +247,11 @@ members_read_back b =
 
 -- The members of a question's object are its fields.
 pub question_members_read_back : QuestionMembersReadBack
-question_members_read_back q = record { qname = refl; qtype = refl; qclass = refl }
+question_members_read_back q = record { qname = refl; qtype = refl; qtype_name = refl; qclass = refl; qclass_name = refl }
+
+-- The member of the object for octets is these octets.
+pub octets_read_back : OctetsReadBack
+octets_read_back b = refl
 
 -- the members of a record whose RDATA has this text
 abbrev record_with : EncodedRecord → Option (List ℕ) → List Member

@@ -19,7 +19,7 @@ use Rattle.json_print.proofs.theory.Lines.{IsLine, array_line, boolean_line, dec
 use Rattle.json_print.proofs.theory.Shapes.{EachItem, EachValue, each_append}
 use Rattle.dns_json.specs.Entries.{readable}
 use Rattle.dns_json.specs.Header.{count_members, header_members, owner_members}
-use Rattle.dns_json.specs.Laws.{TextsAreLines}
+use Rattle.dns_json.specs.Laws.{OctetsAreLines, TextsAreLines}
 use Rattle.dns_json.specs.Messages.{asked_members, body_members, head_members, is_whole, octets_members, question_json, reading_of, section_members, sections_members}
 use Rattle.dns_json.specs.Records.{hex_text, presentation, rdata_members, record_json, record_members, text_members, ttl_text}
 use Rattle.dns_json.proofs.MemberLists.{additionals, after_asked, after_class, answers, asked_class, asked_type, authorities, question_items, record_class, record_items, record_type}
@@ -107,3 +107,7 @@ texts_are_lines b =
       each_append IsLine (sections_members b) (octets_members b) sections (octets_lines (is_whole b) (hex_text b)),
     ) in
     object_line (head_members b ++ body_members b) (each_append IsLine (head_members b) (body_members b) head body)
+
+-- Nor has the text of octets.
+pub octets_are_lines : OctetsAreLines
+octets_are_lines b = object_line ((codes "messageOctetsHEX", string (hex_text b)) ∷ []) (string_line (hex_text b), tt)

@@ -3,6 +3,7 @@ use Rattle.std.specs.Prelude.{ℕ, Bool, false, is_ok, List, [], ◌∷◌, ◌+
 use Rattle.std.specs.List.{list_all}
 use Rattle.json.specs.Json.{Json}
 use Rattle.dns_name.specs.Names.{Fault}
+use Rattle.dns_item.specs.ParsedRecord.{EncodedRecord}
 use Rattle.json_print.specs.Values.{array_of}
 use Rattle.json_print.specs.Texts.{json_text, comma_if}
 
@@ -26,3 +27,9 @@ module _ {X : Type 0} where
   abbrev pub is_readable : Option (List (Result X Fault)) → Bool
   is_readable None = false
   is_readable (Some xs) = list_all is_ok xs
+
+-- the offset after the records that can be read, of which the first begins at p
+abbrev pub end_of : ℕ → List (Result EncodedRecord Fault) → ℕ
+end_of p [] = p
+end_of p (Ok x ∷ xs) = end_of x.entry.rdata_end xs
+end_of p (Err f ∷ xs) = end_of p xs

@@ -38,6 +38,9 @@ OctetsAreJson = (b : List ℕ) → document (octets_json_text b) ≡ Some (octet
 abbrev pub TextsAreLines : Type 0
 TextsAreLines = (b : List ℕ) → IsTrue (list_all (nat_le 32) (message_json_text b))
 
+abbrev pub OctetsAreLines : Type 0
+OctetsAreLines = (b : List ℕ) → IsTrue (list_all (nat_le 32) (octets_json_text b))
+
 -- No object in it has a name twice (RFC 7493 section 2.3).
 abbrev pub NamesAreUnique : Type 0
 NamesAreUnique = (b : List ℕ) → HasUniqueKeys (message_json b)
@@ -75,7 +78,9 @@ MembersReadBack = (b : List ℕ) → MembersAreRead b
 pub record QuestionMembersAreRead (q : QuestionItem) : Type 0 where
   pub qname : get (codes "NAME") (question_json q) ≡ Some (string (zone_name_text q.name))
   pub qtype : get (codes "TYPE") (question_json q) ≡ Some (numeral q.rtype)
+  pub qtype_name : get (codes "TYPEname") (question_json q) ≡ Some (string (type_word q.rtype))
   pub qclass : get (codes "CLASS") (question_json q) ≡ Some (numeral q.class)
+  pub qclass_name : get (codes "CLASSname") (question_json q) ≡ Some (string (class_text q.class))
 
 -- The same of each question.
 abbrev pub QuestionMembersReadBack : Type 0
@@ -96,3 +101,7 @@ pub record RecordMembersAreRead (x : EncodedRecord) : Type 0 where
 -- The same of each record.
 abbrev pub RecordMembersReadBack : Type 0
 RecordMembersReadBack = (x : EncodedRecord) → RecordMembersAreRead x
+
+-- The one member of the object for octets that are too few for a message is these octets.
+abbrev pub OctetsReadBack : Type 0
+OctetsReadBack = (b : List ℕ) → get (codes "messageOctetsHEX") (octets_json b) ≡ Some (string (hex_text b))

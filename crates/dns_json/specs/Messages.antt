@@ -1,7 +1,7 @@
 -- A message as a JSON value. RFC 8427 sections 2.1 and 2.4.
 --
 -- `b` is the octets of the message.
-use Rattle.std.specs.Prelude.{ℕ, Bool, ◌&&◌, if◌then◌else◌, List, [], ◌∷◌, ◌++◌, take, Option, Some, None, option_map, Result, codes}
+use Rattle.std.specs.Prelude.{ℕ, Bool, false, ◌==◌, ◌&&◌, if◌then◌else◌, List, [], ◌∷◌, ◌++◌, length, take, Option, Some, None, option_map, Result, codes}
 use Rattle.json.specs.Json.{Json, string}
 use Rattle.dns_name.specs.Names.{Fault}
 use Rattle.dns_code.specs.Header.{fields_in}
@@ -17,7 +17,7 @@ use Rattle.dns_lines.specs.Show.{counts_of}
 use Rattle.fields_plain.specs.ZoneNames.{zone_name_text}
 use Rattle.json_print.specs.Texts.{json_text}
 use Rattle.json_print.specs.Values.{Member, object_of}
-use Rattle.dns_json.specs.Entries.{entries_json, is_readable}
+use Rattle.dns_json.specs.Entries.{end_of, entries_json, is_readable}
 use Rattle.dns_json.specs.Header.{header_members, count_members, type_members, class_members, owner_members}
 use Rattle.dns_json.specs.Records.{hex_text, record_json}
 
@@ -51,11 +51,22 @@ abbrev pub sections_members : List ℕ → List Member
 sections_members b =
     section_members Answer (reading_of Answer b) ++ (section_members Authority (reading_of Authority b) ++ section_members Additional (reading_of Additional b))
 
--- whether each section has a start, and each entry can be read
-abbrev pub is_whole : List ℕ → Bool
-is_whole b = is_readable (Some (questions_of b)) && is_readable (reading_of Answer b) && is_readable (reading_of Authority b) && is_readable (reading_of Additional b)
+-- the offset after the last record, if the additional section has a start
+abbrev pub records_end : List ℕ → Option ℕ
+records_end b = option_map (λ p. end_of p (records_in b (record_count Additional b) p)) (start_of Additional b)
 
--- all octets of the message, unless each entry can be read
+-- whether octets end there
+abbrev pub ends_at : Option ℕ → ℕ → Bool
+ends_at None len = false
+ends_at (Some end) len = end == len
+
+-- whether each section has a start, each entry can be read, and no octets follow the last
+abbrev pub is_whole : List ℕ → Bool
+is_whole b =
+    is_readable (Some (questions_of b)) && is_readable (reading_of Answer b) && is_readable (reading_of Authority b) && is_readable (reading_of Additional b)
+    && ends_at (records_end b) (length b)
+
+-- all octets of the message, unless the other members have them
 abbrev pub octets_members : List ℕ → List Member
 octets_members b = if is_whole b then [] else (codes "messageOctetsHEX", string (hex_text b)) ∷ []
 

@@ -6,7 +6,8 @@
 //! file (RFC 1035 section 5.1).
 //!
 //! An array has the entries that can be read. A section that has no start has no array. If an entry
-//! can't be read or a section has no start, the object also has all octets of the message.
+//! can't be read, a section has no start, or octets follow the last record, the object also has all
+//! octets of the message.
 //!
 //! The text is a function of the message's octets. `laws` says that it is JSON (RFC 8259) on one
 //! line, whatever the message. Printing allocates no memory, and fails only if the writer does.

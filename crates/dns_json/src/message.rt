@@ -44,7 +44,7 @@ pub fn print_json<W: Write>(writer: &mut W, message: &Message<&[u8]>) -> io::Res
 ///
 /// The object has the fields of the header, the counts, the members of the first question, and an
 /// array for each section that has a start, with the entries that can be read. If some entry can't
-/// be read, it also has all octets of the message.
+/// be read, or octets follow the last, it also has all octets of the message.
 pub fn write_json<T: TextWriter>(writer: &mut T, message: &Message<&[u8]>) -> fmt::Result
     ensures text { PrintsOnOk T.takes writer.old result
         (message_json_text (message_octets message.now)) writer.new }
@@ -77,7 +77,7 @@ fn write_body<T: TextWriter>(writer: &mut T, message: &Message<&[u8]>) -> fmt::R
     write_octets(writer, message)
 }
 
-/// Prints the member for the octets of a message, unless each entry can be read.
+/// Prints the member for the octets of a message, unless they are its entries, and each can be read.
 fn write_octets<T: TextWriter>(writer: &mut T, message: &Message<&[u8]>) -> fmt::Result
     ensures text { PrintsOnOk T.takes writer.old result
         (members_text (octets_members (message_octets message.now))) writer.new }
