@@ -35,11 +35,43 @@ disk='No space left on device'
 question=03777777076578616d706c6503636f6d00
 asked=076578616d706c6503636f6d00
 
-# A query with the type $1 for www.example.com, and a message with the flags $2 and the answer count $3 after its question
-# (RFC 1035 section 4.1).
+# A look-up of www.example.com with the type $1, A or AAAA, and a message with the flags $2, the answer count $3 and the authority
+# count $4 after its question, and the records $5 (RFC 1035 section 4.1).
 resolving() {
-    echo "123401000001000000000000${question}${1}0001"
-    echo "1234${2}0001${3}00000000${question}${1}0001"
+    local rtype=0001
+    [ "$1" = A ] || rtype=001c
+    echo "www.example.com $1"
+    echo "1234${2}0001${3}${4:-0000}0000${question}${rtype}0001${5:-}"
+}
+
+# The query for a name in octets, of type A.
+asks() {
+    echo "123401000001000000000000${1}00010001"
+}
+
+# Frames of messages in hexadecimal digits, each after its length (RFC 1035 section 4.2.2).
+frames() {
+    local message
+    for message in "$@"; do printf "$(printf '%04x%s' $((${#message} / 2)) "$message" | sed 's/../\\x&/g')"; done
+}
+
+# The SOA record of example.com with the serial $1, and its A record 192.0.2.$1 (RFC 1035 sections 3.3.13 and 3.4.1); their lines.
+soa() {
+    printf 'c00c0006000100000e100018c00cc00c%08x00001c2000000384001275000000012c' "$1"
+}
+host() {
+    printf 'c00c0001000100000e100004c00002%02x' "$1"
+}
+soa_line() {
+    echo "example.com. 3600 IN SOA example.com. example.com. $1 7200 900 1209600 300"
+}
+host_line() {
+    echo "example.com. 3600 IN A 192.0.2.$1"
+}
+
+# The response to a query for an IXFR of example.com, with the records $2 in all, of which there are $1 (RFC 1995 section 4).
+changes() {
+    echo "123484000001000${1}00000000${asked}00fb0001${2}"
 }
 
 # The answer to the query below: its header and its question with QR set and 40 answers, which are type A, class IN, a TTL of 3600
@@ -52,7 +84,7 @@ forty_addresses() {
 
 # The status 1 of an example, with a reason.
 refuses() {
-    run "$1" 1 '' "$3" "$2"
+    run "$1" 1 '' "$3" "$2" "${@:4}"
 }
 
 refuses addresses_no_digits example_addresses 'Invalid character' <<<0001zz
@@ -77,23 +109,62 @@ refuses rewrite_no_digits example_rewrite 'Invalid character' < <(printf '600\n0
 refuses rewrite_short_message example_rewrite 'short message' < <(printf '600\n0001\n')
 full rewrite_full_disk 1 "$disk" example_rewrite <crates/example_rewrite/stdin
 
-run transfer_torn 1 '; unreadable message' "can't be read to its end" example_transfer < <(printf '\0\5abc')
-run transfer_empty 0 '' '' example_transfer </dev/null
-full transfer_full_disk 1 "$disk" example_transfer <crates/example_transfer/stdin
+transfer() {
+    run "$1" "$2" "$3" "$4" example_transfer 4660 example.com "${@:5}"
+}
+transfer transfer_torn 1 '' 'the transfer is cut off' < <(printf '\0\15abcdefghijk')
+transfer transfer_short 1 '' 'short message' < <(printf '\0\5abc')
+transfer transfer_empty 1 '' 'the transfer is cut off' </dev/null
+transfer transfer_half 1 "$(head -n 3 crates/example_transfer/stdout)" 'the transfer is cut off' < <(head -c 127 crates/example_transfer/stdin)
+transfer transfer_other_id 1 '' 'wrong ID' < <(frames "$(changes 1 "$(soa 1)" | sed s/^1234/1235/)")
+# RFC 1995 section 4: changes from version 1 to 2 and to 3, in two messages; the whole zone in place of them; no newer version.
+transfer transfer_changes 0 "$(
+    soa_line 3
+    for line in "$(soa_line 1)" "$(host_line 1)"; do echo "- $line"; done
+    soa_line 2
+    host_line 2
+    echo "- $(soa_line 2)"
+    soa_line 3
+    host_line 3
+)" '' 1 < <(frames "$(changes 5 "$(soa 3)$(soa 1)$(host 1)$(soa 2)$(host 2)")" "$(changes 4 "$(soa 2)$(soa 3)$(host 3)$(soa 3)")")
+transfer transfer_whole_zone 0 "$(
+    soa_line 3
+    echo '; the whole zone'
+    host_line 3
+)" '' 1 < <(frames "$(changes 3 "$(soa 3)$(host 3)$(soa 3)")")
+transfer transfer_up_to_date 0 '; up to date' '' 3 < <(frames "$(changes 1 "$(soa 3)")")
+transfer transfer_other_soa 1 "$(soa_line 3)"$'\n'"; the whole zone" 'wrong SOA record' 1 < <(frames "$(changes 2 "$(soa 3)$(soa 2)")")
+transfer transfer_after_end 1 '; up to date' 'data after the end' 3 < <(frames "$(changes 2 "$(soa 3)$(soa 3)")")
+run transfer_no_words 1 '' 'usage: example_transfer ID ZONE [SERIAL]' example_transfer </dev/null
+refuses transfer_no_number example_transfer 'invalid digit' x </dev/null
+full transfer_full_disk 1 "$disk" example_transfer 4660 example.com <crates/example_transfer/stdin
 
-run resolve_default_type 0 "123401000001000000000000${question}00010001" '' example_resolve <<<www.example.com
+run resolve_default_type 0 "$(asks "$question")" '' example_resolve <<<www.example.com
 run resolve_type 0 "123401000001000000000000${question}001c0001" '' example_resolve <<<'www.example.com AAAA'
 refuses resolve_no_type example_resolve 'unknown record type' <<<'www.example.com NOTYPE'
+refuses resolve_other_type example_resolve 'no query for addresses' <<<'www.example.com MX'
 refuses resolve_no_name example_resolve 'empty label' <<<www..example.com
-refuses resolve_no_digits example_resolve 'Invalid character' < <(printf '00zz\n00\n')
-refuses resolve_short_message example_resolve 'short message' < <(printf '0001\n00\n')
-refuses resolve_query example_resolve 'no answer to the query' < <(resolving 0001 0100 0000)
-refuses resolve_nxdomain example_resolve 'the rcode is NXDomain (3)' < <(resolving 0001 8183 0000)
-refuses resolve_refused example_resolve 'the rcode is Refused (5)' < <(resolving 001c 8185 0000)
-refuses resolve_truncated example_resolve 'cut short' < <(resolving 0001 8380 0000)
-refuses resolve_other_type example_resolve 'no query for addresses' < <(resolving 000f 8180 0000)
-refuses resolve_alias_of_itself example_resolve 'no canonical name' < <(resolving 0001 8180 0001 | sed '2s/$/c00c0005000100000e100002c00c/')
-refuses resolve_unreadable example_resolve 'unreadable: ' < <(resolving 0001 8180 0001)
+refuses resolve_no_digits example_resolve 'Invalid character' < <(printf 'www.example.com\n00zz\n')
+refuses resolve_short_message example_resolve 'short message' < <(printf 'www.example.com\n0001\n')
+refuses resolve_query example_resolve 'not a response' < <(resolving A 0100 0000)
+refuses resolve_other_question example_resolve 'other question' < <(resolving A 8180 0000 | sed 's/^1234\(.*\)00010001$/1234\1000f0001/')
+refuses resolve_no_data example_resolve 'no addresses' < <(resolving A 8180 0000)
+refuses resolve_nxdomain example_resolve 'no such name' < <(resolving A 8183 0000)
+refuses resolve_refused example_resolve 'the rcode is Refused (5)' < <(resolving AAAA 8185 0000)
+run resolve_truncated 0 "$(asks "$question") over TCP" '' example_resolve < <(resolving A 8380 0000)
+# NS records of example.com; an alias without its records, and DNAME records, to names of example.net (RFC 1034 sections 3.6.2 and 4.3.2,
+# RFC 6672 section 2.2).
+net=076578616d706c65036e657400
+run resolve_referral 0 "$(asks "$question") to the servers of example.com." '' example_resolve \
+    < <(resolving A 8000 0000 0001 c010000200010002a3000006036e7331c010)
+run resolve_alias_alone 0 "$(asks "03776562$net")" '' example_resolve < <(resolving A 8400 0001 0000 "c00c000500010000012c001103776562$net")
+run resolve_dname 0 "$(asks "03777777$net")" '' example_resolve < <(resolving A 8400 0001 0000 "c010002700010000012c000d$net")
+refuses resolve_too_many_queries example_resolve 'too many queries' < <(
+    resolving A 8380 0000
+    for _ in {1..8}; do resolving A 8380 0000 | tail -n 1; done
+)
+refuses resolve_alias_of_itself example_resolve 'ask another server: alias loop' < <(resolving A 8180 0001 0000 c00c0005000100000e100002c00c)
+refuses resolve_unreadable example_resolve 'ask another server: ' < <(resolving A 8180 0001)
 full resolve_full_disk 1 "$disk" example_resolve <crates/example_resolve/stdin
 full resolve_query_full_disk 1 "$disk" example_resolve <<<www.example.com
 

@@ -1,4 +1,1 @@
-mod AcceptedLemmas
-mod AddressLemmas
-mod FoundLemmas
 mod QueryLemmas

@@ -9,7 +9,7 @@ use Rattle.dns_message.specs.Questions.{QuestionItem, encode_question}
 use Rattle.dns_message.specs.Builders.{PushReturns, encode, most_entries, no_limit}
 use Rattle.dns_message.specs.declared.builder.PushError.{PushError}
 use Rattle.dns_message.specs.declared.builder.PushError.TheVariants as errors
-use Rattle.example_resolve.specs.Resolving.{asking}
+use Rattle.example_resolve.specs.Queries.{asking}
 
 -- the header section, the name and four octets
 pub query_size : (header : HeaderFields) (asked : QuestionItem) → IsName asked.name → length (encode Plain (asking header asked)).octets ≤ 271

@@ -1,2 +1,2 @@
-pub mod Addresses
-pub mod Resolving
+pub mod Lookups
+pub mod Queries

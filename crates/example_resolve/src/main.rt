@@ -1,52 +1,101 @@
 //! The program `example_resolve` is the core of a stub resolver (RFC 1034 section 5.3.1), without
 //! the network:
 //!
-//!     example_resolve < NAME-AND-TYPE
-//!     example_resolve < QUERY-AND-ANSWER
+//!     example_resolve < NAME-AND-REPLIES
 //!
-//! For one line with a name and perhaps a record type, it prints the query for them in hexadecimal
-//! digits. The type is A by default. For two lines, a query for type A or AAAA and a received
-//! message in hexadecimal digits, it prints the addresses, one a line. If there are none, it exits
-//! with status 1 and a reason on standard error.
-//! The contract of `resolving::query` says that a query has at most 512 octets, and that of
-//! `resolving::addresses` which addresses are found.
+//! The first line is a name and perhaps a record type, A by default or AAAA. Each further line is a
+//! message in hexadecimal digits: the reply to the query that the lines before it lead to.
+//!
+//! The program prints the addresses, one a line, if the replies give them. Else it prints the next
+//! query in hexadecimal digits, and `over TCP` or `to the servers of` a zone if that has to be used
+//! or asked. If there are no addresses, it exits with status 1 and a reason on standard error.
+//!
+//! The contract of `resolving::query` says what a query is, and that of `resolving::Lookup::judge`
+//! what each reply tells to do.
 #![tactic(auto)]
 
-mod address;
 mod resolving;
 
-use crate::resolving::{addresses, query};
-use anyhow::Result;
+use crate::resolving::{Lookup, Next, query};
+use anyhow::{Result, bail, ensure};
 use dns_message::code::Rtype;
+use dns_message::fields::{DataText, FieldData};
 use dns_message::message::Message;
-use dns_message::name::Name;
+use dns_message::reply::Rrset;
 use std::io;
 
-/// The ID of the query. A program that sends queries has to use unpredictable IDs (RFC 5452 section
-/// 9.2).
+/// The ID of the queries. A program that sends queries has to use unpredictable IDs (RFC 5452
+/// section 9.2).
 const ID: u16 = 0x1234;
+
+/// How often a reply may lead to another query.
+const BUDGET: u32 = 8;
 
 fn main(rt: HostRuntime) -> Result<()> {
     let text = io::read_to_string(rt.alloc(), rt.stdin())?;
-    let Some((asked, received)) = text.trim_ascii().split_once('\n') else {
-        return print_query(&rt, text.trim_ascii());
-    };
-    let asked = Message::from_octets(hex::decode(rt.alloc(), asked.trim_ascii())?)?;
-    let received = Message::from_octets(hex::decode(rt.alloc(), received)?)?;
-    for address in &addresses(rt.alloc(), &asked, &received)? {
-        println!(rt; "{address}")?;
+    let mut lines = text.trim_ascii().lines();
+    let mut lookup = lookup_of(lines.next().unwrap_or(""))?;
+    for line in lines {
+        let sent = query(ID, &lookup.name, lookup.rtype);
+        let received = Message::from_octets(hex::decode(rt.alloc(), line.trim_ascii())?)?;
+        match lookup.judge(rt.alloc(), &sent, &received)? {
+            Next::Found(set) => return print_set(&rt, set),
+            Next::Ask(later) => lookup = later,
+            Next::NoData => bail!("no addresses"),
+            Next::NoName => bail!("no such name"),
+            Next::Spent => bail!("too many queries"),
+            Next::Failed(rcode) => {
+                let name = rcode.registered_name().unwrap_or("unassigned");
+                bail!("the rcode is {name} ({})", rcode.to_int())
+            }
+            Next::Unusable(why) => bail!("ask another server: {why}"),
+        }
     }
-    Ok(())
+    print_query(&rt, &lookup)
 }
 
-/// Prints the query of a line: for a name, and for type A if no type follows it.
-fn print_query(rt: &(impl Print + AllocGlobal), line: &str) -> Result<()> {
+/// The look-up of a line: of a name, and of type A if no type follows it.
+fn lookup_of(line: &str) -> Result<Lookup> {
     let (name, rtype) = match line.split_once(' ') {
         Some((name, rtype)) => (name, rtype.trim_ascii().parse()?),
         None => (line, Rtype::A),
     };
-    let name = Name::vec_from_str(rt.alloc(), name)?;
-    let digits = hex::encode(rt.alloc(), query(ID, &name, rtype).as_slice())?;
-    println!(rt; "{digits}")?;
+    ensure!(
+        rtype == Rtype::A || rtype == Rtype::AAAA,
+        "no query for addresses"
+    );
+    Ok(Lookup {
+        name: name.parse()?,
+        rtype,
+        zone: ".".parse()?,
+        over_tcp: false,
+        budget: BUDGET,
+    })
+}
+
+/// Prints the RDATA of each record, one a line, if all of it can be read.
+fn print_set(rt: &(impl Print + AllocGlobal), set: Rrset<'_>) -> Result<()> {
+    let mut found = Vec::new(rt.alloc());
+    for item in set {
+        found.push(item?.to_any_record::<FieldData<'_>>()?)?;
+    }
+    for record in &found {
+        println!(rt; "{}", DataText(record.data()))?;
+    }
+    Ok(())
+}
+
+/// Prints the next query, and how it has to be sent.
+fn print_query(rt: &(impl Print + AllocGlobal), lookup: &Lookup) -> Result<()> {
+    let message = query(ID, &lookup.name, lookup.rtype);
+    let digits = hex::encode(rt.alloc(), message.as_slice())?;
+    print!(rt; "{digits}")?;
+    if lookup.over_tcp {
+        print!(rt; " over TCP")?;
+    }
+    if lookup.zone.label_count() > 1 {
+        print!(rt; " to the servers of {}", lookup.zone.fmt_with_dot())?;
+    }
+    println!(rt; "")?;
     Ok(())
 }

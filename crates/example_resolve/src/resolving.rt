@@ -1,66 +1,27 @@
-//! Queries for addresses, and the addresses in received messages (RFC 1034 sections 3.6.2 and
-//! 5.3.1).
-ghost use Rattle.std.specs.Prelude.{◌≡◌, ◌≤◌, IfOk, IfErr, MatchResult, None, Some, length, true};
-ghost use Rattle.dns_message.specs.Names.{fault_of, labels};
-ghost use Rattle.dns_message.specs.Messages.{message_octets, cname_layout};
-ghost use Rattle.dns_message.specs.Sections.{limited};
+//! Look-ups of the records of a name: their queries, and what replies tell to do next (RFC 1034
+//! section 5.3.3).
+ghost use Rattle.std.specs.Prelude.{◌≡◌, ◌≤◌, IfErr, IfOk, OnOk, length};
+ghost use Rattle.dns_message.specs.Messages.{message_octets};
+ghost use Rattle.dns_message.specs.Names.{labels, name_labels};
+ghost use Rattle.dns_message.specs.Replies.{IsNotReply, IsReply, answer_name, answer_section, members, members_left, said_of};
 ghost use Rattle.dns_message.specs.Sections.RecordSection.{records_left};
-ghost use Rattle.example_resolve.specs.Addresses.{address_layout, is_address_type};
-ghost use Rattle.example_resolve.specs.Resolving.{IsQuery, first_fault, Gives, IsReason, Finds, StopsAt};
+ghost use Rattle.dns_message.specs.declared.reply.LetterCase.TheVariants.{Ignored};
+ghost use Rattle.dns_message.specs.declared.reply.Reply.TheVariants as replies;
+ghost use Rattle.example_resolve.specs.Queries.{IsQuery};
+ghost use Rattle.example_resolve.specs.Lookups.{Asks, Restarts, Tells, Told};
 
-use crate::address::{Aaaa, AddressData};
 use arrayvec::ArrayVec;
 use dns_message::builder::MessageBuilder;
-use dns_message::code::{Class, OptRcode, Rcode, Rtype};
-use dns_message::data::{A, Cname};
+use dns_message::code::{Class, OptRcode, Rtype};
 use dns_message::header::Header;
-use dns_message::message::{Message, RecordSection};
-use dns_message::name::{ParsedName, ToName};
-use dns_message::wire::{Octets, ParseError};
+use dns_message::message::Message;
+use dns_message::name::{Name, ParsedName, ToName};
+use dns_message::reply::{Answer, Denial, NotReply, Redirection, Reply, Rrset, Unusable, reply_to};
+use dns_message::wire::{AppendError, FlattenInto, Octets};
 use std::alloc::Global;
-use std::net::IpAddr;
-use thiserror::Error;
 
-/// Why a message gives no addresses.
-#[derive(Clone, Copy, Debug, Error)]
-pub enum NoAddresses {
-    /// It is no response to the query.
-    #[error("no answer to the query")]
-    OtherMessage,
-    /// Its rcode isn't NOERROR.
-    #[error("the rcode is {} ({})", .0.registered_name().unwrap_or("unassigned"), .0.to_int())]
-    Failed(OptRcode),
-    /// TC is set. The query has to be sent again over TCP (RFC 7766 section 5).
-    #[error("cut short")]
-    Truncated,
-    /// The first question is for another record type than A and AAAA.
-    #[error("no query for addresses")]
-    OtherType,
-    /// There is no readable question, or a chain of aliases has twenty or more.
-    #[error("no canonical name")]
-    NoName,
-    /// A record of the answer section can't be read, or the RDATA of a CNAME record, or of a
-    /// record of the type that the first question asks for, is malformed.
-    #[error("unreadable: {0}")]
-    Unreadable(ParseError),
-    /// An allocation failed.
-    #[error("out of memory")]
-    OutOfMemory,
-}
-
-impl From<ParseError> for NoAddresses {
-    ghost use Rattle.std.specs.Prelude.{◌≡◌};
-    ghost use Rattle.example_resolve.specs.declared.resolving.NoAddresses.TheVariants as reasons;
-
-    ghost from_gives = { λ e reason. reason ≡ reasons.Unreadable e };
-
-    fn from(error: ParseError) -> Self {
-        NoAddresses::Unreadable(error)
-    }
-}
-
-/// Returns the query for the records of a name and a type in class IN. RD is set, so that the
-/// server follows aliases itself. Every query fits in 512 octets (RFC 1035 section 4.2.1).
+/// Returns the query for the records of a name and a type in class IN. RD is set, so that a server
+/// that resolves follows aliases itself. Every query fits in 512 octets (RFC 1035 section 4.2.1).
 pub fn query<N: ToName>(id: u16, name: &N, rtype: Rtype) -> Message<ArrayVec<u8, 512>>
     ensures asks { IsQuery id (record { name = N.name name.now; rtype = rtype; class = 1 })
         (message_octets result) }
@@ -76,106 +37,152 @@ pub fn query<N: ToName>(id: u16, name: &N, rtype: Rtype) -> Message<ArrayVec<u8,
     questions.into_message()
 }
 
-/// Returns the addresses that a response to a query for type A or AAAA gives: those of this type
-/// that the canonical name of the first question owns, in its class, in the order of the answer
-/// section. The canonical name is the name at the end of the chain of aliases, or the question's
-/// own name if it is no alias.
-///
-/// The response has to be complete and have the rcode NOERROR. The higher bits of the rcode come
-/// from the OPT record, if one can be read. Each record of the answer section has to be readable,
-/// and so does the RDATA of each CNAME record and of each record of the type, whoever owns it.
-pub fn addresses<Asked: Octets, Received: Octets>(
-    alloc: Global,
-    query: &Message<Asked>,
-    received: &Message<Received>,
-) -> Result<Vec<IpAddr>, NoAddresses>
-    ensures given { IfOk result (λ found. Gives (message_octets query.now)
-        (message_octets received.now) found.items) }
-    ensures reason { IfErr result (λ reason. IsReason (message_octets query.now)
-        (message_octets received.now) reason) }
-{
-    if !received.is_answer(query) {
-        return Err(NoAddresses::OtherMessage);
-    }
-    let rcode = received.opt_rcode();
-    if rcode != OptRcode::from(Rcode::NOERROR) {
-        return Err(NoAddresses::Failed(rcode));
-    }
-    if received.header().tc() {
-        return Err(NoAddresses::Truncated);
-    }
-    let Some(question) = received.first_question() else {
-        return Err(NoAddresses::NoName);
-    };
-    let rtype = question.qtype();
-    if !is_address_type(rtype) {
-        return Err(NoAddresses::OtherType);
-    }
-    let answers = received.answer()?;
-    check_aliases(answers)?;
-    let Some(name) = received.canonical_name() else {
-        return Err(NoAddresses::NoName);
-    };
-    found_of_type(alloc, rtype, answers, &name, question.qclass())
+/// What a look-up asks next, and of whom.
+#[derive(Debug, Drop)]
+pub struct Lookup {
+    /// The name to ask for.
+    pub name: Name<ArrayVec<u8, 255>>,
+    /// The record type to ask for, in class IN.
+    pub rtype: Rtype,
+    /// The zone whose servers are to be asked: the root for servers that resolve.
+    pub zone: Name<ArrayVec<u8, 255>>,
+    /// Whether TCP is to be used.
+    pub over_tcp: bool,
+    /// How often a reply may still lead to another query.
+    pub budget: u32,
 }
 
-/// Whether records of a type are addresses.
-fn is_address_type(rtype: Rtype) -> bool
-    ensures { result ≡ is_address_type rtype }
-{
-    rtype == Rtype::A || rtype == Rtype::AAAA
+/// What a reply tells to do.
+#[derive(Debug, Drop)]
+pub enum Next<'a> {
+    /// Take these records. They are those of the name at the end of the chain of aliases.
+    Found(Rrset<'a>),
+    /// There are no such records.
+    NoData,
+    /// There is no such name.
+    NoName,
+    /// Send another query: to the servers of a zone below, for another name, or over TCP.
+    Ask(Lookup),
+    /// Another query would be needed, but the budget is spent.
+    Spent,
+    /// The server reports this failure.
+    Failed(OptRcode),
+    /// Ask another server.
+    Unusable(Unusable),
 }
 
-/// Checks the RDATA of all CNAME records.
-fn check_aliases(answers: RecordSection<'_>) -> Result<(), ParseError>
-    ensures { let reading = limited cname_layout (records_left answers.entry) in
-        MatchResult result (λ _. first_fault reading ≡ None)
-        (λ e. first_fault reading ≡ Some (fault_of e)) }
-{
-    for item in answers.limit_to::<Cname<ParsedName<'_>>>() {
-        item?;
-    }
-    Ok(())
-}
-
-/// The addresses of a name in a class, among the records of one of the two types.
-fn found_of_type(
-    alloc: Global,
-    rtype: Rtype,
-    answers: RecordSection<'_>,
-    name: &ParsedName<'_>,
-    class: Class,
-) -> Result<Vec<IpAddr>, NoAddresses>
-    requires { is_address_type rtype ≡ true }
-    ensures { let reading = limited (address_layout rtype) (records_left answers.entry) in
-        MatchResult result (λ found. Finds (labels name.now) class reading found.items)
-        (λ reason. StopsAt reading reason) }
-{
-    if rtype == Rtype::AAAA {
-        found_addresses::<Aaaa<'_>>(alloc, answers, name, class)
-    } else {
-        found_addresses::<A>(alloc, answers, name, class)
-    }
-}
-
-/// The addresses of a name in a class, among the records with this RDATA.
-fn found_addresses<'a, D: AddressData<'a> + Drop>(
-    alloc: Global,
-    answers: RecordSection<'a>,
-    name: &ParsedName<'_>,
-    class: Class,
-) -> Result<Vec<IpAddr>, NoAddresses>
-    ensures { let reading = limited D.layout (records_left answers.entry) in
-        MatchResult result (λ found. Finds (labels name.now) class reading found.items)
-        (λ reason. StopsAt reading reason) }
-{
-    let mut found = Vec::new(alloc);
-    for item in answers.limit_to::<D>() {
-        let record = item?;
-        if record.owner() == name && record.class() == class {
-            let address = record.data().address();
-            found.push(address).map_err(|_| NoAddresses::OutOfMemory)?;
+impl Lookup {
+    /// What a received message tells to do, if it is a reply to the query that was sent.
+    ///
+    /// A message that is none may be forged: go on waiting for the reply.
+    pub fn judge<'a, Asked: Octets, Received: Octets>(
+        &self,
+        alloc: Global,
+        query: &Message<Asked>,
+        received: &'a Message<Received>,
+    ) -> Result<Next<'a>, NotReply>
+        ensures reply { OnOk result (IsReply Ignored (message_octets received.now)
+            (message_octets query.now)) }
+        ensures told { IfOk result (λ next. Told (message_octets received.now) self.now next) }
+        ensures reason { IfErr result (IsNotReply Ignored (message_octets received.now)
+            (message_octets query.now)) }
+    {
+        match reply_to(query, received, &self.zone) {
+            Ok(reply) => Ok(self.next(alloc, &reply)),
+            Err(reason) => Err(reason),
         }
     }
-    Ok(found)
+
+    /// What a reply tells to do.
+    fn next<'a>(&self, alloc: Global, reply: &Reply<'a>) -> Next<'a>
+        ensures { Tells self.now (said_of reply.now) result }
+    {
+        match reply {
+            Reply::Answer(answer) => Next::Found(self.set_of(answer)),
+            Reply::NoData(denial) => self.after_denial(alloc, denial),
+            Reply::NoName(_denial) => Next::NoName,
+            Reply::Referral(referral) => {
+                self.ask(alloc, self.name.as_parsed(), referral.cut(), false)
+            }
+            Reply::Alias(alias) => self.restart(alloc, alias.name()),
+            Reply::Dname(redirection) => self.redirect(alloc, redirection),
+            Reply::Truncated => {
+                self.ask(alloc, self.name.as_parsed(), self.zone.as_parsed(), true)
+            }
+            Reply::Failed(rcode) => Next::Failed(*rcode),
+            Reply::Done => Next::Failed(OptRcode::NOERROR),
+            Reply::Unusable(why) => Next::Unusable(*why),
+        }
+    }
+
+    /// The records of an answer that are looked up.
+    fn set_of<'a>(&self, answer: &Answer<'a>) -> Rrset<'a>
+        ensures { members_left result ≡ members (labels (answer_name answer.now)) 1
+            self.now.rtype (records_left (answer_section answer.now)) }
+    {
+        Rrset::new(answer.section(), answer.name(), Class::IN, self.rtype)
+    }
+
+    /// What to do if a name has no records. Without an SOA record, and after an alias, the server
+    /// has perhaps sent the alias alone: then the name is asked for.
+    fn after_denial<'a>(&self, alloc: Global, denial: &Denial<'_>) -> Next<'a>
+        ensures { Tells self.now (said_of (replies.NoData denial.now)) result }
+    {
+        if denial.soa().is_some() {
+            return Next::NoData;
+        }
+        if denial.name() == self.name.as_parsed() {
+            return Next::NoData;
+        }
+        self.restart(alloc, denial.name())
+    }
+
+    /// Asks for the name that a DNAME record leads to, or fails if that is too long (RFC 6672
+    /// section 2.2).
+    fn redirect<'a>(&self, alloc: Global, redirection: &Redirection<'_>) -> Next<'a>
+        ensures { Tells self.now (said_of (replies.Dname redirection.now)) result }
+    {
+        match redirection.redirected() {
+            Some(name) => self.restart(alloc, name.as_parsed()),
+            None => Next::Failed(OptRcode::YXDOMAIN),
+        }
+    }
+
+    /// Asks for another name, at the servers of the root again.
+    fn restart<'a>(&self, alloc: Global, name: ParsedName<'_>) -> Next<'a>
+        ensures { Restarts self.now (labels name.entry) result }
+    {
+        let root = Name::root_slice();
+        self.ask(alloc, name, root.as_parsed(), false)
+    }
+
+    /// Asks for a name at the servers of a zone, if the budget isn't spent.
+    fn ask<'a>(
+        &self,
+        alloc: Global,
+        name: ParsedName<'_>,
+        zone: ParsedName<'_>,
+        over_tcp: bool,
+    ) -> Next<'a>
+        ensures { Asks self.now (labels name.entry) (labels zone.entry) over_tcp result }
+    {
+        if self.budget == 0 {
+            return Next::Spent;
+        }
+        Next::Ask(Lookup {
+            name: owned(alloc, name),
+            rtype: self.rtype,
+            zone: owned(alloc, zone),
+            over_tcp,
+            budget: self.budget - 1,
+        })
+    }
+}
+
+/// A copy of a name.
+fn owned(alloc: Global, name: ParsedName<'_>) -> Name<ArrayVec<u8, 255>>
+    ensures { name_labels result ≡ labels name.entry }
+{
+    let copy: Result<Name<ArrayVec<u8, 255>>, AppendError> = name.try_flatten_into(alloc);
+    copy.unwrap()
 }

@@ -1,3 +1,2 @@
 mod Printing
-mod Readings
-mod Unique
+mod Reading

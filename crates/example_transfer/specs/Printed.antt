@@ -1,5 +1,5 @@
--- What is printed for a zone transfer: a line of a zone file for each record, and comments for what can't be read. RFC 1035 section 5.1, RFC 3597 section 5, RFC 5936 section 2.2.
-use Rattle.std.specs.Prelude.{◌≡◌, ℕ, ◌⊎◌, ◌==◌, ◌&&◌, Bool, length, List, [], ◌∷◌, ◌++◌, if◌then◌else◌, Option, Some, None, Ok, Err, codes}
+-- What is printed for the steps of a transfer: lines of a zone file for records that are added, such lines after `- ` for those that are removed, and comments. RFC 1035 section 5.1.
+use Rattle.std.specs.Prelude.{◌≡◌, ℕ, ◌⊎◌, List, [], ◌++◌, Option, Some, None, Ok, Err, codes}
 use Rattle.std.specs.Io.KnownBytes.{Appends}
 use Rattle.std.specs.List.{concat, AllZip}
 use Rattle.dns_message.specs.Names.{Fault, labels}
@@ -10,7 +10,8 @@ use Rattle.dns_message.specs.Records.{EncodedRecord, IsThere, HasData, HasDataFa
 use Rattle.dns_message.specs.declared.record.Record.{Record}
 use Rattle.dns_message.specs.Show.{line}
 use Rattle.dns_message.specs.ZoneLines.{line_with}
-use Rattle.example_transfer.specs.Transfer.{AreMessagesOf, AreTransferred, Taken, is_whole}
+use Rattle.dns_transfer.specs.Runs.StepOf.{Begin, UpToDate, FallsBackToAxfr, Remove, Add, End}
+use Rattle.dns_transfer.specs.Steps.{TransferStep, Item}
 
 -- The line of a record: its RDATA as the fields of its type, or as octets if it isn't such fields.
 pub data IsRecordLine (x : EncodedRecord) (text : List ℕ) : Type 0 where
@@ -21,39 +22,31 @@ pub data IsRecordLine (x : EncodedRecord) (text : List ℕ) : Type 0 where
 abbrev pub HasNoOctets : EncodedRecord → Type 0
 HasNoOctets x = IsThere x.octets x.entry → (f : Fault) × HasDataFault x.octets x.entry opaque_layout f
 
--- the line of an item
-abbrev pub IsItemText : Taken → List ℕ → Type 0
-IsItemText (Ok x) text = IsRecordLine x text ⊎ (HasNoOctets x × (text ≡ codes "; unreadable data\n"))
-IsItemText (Err f) text = text ≡ codes "; unreadable record\n"
+-- the text of a record: its line, or a comment
+abbrev pub IsRecordText : EncodedRecord → List ℕ → Type 0
+IsRecordText x text = IsRecordLine x text ⊎ (HasNoOctets x × (text ≡ codes "; unreadable data\n"))
 
--- a line for each item, in order
-abbrev pub IsItemsText : List Taken → List ℕ → Type 0
-IsItemsText items text = (lines : List (List ℕ)) × AllZip IsItemText items lines × (text ≡ concat lines)
+-- the text of a record that is removed
+abbrev pub IsRemovedText : EncodedRecord → List ℕ → Type 0
+IsRemovedText x text = (shown : List ℕ) × IsRecordText x shown × (text ≡ codes "- " ++ shown)
 
--- the last line, if no item is a fault and octets are left over after the messages
-abbrev pub ending : List Taken → List ℕ → List ℕ
-ending items [] = []
-ending items (octet ∷ rest) = if is_whole items then codes "; unreadable message\n" else []
+-- The text of a step. The record of `Begin` is the SOA record of the zone that is transferred.
+abbrev pub IsStepText : TransferStep → List ℕ → Type 0
+IsStepText (Begin serial soa) text = IsRecordText soa text
+IsStepText (Add x) text = IsRecordText x text
+IsStepText (Remove x) text = IsRemovedText x text
+IsStepText (UpToDate serial) text = text ≡ codes "; up to date\n"
+IsStepText FallsBackToAxfr text = text ≡ codes "; the whole zone\n"
+IsStepText (End serial) text = text ≡ []
 
--- The text of a transfer: a line for each item of the stream's messages, and the last line.
-pub record IsTransferText (stream text : List ℕ) : Type 0 where
-  pub messages : List (List ℕ)
-  pub rest : List ℕ
-  pub are_messages : AreMessagesOf stream messages rest
-  pub items : List Taken
-  pub transferred : AreTransferred messages items
-  pub lines : List ℕ
-  pub are_lines : IsItemsText items lines
-  pub is : text ≡ lines ++ ending items rest
+-- the text of an item: an error has none
+abbrev pub IsItemText : Item → List ℕ → Type 0
+IsItemText (Ok step) text = IsStepText step text
+IsItemText (Err e) text = text ≡ []
 
--- Whether a stream can be read to its end: no item of its messages is a fault, and no octets are left over after them.
-pub record IsWhole (stream : List ℕ) (whole : Bool) : Type 0 where
-  pub messages : List (List ℕ)
-  pub rest : List ℕ
-  pub are_messages : AreMessagesOf stream messages rest
-  pub items : List Taken
-  pub transferred : AreTransferred messages items
-  pub is : whole ≡ (length rest == 0) && is_whole items
+-- the texts of items, in order
+abbrev pub AreItemTexts : List Item → List ℕ → Type 0
+AreItemTexts items text = (texts : List (List ℕ)) × AllZip IsItemText items texts × (text ≡ concat texts)
 
 -- a text of this form is appended
 abbrev pub Prints : (List ℕ → Type 0) → Option (List ℕ) → Option (List ℕ) → Type 0

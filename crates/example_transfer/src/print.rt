@@ -1,65 +1,60 @@
-//! Prints the records of a transfer as lines of a zone file, and why it ends early.
-ghost use Rattle.std.specs.Prelude.{◌≡◌, ◌==◌, ◌&&◌, length, map, is_ok, IfOk, Ok, OnOk};
+//! Prints the steps of a transfer.
+ghost use Rattle.std.specs.Prelude.{OnOk};
 ghost use Rattle.std.specs.Io.KnownBytes.{Appends};
-ghost use Rattle.std.specs.List.{list_all};
 ghost use Rattle.dns_message.specs.Data.{unknown_octets, unknown_rtype_of};
 ghost use Rattle.dns_message.specs.Records.{encoded_record};
-ghost use Rattle.dns_message.specs.Sections.RecordSection.{record_result};
-ghost use Rattle.example_transfer.specs.Printed.{ending, octets_line, IsItemText, IsItemsText, IsTransferText, IsWhole, Prints};
-ghost use Rattle.example_transfer.specs.Transfer.{is_whole};
+ghost use Rattle.dns_transfer.specs.Steps.{step_result, step_said};
+ghost use Rattle.example_transfer.specs.Printed.{octets_line, IsItemText, IsRecordText, IsRemovedText, IsStepText, Prints};
 
-use crate::transfer::{Item, items, messages};
 use dns_message::data::UnknownRecordData;
 use dns_message::fields::{ClassName, FieldData, RecordText, TypeName, ZoneName};
 use dns_message::name::ParsedName;
 use dns_message::record::{ParsedRecord, Record};
-use std::alloc::Global;
+use dns_message::transfer::{Step, TransferError};
 use std::io;
 use std::io::Write;
 
-/// Prints the records of the messages in a stream, and why they end early if they do. Returns
-/// whether they don't: all records can be read, and no octets are left over.
-pub(crate) fn print_transfer<W: Write>(
-    alloc: Global,
-    stream: &[u8],
+/// Prints what an item is. An error has no text, as `finish` returns it.
+pub(crate) fn print_item<W: Write>(
     writer: &mut W,
-) -> io::Result<bool>
-    ensures printed { OnOk result (Prints (IsTransferText stream.now)
-        (W.contents writer.old) (W.contents writer.new)) }
-    ensures whole { IfOk result (IsWhole stream.now) }
-{
-    let (messages, rest) = messages(alloc, stream)?;
-    let items = items(alloc, &messages)?;
-    print_items(writer, &items)?;
-    print_ending(writer, &items, rest)?;
-    Ok(is_read(&items, rest))
-}
-
-/// Prints a line for each item.
-fn print_items<W: Write>(writer: &mut W, items: &[Item<'_>]) -> io::Result<()>
-    ensures { OnOk result (Prints (IsItemsText (map record_result items.now))
-        (W.contents writer.old) (W.contents writer.new)) }
-{
-    for item in items {
-        print_item(writer, item)?;
-    }
-    Ok(())
-}
-
-/// Prints the line of a record, or that it can't be read, as a comment.
-fn print_item<W: Write>(writer: &mut W, item: &Item<'_>) -> io::Result<()>
-    ensures { OnOk result (Prints (IsItemText (record_result item.now))
+    item: &Result<Step<'_>, TransferError>,
+) -> io::Result<()>
+    ensures { OnOk result (Prints (IsItemText (step_result item.now))
         (W.contents writer.old) (W.contents writer.new)) }
 {
     match item {
-        Ok(record) => print_record(writer, record),
-        Err(_) => writer.write_all(b"; unreadable record\n"),
+        Ok(step) => print_step(writer, step),
+        Err(_error) => Ok(()),
     }
+}
+
+/// Prints what a step does: the record that it adds or removes, or a comment.
+fn print_step<W: Write>(writer: &mut W, step: &Step<'_>) -> io::Result<()>
+    ensures { OnOk result (Prints (IsStepText (step_said step.now))
+        (W.contents writer.old) (W.contents writer.new)) }
+{
+    match step {
+        Step::Begin(_serial, soa) => print_record(writer, soa),
+        Step::Add(record) => print_record(writer, record),
+        Step::Remove(record) => print_removed(writer, record),
+        Step::UpToDate(_serial) => writer.write_all(b"; up to date\n"),
+        Step::FallsBackToAxfr => writer.write_all(b"; the whole zone\n"),
+        Step::End(_serial) => Ok(()),
+    }
+}
+
+/// Prints the line of a record that is removed.
+fn print_removed<W: Write>(writer: &mut W, record: &ParsedRecord<'_>) -> io::Result<()>
+    ensures { OnOk result (Prints (IsRemovedText (encoded_record «record».now))
+        (W.contents writer.old) (W.contents writer.new)) }
+{
+    writer.write_all(b"- ")?;
+    print_record(writer, record)
 }
 
 /// Prints the line of a record. If its RDATA isn't the fields of its type, it prints as octets.
 fn print_record<W: Write>(writer: &mut W, record: &ParsedRecord<'_>) -> io::Result<()>
-    ensures { OnOk result (Prints (IsItemText (Ok (encoded_record «record».now)))
+    ensures { OnOk result (Prints (IsRecordText (encoded_record «record».now))
         (W.contents writer.old) (W.contents writer.new)) }
 {
     if let Ok(record) = record.to_any_record::<FieldData<'_>>() {
@@ -85,29 +80,4 @@ fn print_octets<W: Write>(
     let rtype = TypeName(record.rtype());
     let octets = record.data();
     writeln!(writer, "{owner} {ttl} {class} {rtype} {octets}")
-}
-
-/// Prints that octets are left over, if all records could be read.
-fn print_ending<W: Write>(writer: &mut W, items: &[Item<'_>], rest: &[u8]) -> io::Result<()>
-    ensures { OnOk result (Appends (W.contents writer.old) (W.contents writer.new)
-        (ending (map record_result items.now) rest.now)) }
-{
-    if rest.is_empty() || !is_whole(items) {
-        return Ok(());
-    }
-    writer.write_all(b"; unreadable message\n")
-}
-
-/// Whether all items are records, and no octets are left over.
-fn is_read(items: &[Item<'_>], rest: &[u8]) -> bool
-    ensures { result ≡ ((length rest.now == 0) && is_whole (map record_result items.now)) }
-{
-    rest.is_empty() && is_whole(items)
-}
-
-/// Whether all items are records.
-fn is_whole(items: &[Item<'_>]) -> bool
-    ensures { result ≡ list_all is_ok items.now }
-{
-    items.iter().all(|item| item.is_ok())
 }

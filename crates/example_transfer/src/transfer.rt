@@ -1,103 +1,105 @@
-//! The messages of a stream, and the records of their answer sections.
-ghost use Rattle.std.specs.Prelude.{◌≡◌, List, map, IfOk, MatchOption};
+//! Reads the messages of a transfer from a stream, and prints their steps.
+ghost use Rattle.std.specs.Prelude.{◌≡◌, OnOk};
 ghost use Rattle.dns_message.specs.Messages.{message_octets};
-ghost use Rattle.dns_message.specs.Sections.RecordSection.{record_result, records_left};
-ghost use Rattle.example_transfer.specs.Transfer.{AreMessagesOf, AreTransferred, BeginsWithNone, Taken};
-ghost use Rattle.example_transfer.specs.Taking.{BeginsWith, Takes, TakesAnswers};
+ghost use Rattle.dns_message.specs.Streams.{IsPartial};
+ghost use Rattle.dns_transfer.specs.Steps.{asked_of as asked_by_steps, state_left, steps_left};
+ghost use Rattle.dns_transfer.specs.Transfer.{asked_of, state_of};
+ghost use Rattle.example_transfer.specs.Printed.{AreItemTexts, Prints};
+ghost use Rattle.example_transfer.specs.Transfer.{Ends, PrintsMessage, PrintsTransfer};
 
-use dns_message::message::{Message, RecordSection};
-use dns_message::record::ParsedRecord;
-use dns_message::wire::ParseError;
-use std::alloc::{AllocError, Global};
+use crate::print::print_item;
+use dns_message::message::Message;
+use dns_message::stream::{FrameError, MAX_FRAME, first_message};
+use dns_message::transfer::{Steps, Transfer, TransferError};
+use std::io;
+use std::io::Write;
+use thiserror::Error;
 
-/// A record, or the error of the first that can't be read.
-pub(crate) type Item<'a> = Result<ParsedRecord<'a>, ParseError>;
+/// Why a transfer isn't complete, or isn't printed.
+#[derive(Debug, Drop, Error)]
+pub enum Failure {
+    /// The length of a message is refused.
+    #[error("{0}")]
+    Frame(FrameError),
+    /// A message isn't the next one of the transfer.
+    #[error("{0}")]
+    Transfer(TransferError),
+    /// The stream ends before the transfer, or within a message.
+    #[error("the transfer is cut off")]
+    Cut,
+    /// Printing failed.
+    #[error("{0}")]
+    Printing(io::Error),
+}
 
-/// Splits a stream into messages, up to the first length that isn't followed by a message. Also
-/// returns the octets from there on.
-pub(crate) fn messages<'a>(
-    alloc: Global,
-    stream: &'a [u8],
-) -> Result<(Vec<Message<&'a [u8]>>, &'a [u8]), AllocError>
-    ensures { IfOk result (λ found. AreMessagesOf stream.now (map message_octets found.0.items)
-        found.1.now) }
+/// Prints the steps of the messages in a stream, in order, up to the first failure.
+pub fn print_transfer<W: Write>(
+    transfer: Transfer,
+    stream: &[u8],
+    writer: &mut W,
+) -> Result<(), Failure>
+    ensures { PrintsTransfer (asked_of transfer) (state_of transfer) stream.now
+        (W.contents writer.old) (W.contents writer.new) result }
 {
-    let mut messages = Vec::new(alloc);
+    let mut current = transfer;
     let mut rest = stream;
-    while let Some((message, after)) = first_message(rest) {
-        messages.push(message)?;
-        rest = after;
-    }
-    Ok((messages, rest))
-}
-
-/// The message at the start of a stream, and the octets after it.
-fn first_message<'a>(stream: &'a [u8]) -> Option<(Message<&'a [u8]>, &'a [u8])>
-    ensures { MatchOption result (BeginsWithNone stream.now)
-        (λ found. BeginsWith stream.now (message_octets found.0) found.1.now) }
-{
-    let (length, after) = stream.split_at_checked(2)?;
-    let length = u16::from_be_bytes([length[0], length[1]]);
-    let (octets, after) = after.split_at_checked(usize::from(length))?;
-    Some((Message::from_slice(octets).ok()?, after))
-}
-
-/// Returns the records of the answer sections of messages, in order, up to the error of the first
-/// that can't be read.
-pub(crate) fn items<'a>(
-    alloc: Global,
-    messages: &'a [Message<&'a [u8]>],
-) -> Result<Vec<Item<'a>>, AllocError>
-    ensures given { IfOk result (λ items. AreTransferred (map message_octets messages.now)
-        (map record_result items.items)) }
-
-    // There is only one such list.
-    ensures one { IfOk result (λ items. (xs : List Taken)
-        → AreTransferred (map message_octets messages.now) xs
-        → xs ≡ map record_result items.items) }
-{
-    let mut items = Vec::new(alloc);
-    for message in messages {
-        if !take_answers(message, &mut items)? {
-            return Ok(items);
-        }
-    }
-    Ok(items)
-}
-
-/// Appends the records of a message's answer section. Returns whether all could be read.
-fn take_answers<'a>(
-    message: &'a Message<&'a [u8]>,
-    items: &mut Vec<Item<'a>>,
-) -> Result<bool, AllocError>
-    ensures { IfOk result (TakesAnswers (message_octets message.now)
-        (map record_result items.old.items) (map record_result items.new.items)) }
-{
-    match message.answer() {
-        Ok(records) => take_records(records, items),
-        Err(error) => {
-            items.push(Err(error))?;
-            Ok(false)
+    'messages: loop {
+        match first_message(rest, MAX_FRAME) {
+            Ok(Some((message, after))) => match print_message(current, &message, writer) {
+                Ok(next) => {
+                    current = next;
+                    rest = after;
+                }
+                Err(failure) => return Err(failure),
+            },
+            Ok(None) => return end_of(&current, rest),
+            Err(error) => return Err(Failure::Frame(error)),
         }
     }
 }
 
-/// Appends the records of a section. Returns whether all could be read.
-fn take_records<'a>(
-    records: RecordSection<'a>,
-    items: &mut Vec<Item<'a>>,
-) -> Result<bool, AllocError>
-    ensures { IfOk result (Takes (records_left records.entry)
-        (map record_result items.old.items) (map record_result items.new.items)) }
+/// Whether a transfer is complete at the end of its stream, where these octets are left.
+fn end_of(transfer: &Transfer, rest: &[u8]) -> Result<(), Failure>
+    ensures { Ends rest.now (state_of transfer.now) result }
 {
-    for item in records {
-        match item {
-            Ok(record) => items.push(Ok(record))?,
-            Err(error) => {
-                items.push(Err(error))?;
-                return Ok(false);
-            }
-        }
+    if rest.is_empty() && transfer.has_ended() {
+        Ok(())
+    } else {
+        Err(Failure::Cut)
     }
-    Ok(true)
+}
+
+/// Prints the steps of a message. Returns the transfer after it.
+fn print_message<W: Write>(
+    transfer: Transfer,
+    message: &Message<&[u8]>,
+    writer: &mut W,
+) -> Result<Transfer, Failure>
+    ensures { PrintsMessage (asked_of transfer) (state_of transfer) (message_octets message.now)
+        (W.contents writer.old) (W.contents writer.new) result }
+{
+    let mut steps = match transfer.take(message) {
+        Ok(steps) => steps,
+        Err(error) => return Err(Failure::Transfer(error)),
+    };
+    if let Err(error) = print_steps(&mut steps, writer) {
+        return Err(Failure::Printing(error));
+    }
+    match steps.finish() {
+        Ok(next) => Ok(next),
+        Err(error) => Err(Failure::Transfer(error)),
+    }
+}
+
+/// Prints the steps of a message.
+fn print_steps<W: Write>(steps: &mut Steps<'_>, writer: &mut W) -> io::Result<()>
+    ensures printed { OnOk result (Prints (AreItemTexts (steps_left steps.old))
+        (W.contents writer.old) (W.contents writer.new)) }
+    ensures state { state_left steps.new ≡ state_left steps.old }
+    ensures asked { asked_by_steps steps.new ≡ asked_by_steps steps.old }
+{
+    while let Some(item) = steps.next() {
+        print_item(writer, &item)?;
+    }
+    Ok(())
 }

@@ -3,7 +3,7 @@ use Rattle.dns_message.specs.Headers.{fields}
 use Rattle.dns_message.specs.Targets.{Plain}
 use Rattle.dns_message.specs.Questions.{QuestionItem}
 use Rattle.dns_message.specs.Builders.{Represents, fresh, InBuilder, encode}
-use Rattle.example_resolve.specs.Resolving.{asking}
+use Rattle.example_resolve.specs.Queries.{asking}
 use Rattle.example_resolve.proofs.QueryLemmas.{accepted, query_size}
 use Rattle.example_resolve.proofs.resolving.query.Goals as goal
 
