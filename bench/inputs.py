@@ -75,6 +75,11 @@ class Message:
         struct.pack_into(">H", self.octets, place, len(self.octets) - place - 2)
         self.sum += preference + name_sum(exchange)
 
+    def soa(self, text, ttl, numbers):
+        self.head(text, 6, ttl)
+        self.data(name("ns0." + text) + name("mail." + text) + struct.pack(">5I", *numbers))
+        self.sum += name_sum("ns0." + text) + name_sum("mail." + text) + sum(numbers)
+
     def rrsig(self, text, ttl, numbers, signer, size):
         self.head(text, 46, ttl)
         self.data(struct.pack(">HBBIIIH", *numbers) + name(signer) + bytes(range(size)))
@@ -107,6 +112,14 @@ def zone(count):
     msg.question("sub.example.com", 252)
     for i in range(count):
         msg.a(f"h{i}.sub.example.com", 3600, (10, 0, i // 256, i % 256))
+    return msg
+
+
+def apex():
+    """The first and the last message of a transfer, whose other messages are those of `zone`."""
+    msg = Message(0x1234, 0x8400, (1, 1, 0, 0))
+    msg.question("sub.example.com", 252)
+    msg.soa("sub.example.com", 3600, (2026113000, 7200, 900, 1209600, 300))
     return msg
 
 
@@ -196,6 +209,8 @@ def main():
         line(label, msg.sum, msg.octets)
     line("m40", mail().sum, mail().octets)
     line("q1", "?", query().octets)
+    line("x1", apex().sum, apex().octets)
+    line("x2500", zone(2500).sum, zone(2500).octets)
     line("w5a", chain(False).sum, chain(False).octets)
     line("w5b", "-", chain(True).octets)
     for octets in garbage(64):

@@ -13,7 +13,10 @@ static uint8_t out[ROOM];
 static knot_rrset_t addresses[ADDRESSES], all_addresses, owners[OWNERS], signatures[SIGNATURES];
 static knot_dname_t *www, *parent;
 static knot_dump_style_t style;
-static struct input w2, m40, q1, f64, h64;
+static struct input w2, m40, q1, f64, h64, x1, x2500;
+
+/* Copies of w2 and f64, of which the TTLs are lowered. */
+static struct input w2_copy, f64_copy;
 
 static void set_address(knot_rrset_t *record, const char *owner, uint32_t ttl, const uint8_t *octets)
 {
@@ -42,6 +45,10 @@ void prepare(void)
     q1 = load_input("q1");
     f64 = load_input("f64");
     h64 = load_input("h64");
+    x1 = load_input("x1");
+    x2500 = load_input("x2500");
+    w2_copy = load_input("w2");
+    f64_copy = load_input("f64");
     keep_signatures();
     for (int i = 0; i < ADDRESSES; i++) {
         set_address(&addresses[i], "www.example.com.", ADDRESS_TTL, (const uint8_t[]){192, 0, 2, (uint8_t)i});
@@ -102,6 +109,40 @@ static size_t read_items(void) { return read_message(&w2); }
 static size_t read_f64(void) { return read_message(&f64); }
 static size_t read_h64(void) { return read_message(&h64); }
 static size_t read_data(void) { return read_message(&m40); }
+
+/* Reads a message, and lowers the TTLs of its records by a second, but that of OPT. */
+static size_t age(const struct input *from)
+{
+    pool_used = 0;
+    const knot_pkt_t *packet = read_packet(from->octets, from->len);
+    for (uint16_t i = 0; packet && i < packet->rrset_count; i++) {
+        uint8_t *owner = packet->wire + packet->rr_info[i].pos;
+        const int size = knot_dname_wire_check(owner, packet->wire + packet->size, packet->wire);
+        if (size <= 0)
+            return 0;
+        const uint32_t ttl = knot_wire_read_u32(owner + size + 4);
+        if (packet->rr[i].type != KNOT_RRTYPE_OPT)
+            knot_wire_write_u32(owner + size + 4, ttl > 0 ? ttl - 1 : 0);
+    }
+    return packet ? packet->size : 0;
+}
+
+static size_t age_w2(void) { return age(&w2_copy); }
+static size_t age_f64(void) { return age(&f64_copy); }
+
+/* Reads the messages of a transfer. */
+static size_t transfer(void)
+{
+    size_t count = 0;
+    if (!read_message(&x1))
+        return 0;
+    for (int i = 0; i < TRANSFERRED; i++) {
+        pool_used = 0;
+        const knot_pkt_t *packet = read_packet(x2500.octets, x2500.len);
+        count += packet ? packet->rrset_count : 0;
+    }
+    return read_message(&x1) ? count : 0;
+}
 
 static size_t read_addresses(void)
 {
@@ -223,5 +264,9 @@ const struct task tasks[] = {
     {"RDATA of m40", "knot_pkt_parse", .one = read_data},
     {"names in RDATA of m40", "knot_mx_name, knot_rrsig_signer_name", .one = read_names_in},
     {"MX of m40 as text", "knot_mx_name, knot_dname_to_str", .one = read_exchanges},
+    {"TTLs of w2", "knot_pkt_parse, knot_wire_write_u32", .one = age_w2},
+    {"TTLs of 64 KiB", "knot_pkt_parse, knot_wire_write_u32", .one = age_f64},
+    {"w2 as a reply", "knot_pkt_parse", .one = read_items},
+    {"a transfer of 100,000 records", "knot_pkt_parse", .one = transfer},
     {.work = NULL},
 };

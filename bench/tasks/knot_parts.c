@@ -2,6 +2,7 @@
 
 #include "knot_pool.h"
 #include "parts.h"
+#include "records.h"
 #include "tasks.h"
 
 #include <libknot/libknot.h>
@@ -74,6 +75,39 @@ static size_t read_record(void)
     return scanner.r_owner_length + 10 + scanner.r_data_length;
 }
 
+/* Reads a line, to which libzscanner wants a line feed. Returns the length without that. */
+static size_t read_line(const struct line *record, uint64_t times)
+{
+    char line[512];
+    memcpy(line, record->text, record->len);
+    line[record->len] = '\n';
+    for (uint64_t i = 0; i < times; i++)
+        if (zs_set_input_string(&scanner, line, record->len + 1) != 0 || zs_parse_record(&scanner) != 0 || scanner.state != ZS_STATE_DATA)
+            return 0;
+    return record->len;
+}
+
+static size_t print_line(const struct line *record, uint64_t times)
+{
+    static size_t size = 4096;
+    static char *line;
+    knot_dump_style_t style = KNOT_DUMP_STYLE_DEFAULT;
+    knot_rrset_t set;
+    int len = 0;
+    style.show_class = true;
+    if (!line)
+        line = malloc(size);
+    if (!read_line(record, 1))
+        return 0;
+    knot_rrset_init(&set, scanner.r_owner, scanner.r_type, scanner.r_class, scanner.r_ttl);
+    pool_used = 0;
+    if (knot_rrset_add_rdata(&set, scanner.r_data, (uint16_t)scanner.r_data_length, &memory) != KNOT_EOK)
+        return 0;
+    for (uint64_t i = 0; i < times && len >= 0; i++)
+        len = knot_rrset_txt_dump(&set, &line, &size, &style);
+    return len > 0 ? (size_t)len : 0;
+}
+
 /* Writes a query with an OPT record that has a cookie. */
 static size_t write_cookie(void)
 {
@@ -123,5 +157,6 @@ const struct task tasks[] = {
     {"record from text", "zs_parse_record", .one = read_record},
     {"cookie of q1", "knot_pkt_parse, knot_pkt_edns_option", .one = find_cookie},
     {"query with a cookie", "knot_edns_add_option, knot_pkt_put", .one = write_cookie},
+    TASKS_OF_LINES("knot_rrset_txt_dump", print_line, "zs_parse_record", read_line),
     {.work = NULL},
 };

@@ -1,6 +1,7 @@
 /* The tasks of names, texts and EDNS with the calls of ldns. */
 
 #include "parts.h"
+#include "records.h"
 #include "tasks.h"
 
 #include <ldns/ldns.h>
@@ -80,6 +81,31 @@ static size_t read_record(void)
     return len;
 }
 
+static size_t read_line(const struct line *line, uint64_t times)
+{
+    for (uint64_t i = 0; i < times; i++) {
+        ldns_rr *record;
+        if (ldns_rr_new_frm_str(&record, line->text, 0, NULL, NULL) != LDNS_STATUS_OK)
+            return 0;
+        ldns_rr_free(record);
+    }
+    return line->len;
+}
+
+static size_t print_line(const struct line *line, uint64_t times)
+{
+    ldns_rr *record;
+    size_t len = 0;
+    if (ldns_rr_new_frm_str(&record, line->text, 0, NULL, NULL) != LDNS_STATUS_OK)
+        return 0;
+    for (uint64_t i = 0; i < times; i++) {
+        ldns_buffer_clear(buffer);
+        len = ldns_rr2buffer_str(buffer, record) == LDNS_STATUS_OK ? ldns_buffer_position(buffer) : 0;
+    }
+    ldns_rr_free(record);
+    return len;
+}
+
 /* Writes a query with an OPT record that has a cookie. */
 static size_t write_cookie(void)
 {
@@ -129,5 +155,6 @@ const struct task tasks[] = {
     {"record from text", "ldns_rr_new_frm_str", .one = read_record},
     {"cookie of q1", "ldns_pkt_edns_get_option_list", .one = find_cookie},
     {"query with a cookie", "ldns_edns_new_from_data", .one = write_cookie},
+    TASKS_OF_LINES("ldns_rr2buffer_str", print_line, "ldns_rr_new_frm_str", read_line),
     {.work = NULL},
 };

@@ -40,6 +40,8 @@ static size_t run(const struct task *task, uint64_t times)
     size_t len = 0;
     if (task->often)
         return task->often(times);
+    if (task->with)
+        return task->with(task->record, times);
     for (uint64_t n = 0; n < times; n++)
         len = task->one();
     return len;

@@ -6,12 +6,20 @@
 #include <stddef.h>
 #include <stdint.h>
 
-/* A task: what is done, the way in which this library does it, and a call that does it once, or one that does it `times` times.
- * The call returns the length in octets of what the task makes or reads, or another number that isn't 0; or 0 on failure. */
+/* A record as a line of a zone file. */
+struct line {
+    const char *text;
+    size_t len;
+};
+
+/* A task: what is done, the way in which this library does it, and a call that does it once, or one that does it `times` times, or
+ * one that does it with a record of records.h. The call returns the length in octets of what the task makes or reads, or another number that isn't 0; or 0 on failure. */
 struct task {
     const char *work, *way;
     size_t (*one)(void);
     size_t (*often)(uint64_t times);
+    size_t (*with)(const struct line *record, uint64_t times);
+    const struct line *record;
 };
 
 /* The tasks of a library, up to one without a call. */
@@ -45,5 +53,8 @@ enum { COOKIE = 8 };
  * www.example.com, type A, with RD and without EDNS. The message that is read is w2, if the work names no other.
  */
 enum { ADDRESSES = 20, OWNERS = 500, SIGNATURES = 20, ADDRESS_TTL = 300, OWNER_TTL = 3600, ROOM = 65535 };
+
+/* The messages of a transfer of 100,000 records between the first and the last, which are x1: so often x2500. */
+enum { TRANSFERRED = 40 };
 
 #endif
