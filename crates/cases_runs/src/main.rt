@@ -14,6 +14,7 @@ mod reading;
 mod replies;
 mod returned;
 mod run;
+mod transfer;
 
 use crate::message::check_call;
 use crate::part::check_part;

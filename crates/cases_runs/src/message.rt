@@ -5,6 +5,7 @@ use crate::opt::opt_line;
 use crate::replies::{redirected_shown, reply_shown};
 use crate::returned::write_call;
 use crate::run::{Run, words_of};
+use crate::transfer::transfer_shown;
 use cases_files::{Report, key_of, octets_of};
 use dns_edit::{EditError, TtlChange, age_ttls, cap_ttls, change_ttls};
 use dns_item::Ttl;
@@ -32,12 +33,15 @@ pub(crate) enum Call {
     RemoveLast,
     LastAddress,
     HasAddress,
+    ManyOpts,
     Questions,
     Answer,
     Authority,
     Additional,
     Items,
     Limited,
+    Axfr,
+    Ixfr,
     Reply,
     ReplyExact,
     Redirected,
@@ -62,12 +66,15 @@ impl Call {
             "remove-last" => Some(Call::RemoveLast),
             "last-address" => Some(Call::LastAddress),
             "has-address" => Some(Call::HasAddress),
+            "many-opts" => Some(Call::ManyOpts),
             "questions" => Some(Call::Questions),
             "answer" => Some(Call::Answer),
             "authority" => Some(Call::Authority),
             "additional" => Some(Call::Additional),
             "items" => Some(Call::Items),
             "limited" => Some(Call::Limited),
+            "axfr" => Some(Call::Axfr),
+            "ixfr" => Some(Call::Ixfr),
             "reply" => Some(Call::Reply),
             "reply-exact" => Some(Call::ReplyExact),
             "redirected" => Some(Call::Redirected),
@@ -96,6 +103,7 @@ pub(crate) fn check_call<W: Write + Drop>(
         Call::Age | Call::Cap | Call::ChangeCap | Call::RemoveLast => {
             changed_shown(alloc, run, call, text)?
         }
+        Call::Axfr | Call::Ixfr => transfer_shown(alloc, run, call, text)?,
         _ => message_shown(alloc, run, call)?,
     };
     report.check(line, text.as_bytes(), shown.as_bytes())

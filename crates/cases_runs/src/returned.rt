@@ -5,6 +5,7 @@ use crate::run::Run;
 use dns_data::A;
 use dns_edit::min_ttl;
 use dns_read::Message;
+use dns_reply::has_many_opts;
 use std::alloc::AllocError;
 
 /// Writes what a call returns for the message of a case.
@@ -19,6 +20,7 @@ pub(crate) fn write_call(text: &mut String, run: &Run<'_>, call: Call) -> Result
         Call::Least => write_least(text, &message),
         Call::LastAddress => write_last_address(text, &message),
         Call::HasAddress => write_word(text, message.contains_answer::<A>()),
+        Call::ManyOpts => write_word(text, has_many_opts(&message)),
         Call::IsAnswer | Call::SameQuestions => write_pair(text, run, call, &message),
         _ => write_reading(text, &message, call),
     }

@@ -1,10 +1,11 @@
 -- What a reply says of a question, and whether a message is one.
 pub use Rattle.dns_reply.specs.Matches.{IsReply, IsNotReply, lacks_question, may_lack_question, repeats_questions, case_fits, same_case, same_octets}
 unfoldable pub use Rattle.dns_reply.specs.Owners.{is_within}
-pub use Rattle.dns_reply.specs.Owners.{is_below, asks_for_type, asks_for_class, is_asked_for, is_owned, is_owned_above, is_owned_by_zone, is_owned_by_cut}
+pub use Rattle.dns_reply.specs.Owners.{is_below, asks_for_type, asks_for_all, asks_for_mail, asks_for_class, is_asked_for, is_owned, is_owned_above, is_owned_by_zone, is_owned_by_cut}
 pub use Rattle.dns_reply.specs.Records.{Records, values, first_fault, asked_records, owns_asked, least_ttl, target_in, target_of, alias_at, dname_above, soa_for, ns_for, has_ns}
 pub use Rattle.dns_reply.specs.Records.{minimum_in, negative_ttl, dname_layout, soa_layout, ns_layout, opt_records, reply_items, reply_fault, opt_count, IsReadable, IsUnreadable}
 pub use Rattle.dns_reply.specs.Records.IsUnreadable.{before, within}
+pub use Rattle.dns_reply.specs.Opts.{is_opt, opts_in, opts_of}
 unfoldable pub use Rattle.dns_reply.specs.Chains.{nth_name}
 pub use Rattle.dns_reply.specs.Chains.{next_alias, ChainEnds}
 pub use Rattle.dns_reply.specs.Chains.ChainEnds.{ends, goes_on}

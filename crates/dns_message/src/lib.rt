@@ -111,6 +111,21 @@ pub mod stream {
     };
 }
 
+/// Zone transfers by AXFR and IXFR: the messages of a response, read as steps that change a zone; and
+/// theorems on these.
+///
+/// The transfer after all steps of a message:
+///
+/// ```rust
+/// match transfer.take(message) {
+///     Ok(steps) => steps.finish(),
+///     Err(error) => Err(error),
+/// }
+/// ```
+pub mod transfer {
+    pub use dns_transfer::{Step, Steps, Transfer, TransferError, laws};
+}
+
 /// What a reply says of a question: the records, that there are none, or where to ask on; and
 /// theorems on that.
 ///
@@ -129,7 +144,7 @@ pub mod stream {
 pub mod reply {
     pub use dns_reply::{
         Alias, Answer, Denial, LetterCase, NotReply, Redirection, Referral, Reply, Rrset, Unusable,
-        check_reply, laws, reply_to, reply_to_exact, substitute,
+        check_reply, has_many_opts, laws, reply_to, reply_to_exact, substitute,
     };
 }
 
