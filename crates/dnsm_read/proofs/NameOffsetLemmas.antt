@@ -98,6 +98,7 @@ module _ (b : List ℕ) where
 
 -- The servers of a host identity, which begins with the sizes of a tag and of a key, are names up to its end.
 module _ (b : List ℕ) (p from to : ℕ) (offsets : List ℕ) where
+  -- They are after the sizes, the tag and the key.
   pub servers_are : (identity : List ℕ) → 4 ≤ length identity → from ≡ p + 4 + (get_or identity 0 0 + (get_or identity 2 0 * 256 + get_or identity 3 0)) → to ≡ p + length identity
       → ServersAt b identity p offsets → NamesAt b from to offsets
   servers_are [] long first last at = absurd (omega arith)

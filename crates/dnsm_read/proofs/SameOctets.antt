@@ -1,6 +1,8 @@
 -- Octets that are compared eight at a time.
-use Rattle.std.proofs.Common.{◌≡◌, ℕ, ◌+◌, ◌-◌, ◌≤◌, List, [], ◌∷◌, ◌++◌, length, length-drop, take, drop, get_or, arith, ap, sym, ◌∙◌, refl}
+use Rattle.std.proofs.Common.{◌≡◌, ℕ, ◌+◌, ◌-◌, ◌^◌, ◌<◌, ◌≤◌, List, [], ◌∷◌, ◌++◌, length, length-drop, take, drop, get_or, arith, ap, sym, ◌∙◌, refl}
 use Rattle.std.specs.Prelude.{slice_range}
+use Rattle.std.specs.Int.{to_le_bytes, from_le_bytes, w64}
+use Rattle.std.proofs.lemmas.Nat.{from_le_bytes-to_le_bytes_8}
 use Rattle.std.proofs.lemmas.List.{take-take, take_all, length-take-le}
 use Rattle.std.proofs.Math.Seq.{take-add}
 
@@ -16,6 +18,11 @@ eight_there xs i j end within =
     let left = length-drop i xs in
     let size = length-take-le (j - i) (drop i xs) (omega arith) in
     omega (arith, size, end)
+
+-- Numbers whose eight octets are the same are the same.
+pub same_numbers : (x y : ℕ) → x < 2 ^ 64 → y < 2 ^ 64 → to_le_bytes w64 x ≡ to_le_bytes w64 y → x ≡ y
+same_numbers x y fits-x fits-y octets =
+    sym (from_le_bytes-to_le_bytes_8 x fits-x) ∙ ap (from_le_bytes w64) octets ∙ from_le_bytes-to_le_bytes_8 y fits-y
 
 -- Eight more octets are the same.
 pub same_more : (a b : List ℕ) (i : ℕ) → take i a ≡ take i b → slice_range a i (i + 8) ≡ slice_range b i (i + 8) → take (i + 8) a ≡ take (i + 8) b

@@ -1,5 +1,5 @@
 //! Octets that are compared eight at a time.
-ghost use Rattle.std.specs.Prelude.{◌≡◌, length, true};
+ghost use Rattle.std.specs.Prelude.{◌≡◌, ◌↔◌, length, IsTrue};
 ghost use Rattle.std.specs.Int.{to_le_bytes, w64};
 
 /// Eight octets as a number, little-endian. It is 0 for another number of octets.
@@ -18,7 +18,7 @@ pub fn number_in(octets: &[u8]) -> u64
 /// Whether the octets are equal. Eight are compared at a time, the last of them perhaps again.
 #[inline(always)]
 pub fn same(a: &[u8], b: &[u8]) -> bool
-    ensures { result ≡ true → a.now ≡ b.now }
+    ensures { IsTrue result ↔ (a.now ≡ b.now) }
 {
     let len = a.len();
     if len != b.len() {

@@ -28,5 +28,5 @@ loop-step-preserved c = λ n is e. elim c.if-n-ge192.branch [
       let k = get_or b at 0 in
       reached_at b c.args.offset c.args.name.now n (at + 1 + k) (i + 1 + k) _ _
       (reached_label b c.args.offset c.args.name.now n at i k (c.loop-step.invariant n is e) (omega arith) (omega arith) (omega arith) (omega arith)
-      (same_range b c.args.name.now at i w.from-size.result k (omega arith) (w.same.ensures w.if-not-same.false))) (omega arith) (omega arith)
+      (same_range b c.args.name.now at i w.from-size.result k (omega arith) (w.same.ensures.0 w.if-not-same.false))) (omega arith) (omega arith)
 ]

@@ -5,4 +5,4 @@ use Rattle.dnsm_make.proofs.last_name.LastName.read.Goals as goal
 
 pub returns-then-same-clause-name : goal.returns-then-same-clause-name
 returns-then-same-clause-name c =
-    rw (← c.self.view_is) (subst (λ (text : List ℕ). SpellsName text (name_labels c.self.inside.name)) (c.same.ensures c.if-same.true) c.self.invariant)
+    rw (← c.self.view_is) (subst (λ (text : List ℕ). SpellsName text (name_labels c.self.inside.name)) (c.same.ensures.0 c.if-same.true) c.self.invariant)
