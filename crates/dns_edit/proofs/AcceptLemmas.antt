@@ -41,8 +41,8 @@ low_cond : (x : Bool) (s m n : ℕ) → s ≤ m → s ≤ n → s ≤ cond x m n
 low_cond true s m n l r = l
 low_cond false s m n l r = r
 
--- the names of RDATA are in or after it
-names_low : (b : List ℕ) (rtype start : ℕ) → start ≤ names_start b rtype start
+-- The names of RDATA are in or after it.
+pub names_low : (b : List ℕ) (rtype start : ℕ) → start ≤ names_start b rtype start
 names_low b rtype start =
     low_cond (nat_eq rtype 35) start (string_end b (string_end b (string_end b (start + 4)))) (start + octets_before rtype) (omega arith) (omega arith)
 

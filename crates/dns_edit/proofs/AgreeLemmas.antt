@@ -1,7 +1,7 @@
 -- Records after octets that are overwritten.
 use Rattle.std.proofs.Common.{◌≡◌, ◌∙◌, ℕ, ◌+◌, ◌-◌, ◌≤◌, List, take, drop, length, arith, refl, sym, ap}
 use Rattle.std.specs.Prelude.{slice_get}
-use Rattle.std.specs.Int.{w16, from_be_bytes}
+use Rattle.std.specs.Int.{w16, w32, from_be_bytes}
 use Rattle.std.proofs.lemmas.Grind.{common_steps}
 use Rattle.std.proofs.lemmas.List.{drop-drop}
 use Rattle.dns_octets.specs.Octets.{overwritten}
@@ -22,7 +22,8 @@ pub record SameFrom (b c : List ℕ) (q : ℕ) : Type 0 where
   pub octets : drop q b ≡ drop q c
 
 module _ {b c : List ℕ} {q : ℕ} (same : SameFrom b c q) where
-  dropped : (p : ℕ) → q ≤ p → drop p b ≡ drop p c
+  -- octets at or after offset q are the same in both
+  pub dropped : (p : ℕ) → q ≤ p → drop p b ≡ drop p c
   dropped p l =
       let e : q + (p - q) ≡ p = omega arith in
       ap (λ n. drop n b) (sym e) ∙ sym (drop-drop (p - q) q b) ∙ ap (drop (p - q)) same.octets ∙ drop-drop (p - q) q c ∙ ap (λ n. drop n c) e
@@ -32,12 +33,17 @@ module _ {b c : List ℕ} {q : ℕ} (same : SameFrom b c q) where
       let e : p + 0 ≡ p = omega arith in
       ap (slice_get b) (sym e) ∙ sym (get_dropped b p 0) ∙ ap (λ (xs : List ℕ). slice_get xs 0) (dropped p l) ∙ get_dropped c p 0 ∙ ap (slice_get c) e
 
-  head_same : (p : ℕ) → q ≤ p → head_at b p ≡ head_at c p
+  -- what begins at or after offset q is the same in both
+  pub head_same : (p : ℕ) → q ≤ p → head_at b p ≡ head_at c p
   head_same p l = same_head b c p (get_same p l) (get_same (p + 1) (omega arith))
 
   -- a 16-bit number at or after offset q is the same in both
   pub number_same16 : (p : ℕ) → q ≤ p → number_at w16 b p ≡ number_at w16 c p
   number_same16 p l = ap (λ (xs : List ℕ). from_be_bytes w16 (take (p + 2 - p) xs)) (dropped p l)
+
+  -- and so is a 32-bit number
+  pub number_same32 : (p : ℕ) → q ≤ p → number_at w32 b p ≡ number_at w32 c p
+  number_same32 p l = ap (λ (xs : List ℕ). from_be_bytes w32 (take (p + 4 - p) xs)) (dropped p l)
 
   -- the encoding of a name at or after offset q has the same end in both
   pub continues_same : {p s r : ℕ} → q ≤ p → NameContinues b p s r → NameContinues c p s r

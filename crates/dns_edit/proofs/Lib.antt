@@ -1,4 +1,5 @@
 mod SpanLemmas
+mod MarkLemmas
 mod WalkLemmas
 mod EntryLemmas
 mod AcceptLemmas
@@ -9,3 +10,8 @@ mod StayLemmas
 mod ReadLemmas
 mod MinLemmas
 mod DataLemmas
+mod FollowLemmas
+mod AlikeLemmas
+mod RegularLemmas
+mod RegularStays
+mod CaseLemmas

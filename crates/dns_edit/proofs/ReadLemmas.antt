@@ -239,8 +239,8 @@ module _ (change : TtlChange) (b fields : List ℕ) (bytes : FitInOctets b) (wit
       let w = questions_rise rest in
       more (question_skips_same (apart_after fields end p q w later) h.0) (questions_skip_same later rest)
 
--- entries that are skipped, in two parts
-in_two : {Skips : ℕ → ℕ → Type 0} (k m : ℕ) {n p r : ℕ} → n ≡ k + m → Skipped Skips n p r → (q : ℕ) × Skipped Skips k p q × Skipped Skips m q r
+-- Entries that are skipped, in two parts.
+pub in_two : {Skips : ℕ → ℕ → Type 0} (k m : ℕ) {n p r : ℕ} → n ≡ k + m → Skipped Skips n p r → (q : ℕ) × Skipped Skips k p q × Skipped Skips m q r
 in_two {Skips = Skips} zero m {p = p} {r = r} e x = (p, none, subst (λ n. Skipped Skips n p r) (let same : _ ≡ m = omega arith in same) x)
 in_two (suc k) m e none = absurd (omega arith)
 in_two (suc k) m e (more {n = n} h x) =

@@ -1,14 +1,12 @@
 -- A walk over the encoding of a name, which marks its labels.
-use Rattle.std.proofs.Common.{◌≡◌, ◌∙◌, ℕ, ◌+◌, ◌<◌, ◌≤◌, ◌⊎◌, inl, inr, List, ◌∷◌, length, min, arith, refl, subst, sym, Bool, true, false, get_or, get_or-set_same, get_or-set_other}
-use Rattle.std.specs.Prelude.{Ok, slice_set}
-use Rattle.std.proofs.Math.ListN.{length-set}
-use Rattle.std.proofs.lemmas.Bool.{cases_eq, cases_lt}
-use Rattle.std.proofs.lemmas.List.{get_or_past}
+use Rattle.std.proofs.Common.{◌≡◌, ◌∙◌, ℕ, ◌+◌, ◌*◌, ◌<◌, ◌≤◌, ◌⊎◌, inl, inr, List, ◌∷◌, length, min, arith, refl, subst, sym}
+use Rattle.std.specs.Prelude.{Ok}
+use Rattle.std.proofs.lemmas.Bool.{cases_eq}
 use Rattle.std.proofs.lemmas.Option.{slice_get_within}
 use Rattle.dns_name.specs.Names.{head_at, pointer_end, NameEndsAt}
 use Rattle.dns_name.specs.declared.head.Head.TheVariants.{Root, Label, Pointer}
 use Rattle.dns_name.proofs.theory.HeadLemmas.{label_there}
-use Rattle.dns_edit.specs.Marks.{MarksLabels}
+use Rattle.dns_edit.specs.Marks.{IsMarked, MarksLabels, SetsMark}
 use Rattle.dns_edit.specs.Pointers.{AcceptsName, IsLabelBefore, LabelOf, LabelOfAny, PointsTo}
 
 -- what begins at an offset decides which label and which pointer follow
@@ -51,61 +49,50 @@ module _ {b : List ℕ} where
   pointer_here h (PointsTo.label g x) = cc
 
 -- From `start` to `pos` there are only labels, and their offsets were marked.
-pub record Walking (b : List ℕ) (start pos : ℕ) (old new : List Bool) : Type 0 where
+pub record Walking (b : List ℕ) (start pos : ℕ) (old new : List ℕ) : Type 0 where
   pub from : start ≤ pos
   pub long : length new ≡ length old
   pub points : (t : ℕ) → PointsTo b start t → PointsTo b pos t
   pub points_back : (t : ℕ) → PointsTo b pos t → PointsTo b start t
   pub labels_back : (t : ℕ) → LabelOf b pos t → LabelOf b start t
-  pub kept : (t : ℕ) → get_or old t false ≡ true → get_or new t false ≡ true
-  pub set : (t : ℕ) → get_or new t false ≡ true → (get_or old t false ≡ true) ⊎ ((start ≤ t) × LabelOf b start t)
-  pub labels : (t : ℕ) → LabelOf b start t → t < length old → (get_or new t false ≡ true) ⊎ LabelOf b pos t
-
--- a mark that is set stays set
-still : (xs : List Bool) (k t : ℕ) → get_or xs t false ≡ true → get_or (slice_set xs k true) t false ≡ true
-still xs k t m = elim (cases_eq t k) [
-  | inl e ↦ elim (cases_lt t (length xs)) [
-    | inl l ↦ subst (λ k. get_or (slice_set xs k true) t false ≡ true) e (get_or-set_same xs t true false l)
-    | inr l ↦ let past : get_or xs t false ≡ false = get_or_past xs t false l in cc
-  ]
-  | inr ne ↦ get_or-set_other xs k t true false ne ∙ m
-]
+  pub kept : (t : ℕ) → IsMarked old t → IsMarked new t
+  pub set : (t : ℕ) → IsMarked new t → IsMarked old t ⊎ ((start ≤ t) × LabelOf b start t)
+  pub labels : (t : ℕ) → LabelOf b start t → t < length old * 8 → IsMarked new t ⊎ LabelOf b pos t
 
 -- The walk goes on after a label.
-pub walking_label : (b : List ℕ) (start pos n pos' : ℕ) (old mid new : List Bool) → Walking b start pos old mid → head_at b pos ≡ Ok (Label n)
-    → new ≡ slice_set mid pos true → pos' ≡ pos + 1 + n → Walking b start pos' old new
-walking_label b start pos n pos' old mid new w h is e =
+pub walking_label : (b : List ℕ) (start pos n pos' : ℕ) (old mid new : List ℕ) → Walking b start pos old mid → head_at b pos ≡ Ok (Label n)
+    → SetsMark mid new pos → pos' ≡ pos + 1 + n → Walking b start pos' old new
+walking_label b start pos n pos' old mid new w h sets e =
     let P : ℕ → Type 0 = λ pos'. Walking b start pos' old new in
-    let Q : List Bool → Type 0 = λ (new : List Bool). Walking b start (pos + 1 + n) old new in
     let from = w.from in
-    subst P (sym e) (subst Q (sym is) (record {
+    subst P (sym e) (record {
       from = omega arith;
-      long = length-set mid pos true ∙ w.long;
+      long = sets.long ∙ w.long;
       points = λ t x. pointer_next h (w.points t x);
       points_back = λ t x. w.points_back t (PointsTo.label h x);
       labels_back = λ t x. w.labels_back t (LabelOf.later h x);
-      kept = λ t m. still mid pos t (w.kept t m);
+      kept = λ t m. sets.kept t (w.kept t m);
       set = λ t m. elim (cases_eq t pos) [
         | inl here ↦ inr (omega arith, subst (λ t. LabelOf b start t) (sym here) (w.labels_back pos (LabelOf.first h)))
-        | inr ne ↦ w.set t (sym (get_or-set_other mid pos t true false ne) ∙ m)
+        | inr ne ↦ w.set t (sets.others t m ne)
       ];
       labels = λ t x l. elim (w.labels t x l) [
-        | inl m ↦ inl (still mid pos t m)
+        | inl m ↦ inl (sets.kept t m)
         | inr y ↦ elim (label_next h y) [
           | inl here ↦
               let long = w.long in
-              let inside : pos < length mid = omega arith in
-              inl (subst (λ t. get_or (slice_set mid pos true) t false ≡ true) (sym here) (get_or-set_same mid pos true false inside))
+              let inside : pos < length mid * 8 = omega arith in
+              inl (subst (λ t. IsMarked new t) (sym here) (sets.set inside))
           | inr z ↦ inr z
         ]
       ];
-    }))
+    })
 
 -- after the last label all labels of the name are marked
-marked_all : (b : List ℕ) (start pos : ℕ) (old new : List Bool) → Walking b start pos old new → ((t : ℕ) → LabelOf b pos t → ⊥)
+marked_all : (b : List ℕ) (start pos : ℕ) (old new : List ℕ) → Walking b start pos old new → ((t : ℕ) → LabelOf b pos t → ⊥)
     → (names : List ℕ) → MarksLabels b names old → MarksLabels b (start ∷ names) new
 marked_all b start pos old new w last names m = record {
-  enough = subst (λ n. min (length b) pointer_end ≤ n) (sym w.long) m.enough;
+  enough = subst (λ n. min (length b) pointer_end ≤ n * 8) (sym w.long) m.enough;
   set = λ t h. elim (w.set t h) [ inl before ↦ inr (m.set t before) | inr own ↦ inl own.1 ];
   labels = λ t x l. elim x [
     | inl own ↦
@@ -117,7 +104,7 @@ marked_all b start pos old new w last names m = record {
 }
 
 -- The walk ends after a root label.
-pub walked_root : (b : List ℕ) (start pos end : ℕ) (old new : List Bool) → Walking b start pos old new → head_at b pos ≡ Ok Root → NameEndsAt b start end
+pub walked_root : (b : List ℕ) (start pos end : ℕ) (old new : List ℕ) → Walking b start pos old new → head_at b pos ≡ Ok Root → NameEndsAt b start end
     → (names : List ℕ) → MarksLabels b names old → AcceptsName b names start end (start ∷ names) × MarksLabels b (start ∷ names) new
 walked_root b start pos end old new w h ends names m = (
   record { ends = ends; back = λ t x. absurd (no_pointer_at_root h (w.points t x)); added = refl },
@@ -125,8 +112,8 @@ walked_root b start pos end old new w h ends names m = (
 )
 
 -- The walk ends after a pointer.
-pub walked_pointer : (b : List ℕ) (start pos end u : ℕ) (old new : List Bool) → Walking b start pos old new → head_at b pos ≡ Ok (Pointer u) → NameEndsAt b start end
-    → u < start → get_or new u false ≡ true
+pub walked_pointer : (b : List ℕ) (start pos end u : ℕ) (old new : List ℕ) → Walking b start pos old new → head_at b pos ≡ Ok (Pointer u) → NameEndsAt b start end
+    → u < start → IsMarked new u
     → (names : List ℕ) → MarksLabels b names old → AcceptsName b names start end (start ∷ names) × MarksLabels b (start ∷ names) new
 walked_pointer b start pos end u old new w h ends less set names m =
     let there : LabelOfAny b names u = elim (w.set u set) [ inl before ↦ m.set u before | inr own ↦ let l = own.0 in absurd (omega arith) ] in (
@@ -139,7 +126,7 @@ walked_pointer b start pos end u old new w h ends less set names m =
     )
 
 -- the pointer leads to no label before the name
-pub walked_nowhere : (b : List ℕ) (start pos u : ℕ) (old new : List Bool) → Walking b start pos old new → u < pointer_end
-    → ((u < start) × (get_or new u false ≡ true) → ⊥)
+pub walked_nowhere : (b : List ℕ) (start pos u : ℕ) (old new : List ℕ) → Walking b start pos old new → u < pointer_end
+    → ((u < start) × IsMarked new u → ⊥)
     → (names : List ℕ) → MarksLabels b names old → IsLabelBefore b names start u → ⊥
 walked_nowhere b start pos u old new w small unmarked names m before = unmarked (before.0, w.kept u (m.labels u before.1 small))

@@ -1,9 +1,8 @@
 -- Records whose TTLs are changed one after the other.
-use Rattle.std.proofs.Common.{◌≡◌, ◌∙◌, ℕ, zero, suc, ◌+◌, ◌≤◌, inl, inr, List, [], length, min, replicate, arith, refl, subst, sym, ap, Bool, true, false, get_or}
+use Rattle.std.proofs.Common.{◌≡◌, ◌∙◌, ℕ, suc, ◌+◌, inl, inr, List, [], arith, refl, subst, sym, ap, Bool, true, false}
 use Rattle.std.proofs.lemmas.Bool.{cases_Bool}
-use Rattle.std.proofs.lemmas.List.{length-replicate}
 use Rattle.std.specs.Int.{w16, w32, to_be_bytes}
-use Rattle.dns_name.specs.Names.{Fault, pointer_end}
+use Rattle.dns_name.specs.Names.{Fault}
 use Rattle.dns_name.specs.Parsers.{number_at}
 use Rattle.dns_name.proofs.theory.Names.{one_end}
 use Rattle.dns_item.specs.Items.{SkipsRecord, RecordSkipFaultAt}
@@ -15,24 +14,10 @@ use Rattle.dns_read.specs.Reading.{Skipped}
 use Rattle.dns_read.specs.Reading.Skipped.{more}
 use Rattle.dns_edit.specs.declared.change.TtlChange.{TtlChange}
 use Rattle.dns_edit.specs.Ttls.{TtlFields, WritesTtl, changed, holds_ttl, with_ttl, with_ttls}
-use Rattle.dns_edit.specs.Marks.{MarksLabels}
 use Rattle.dns_edit.proofs.AgreeLemmas.{SameFrom, same_after, skipped_same, ttls_same}
 use Rattle.dns_edit.proofs.EntryLemmas.{long_record}
 use Rattle.dns_edit.proofs.SpanLemmas.{skips_of}
 use Rattle.dns_edit.proofs.StayLemmas.{four}
-
-false_false : (n k : ℕ) → get_or (replicate n false) k false ≡ true → ⊥
-false_false zero k h = cc
-false_false (suc n) zero h = cc
-false_false (suc n) (suc k) h = false_false n k h
-
--- no mark is set before the first name
-pub none_marked : (b : List ℕ) (n : ℕ) → min (length b) pointer_end ≤ n → MarksLabels b [] (replicate n false)
-none_marked b n l = record {
-  enough = let e = length-replicate n false in omega arith;
-  set = λ t h. absurd (false_false n t h);
-  labels = λ t x. absurd x;
-}
 
 clash : (x : Bool) → x ≡ true → x ≡ false → ⊥
 clash true t f = cc

@@ -77,6 +77,10 @@ pub record AcceptsFrom (b : List ℕ) (start : ℕ) : Type 0 where
 abbrev pub AcceptsTtls : List ℕ → Type 0
 AcceptsTtls b = (start : ℕ) × AcceptsFrom b start
 
+-- A message is regular if its TTLs can be changed: it can be skipped to its end, and each pointer of a name leads to a label of an earlier name.
+abbrev pub IsRegular : List ℕ → Type 0
+IsRegular b = AcceptsTtls b
+
 -- The message is refused with the error of its first question or record that isn't accepted.
 pub data RefusesTtls (b : List ℕ) (e : EditError) : Type 0 where
   question : OneRefused (AcceptsQuestion b) (RefusesQuestion b) (question_count b) [] header_size e → RefusesTtls b e

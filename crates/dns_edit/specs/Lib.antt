@@ -8,3 +8,7 @@ pub mod Acceptance
 pub mod Spans
 pub mod Edits
 pub mod Readings
+pub mod Following
+pub mod Ends
+pub mod Case
+pub mod Alike

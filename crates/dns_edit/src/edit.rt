@@ -21,8 +21,8 @@ use dns_name::Head;
 use dns_octets::{Octets, OctetsMut, ParseError};
 use dns_read::Message;
 
-/// The length, in octets, up to which a message takes the smaller array of marks.
-const SHORT: usize = 1_232;
+/// The number of octets with a mark for each offset within pointer range.
+const MARKS: usize = Head::POINTER_END / 8;
 
 /// The least TTL of the message's records, or `None` if it has none.
 ///
@@ -129,7 +129,7 @@ fn are_octets(octets: &[u8])
 }
 
 /// The number of questions.
-fn questions_in(octets: &[u8]) -> u16
+pub(crate) fn questions_in(octets: &[u8]) -> u16
     requires { header_size ≤ length octets.now }
     ensures { result ≡ question_count octets.now }
 {
@@ -137,7 +137,7 @@ fn questions_in(octets: &[u8]) -> u16
 }
 
 /// The number of records in the three sections.
-fn record_count(octets: &[u8]) -> u32
+pub(crate) fn record_count(octets: &[u8]) -> u32
     requires { header_size ≤ length octets.now }
     ensures { result ≡ record_total octets.now }
 {
@@ -146,20 +146,16 @@ fn record_count(octets: &[u8]) -> u32
 }
 
 /// Walks over all names of a message. Returns the offset where the records begin.
-fn check(octets: &[u8]) -> Result<usize, EditError>
+pub(crate) fn check(octets: &[u8]) -> Result<usize, EditError>
     requires { header_size ≤ length octets.now }
     ensures accepts { IfOk result (AcceptsFrom octets.now) }
     ensures refuses { IfErr result (RefusesTtls octets.now) }
 {
-    if octets.len() <= SHORT {
-        check_with(octets, &mut [false; SHORT])
-    } else {
-        check_with(octets, &mut [false; Head::POINTER_END])
-    }
+    check_with(octets, &mut [0; MARKS])
 }
 
 /// The same, with no mark set.
-fn check_with(octets: &[u8], marks: &mut [bool]) -> Result<usize, EditError>
+fn check_with(octets: &[u8], marks: &mut [u8]) -> Result<usize, EditError>
     requires long { header_size ≤ length octets.now }
     requires none { MarksLabels octets.now [] marks.old }
     ensures accepts { IfOk result (AcceptsFrom octets.now) }

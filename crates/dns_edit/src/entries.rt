@@ -13,7 +13,7 @@ pub(crate) fn check_questions(
     octets: &[u8],
     start: usize,
     count: u16,
-    marks: &mut [bool],
+    marks: &mut [u8],
 ) -> Result<usize, EditError>
     requires { start ≤ length octets.now }
     ensures within { IfOk result (λ end. end ≤ length octets.now) }
@@ -42,7 +42,7 @@ pub(crate) fn check_records(
     octets: &[u8],
     start: usize,
     count: u32,
-    marks: &mut [bool],
+    marks: &mut [u8],
 ) -> Result<(), EditError>
     requires { start ≤ length octets.now }
     ensures accepts { OnOk result ((names : List ℕ)
@@ -61,7 +61,7 @@ pub(crate) fn check_records(
 }
 
 /// Walks over the names of the record at offset `start`. Returns its end.
-fn check_record(octets: &[u8], start: usize, marks: &mut [bool]) -> Result<usize, EditError>
+fn check_record(octets: &[u8], start: usize, marks: &mut [u8]) -> Result<usize, EditError>
     requires { start ≤ length octets.now }
     ensures within { IfOk result (λ end. end ≤ length octets.now) }
     ensures accepts { IfOk result (λ end. (names : List ℕ)
@@ -83,7 +83,7 @@ fn walk_data(
     rtype: u16,
     start: usize,
     end: usize,
-    marks: &mut [bool],
+    marks: &mut [u8],
 ) -> Result<(), EditError>
     requires { start ≤ length octets.now }
     ensures accepts { OnOk result ((names : List ℕ)

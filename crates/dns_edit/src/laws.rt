@@ -1,12 +1,15 @@
-//! Theorems on messages whose TTLs are changed in place, and on changes and errors. The functions do
+//! Theorems on messages that are changed in place, and on changes and errors. The functions do
 //! nothing: each contract is a theorem.
 ghost use Rattle.std.specs.Prelude.{◌≡◌, ◌↔◌, IsTrue};
 ghost use Rattle.dns_edit.specs.Acceptance.{NeverBoth};
+ghost use Rattle.dns_edit.specs.Alike.{CaseReadsAlike, CaseStaysRegular, HeaderReadsAlike, HeaderStaysRegular};
 ghost use Rattle.dns_edit.specs.Fields.{NamesAreFields};
+ghost use Rattle.dns_edit.specs.Following.{NamesFollowFew};
 ghost use Rattle.dns_edit.specs.Readings.{ChangedReadsAlike, NamesReadAlike, RdataReadsAlike};
 
 use crate::change::TtlChange;
 use crate::error::EditError;
+use crate::question::OtherName;
 
 /// A name that uses no octet of the TTL fields reads the same after the TTLs are changed.
 pub fn names_read_alike()
@@ -24,13 +27,39 @@ pub fn rdata_reads_alike()
     ensures { RdataReadsAlike }
 {}
 
+/// If a regular message and another differ in the header alone, as after [`crate::set_id`], their
+/// questions and records read the same. Of names in RDATA it says nothing.
+pub fn header_reads_alike()
+    ensures { HeaderReadsAlike }
+{}
+
+/// After [`crate::set_question_case`] a regular message reads as before, ignoring ASCII case: its
+/// questions and records, with their names lowercased.
+pub fn case_reads_alike()
+    ensures { CaseReadsAlike }
+{}
+
+/// A regular message stays regular after [`crate::set_id`] and [`crate::set_rcode`], and after
+/// [`crate::set_question_case`]. So these can come one after the other, and before
+/// [`crate::change_ttls`].
+pub fn stays_regular()
+    ensures header { HeaderStaysRegular }
+    ensures case { CaseStaysRegular }
+{}
+
 /// No message is both accepted and refused. So [`crate::change_ttls`] succeeds exactly where the
 /// message is accepted, and returns an error exactly where it is refused.
 pub fn never_both()
     ensures { NeverBoth }
 {}
 
-/// The names in RDATA of each record type in `TABLE` of `fields_table` are those among its fields.
+/// To read a name of a regular message, at most 127 pointers are followed, since each leads to a
+/// label and a name has at most 127. If reading fails, at most 128 are.
+pub fn names_follow_few()
+    ensures { NamesFollowFew }
+{}
+
+/// The names in RDATA of each record type of `fields_table` are those among its fields.
 #[tactic(auto, unfolding(fields_table::specs::RecordTypes::record_types))]
 pub fn names_are_fields()
     ensures { NamesAreFields }
@@ -40,16 +69,19 @@ pub fn names_are_fields()
 pub fn change_equality()
     ensures change { (a b : _) → IsTrue (⟦<TtlChange as PartialEq>⟧.eq a b) ↔ (a ≡ b) }
     ensures error { (a b : _) → IsTrue (⟦<EditError as PartialEq>⟧.eq a b) ↔ (a ≡ b) }
+    ensures name { (a b : _) → IsTrue (⟦<OtherName as PartialEq>⟧.eq a b) ↔ (a ≡ b) }
 {}
 
 /// A clone of a change or of an error is the same.
 pub fn change_clones()
     ensures change { (a b : _) → ⟦<TtlChange as Clone>⟧.is_clone a b → b ≡ a }
     ensures error { (a b : _) → ⟦<EditError as Clone>⟧.is_clone a b → b ≡ a }
+    ensures name { (a b : _) → ⟦<OtherName as Clone>⟧.is_clone a b → b ≡ a }
 {}
 
 /// Cloning a change or an error never fails.
 pub fn change_clones_never_fail()
     ensures change { (a : _) → ⟦<TtlChange as Clone>⟧.is_infallible a }
     ensures error { (a : _) → ⟦<EditError as Clone>⟧.is_infallible a }
+    ensures name { (a : _) → ⟦<OtherName as Clone>⟧.is_infallible a }
 {}

@@ -13,6 +13,8 @@ fn octets_before_names(rtype: u16) -> usize
         24 | 46 => 18,
         // SRV
         33 => 6,
+        // DSYNC
+        66 => 5,
         _ => 0,
     }
 }
@@ -22,10 +24,11 @@ pub(crate) fn names_in(rtype: u16) -> u8
     ensures { result ≡ name_count rtype }
 {
     match rtype {
-        // NS, MD, MF, CNAME, MB, MG, MR, PTR, MX, AFSDB, RT, SIG, NXT, SRV, NAPTR, KX and DNAME
-        2 | 3 | 4 | 5 | 7 | 8 | 9 | 12 | 15 | 18 | 21 | 24 | 30 | 33 | 35 | 36 | 39 => 1,
-        // RRSIG, NSEC, SVCB, HTTPS, LP, TKEY and TSIG
-        46 | 47 | 64 | 65 | 107 | 249 | 250 => 1,
+        // NS, MD, MF, CNAME, MB, MG, MR, PTR, MX, AFSDB, RT, NSAP-PTR, SIG, NXT, SRV, NAPTR, KX and
+        // DNAME
+        2 | 3 | 4 | 5 | 7 | 8 | 9 | 12 | 15 | 18 | 21 | 23 | 24 | 30 | 33 | 35 | 36 | 39 => 1,
+        // RRSIG, NSEC, SVCB, HTTPS, DSYNC, LP, TKEY and TSIG
+        46 | 47 | 64 | 65 | 66 | 107 | 249 | 250 => 1,
         // SOA, MINFO, RP, PX and TALINK
         6 | 14 | 17 | 26 | 58 => 2,
         _ => 0,

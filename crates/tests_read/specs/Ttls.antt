@@ -1,7 +1,9 @@
 -- What stays as it is in a message whose TTLs are lowered.
-use Rattle.std.specs.Prelude.{ℕ, ◌+◌, ◌<◌, List}
+use Rattle.std.specs.Prelude.{ℕ, ◌+◌, ◌<◌, List, All}
 use Rattle.dns_item.specs.Items.{SkipsRecord}
 use Rattle.dns_read.specs.Reading.{Skipped}
+use Rattle.dns_edit.specs.Acceptance.{AcceptsFrom}
+use Rattle.dns_edit.specs.Following.{FollowsFew}
 use Rattle.dns_edit.specs.Edits.{NamesAvoid}
 use Rattle.dns_edit.specs.Readings.{DataReadsAlike, ReadsNameAlike}
 use Rattle.dns_edit.specs.Ttls.{record_total}
@@ -15,3 +17,7 @@ KeepsNames b c = (fields : List ℕ) × NamesAvoid b fields × ((p : ℕ) → Na
 abbrev pub KeepsData : List ℕ → List ℕ → Type 0
 KeepsData b c = (fields : List ℕ) × (avoid : NamesAvoid b fields)
     × ((k p q : ℕ) → k < record_total b → Skipped (SkipsRecord b) k avoid.start p → (s : SkipsRecord b p q) → DataReadsAlike b c fields (s.name_end + 10) q)
+
+-- Few pointers are followed to read a name of the message.
+abbrev pub IsCheap : List ℕ → Type 0
+IsCheap b = (start : ℕ) × (regular : AcceptsFrom b start) × All (FollowsFew b) regular.names

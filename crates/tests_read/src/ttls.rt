@@ -3,10 +3,12 @@ ghost use Rattle.std.specs.Prelude.{◌↔◌, IsTrue, OnOk};
 ghost use Rattle.dns_read.specs.Message.{message_octets};
 ghost use Rattle.dns_edit.specs.Acceptance.{AcceptsTtls};
 ghost use Rattle.dns_edit.specs.Fields.{NamesAreFields};
-ghost use Rattle.tests_read.specs.Ttls.{KeepsNames, KeepsData};
+ghost use Rattle.tests_read.specs.Ttls.{IsCheap, KeepsNames, KeepsData};
 
-use dns_edit::laws::{names_are_fields, names_read_alike, never_both, rdata_reads_alike};
-use dns_edit::{EditError, age_ttls};
+use dns_edit::laws::{
+    names_are_fields, names_follow_few, names_read_alike, never_both, rdata_reads_alike,
+};
+use dns_edit::{EditError, age_ttls, is_regular};
 use dns_read::Message;
 
 /// Lowers the TTLs of a response. Returns whether they can be changed in place.
@@ -40,4 +42,12 @@ fn knows_the_names()
     ensures { NamesAreFields }
 {
     names_are_fields();
+}
+
+/// Whether few pointers are followed to read a query, as a server asks first.
+fn is_cheap(query: &Message<&[u8]>) -> bool
+    ensures { IsTrue result → IsCheap (message_octets query.now) }
+{
+    names_follow_few();
+    is_regular(query)
 }

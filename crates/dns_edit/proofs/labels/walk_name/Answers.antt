@@ -1,9 +1,10 @@
-use Rattle.std.proofs.Common.{◌≡◌, ◌<◌, ◌+◌, arith, false, get_or, refl, subst, sym, true}
+use Rattle.std.proofs.Common.{◌≡◌, ◌<◌, ◌+◌, arith, refl, subst, sym}
 use Rattle.std.specs.Prelude.{Ok}
 use Rattle.std.proofs.lemmas.Result.{err_from_is_err_and}
 use Rattle.dns_name.specs.Names.{Begins, head_at, pointer_end}
 use Rattle.dns_name.specs.declared.head.Head.TheVariants.{Root, Label, Pointer}
 use Rattle.dns_name.proofs.theory.HeadLemmas.{skips_label, skips_root, skips_pointer}
+use Rattle.dns_edit.specs.Marks.{IsMarked}
 use Rattle.dns_edit.specs.Pointers.{PointsTo}
 use Rattle.dns_edit.proofs.WalkLemmas.{walking_label, walked_root, walked_pointer, walked_nowhere}
 use Rattle.dns_edit.proofs.labels.walk_name.Goals as goal
@@ -48,15 +49,15 @@ returns-then-is_marked_before-clause-accepts c =
     let ends = (skips_pointer _ _ _ _ _ _ c.walk.invariant.0 h refl).0 in
     let set = c.is_marked_before.ensures.0 c.if-is_marked_before.true in
     let less = set.0 in
-    walked_pointer _ _ _ _ _ _ _ c.walk.invariant.1 h ends (omega arith) (subst (λ t. get_or c.walk.marks t false ≡ true) e set.1)
+    walked_pointer _ _ _ _ _ _ _ c.walk.invariant.1 h ends (omega arith) (subst (λ t. IsMarked c.walk.marks t) e set.1)
 
 pub returns-in-Pointer-clause-refuses : goal.returns-in-Pointer-clause-refuses
 returns-in-Pointer-clause-refuses c =
     let h : head_at c.args.octets.now c.walk.pos ≡ Ok (Pointer c.in-Pointer.target) = cc (c.in_ok-after.ensures.begins.there, c.in-Pointer.is) in
     let e : c.from.result ≡ c.in-Pointer.target = c.from.ensures in
     let small : c.in-Pointer.target < pointer_end = rw c.in-Pointer.is at c.in_ok-after.ensures.in_reach in
-    let unmarked : (c.in-Pointer.target < c.args.start) × (get_or c.walk.marks c.in-Pointer.target false ≡ true) → ⊥ =
-    λ x. let yes = c.is_marked_before.ensures.1 (subst (λ t. (t < c.args.start) × (get_or c.walk.marks t false ≡ true)) (sym e) x) in let no = c.if-is_marked_before.false in cc in
+    let unmarked : (c.in-Pointer.target < c.args.start) × IsMarked c.walk.marks c.in-Pointer.target → ⊥ =
+    λ x. let yes = c.is_marked_before.ensures.1 (subst (λ t. (t < c.args.start) × IsMarked c.walk.marks t) (sym e) x) in let no = c.if-is_marked_before.false in cc in
     λ names m. (
       c.walk.pos + 2,
       c.in-Pointer.target,

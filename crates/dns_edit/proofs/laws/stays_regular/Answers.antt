@@ -1,0 +1,9 @@
+use Rattle.dns_edit.proofs.CaseLemmas.{case_stays_regular}
+use Rattle.dns_edit.proofs.RegularStays.{header_stays_regular}
+use Rattle.dns_edit.proofs.laws.stays_regular.Goals as goal
+
+pub returns-clause-header : goal.returns-clause-header
+returns-clause-header c = header_stays_regular
+
+pub returns-clause-case : goal.returns-clause-case
+returns-clause-case c = case_stays_regular
