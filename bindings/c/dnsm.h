@@ -305,7 +305,7 @@ dnsm_status dnsm_name_hash(const uint8_t *message, size_t message_len, size_t pl
  *         printf("%zu octets with names uncompressed\n", len);
  */
 
-/* Writes the RDATA of a record as in a zone file (RFC 1035 section 5.1): the fields of its type, separated by spaces, for the 65
+/* Writes the RDATA of a record as in a zone file (RFC 1035 section 5.1): the fields of its type, separated by spaces, for the 80
  * types that the library knows, such as A, AAAA, MX, TXT, SRV, DNSKEY and HTTPS. Names end with a dot, and are escaped as in
  * "Names as text"; a backslash precedes `"`, `$`, `(`, `)`, `;` and `@` too. All other RDATA is written as `\#`, its length and
  * its octets in hexadecimal (RFC 3597 section 5): that of other types, malformed RDATA, and RDATA with a field that has no text,
@@ -317,7 +317,7 @@ dnsm_status dnsm_data_text(const uint8_t *message, size_t message_len, const dns
                            size_t *len);
 
 /* Writes the RDATA of a record, with names uncompressed: what dnsm_put and dnsm_build take. It is checked to be the fields of
- * its type, for the 65 types of dnsm_data_text; RDATA of other types may be any octets. A record of class NONE (254) or ANY (255)
+ * its type, for the 80 types of dnsm_data_text; RDATA of other types may be any octets. A record of class NONE (254) or ANY (255)
  * may have none (RFC 2136 section 2.4). Nothing after the RDATA is read. 65,535 octets are always enough.
  *
  * Errors: DNSM_BAD_SECTION for a question, which has no RDATA; DNSM_SHORT_INPUT if the RDATA isn't within the message, which
@@ -374,7 +374,7 @@ dnsm_status dnsm_next_field(const uint8_t *message, size_t message_len, const dn
  */
 
 /* Sets `*place` to the offset of a name in the RDATA of a record, for dnsm_name_text and dnsm_name_octets with the end of the
- * RDATA as `message_len`. All names are counted, from 0, in the order of the fields, for the 65 types of dnsm_data_text: also the
+ * RDATA as `message_len`. All names are counted, from 0, in the order of the fields, for the 80 types of dnsm_data_text: also the
  * gateway of IPSECKEY and the relay of AMTRELAY, which are names if their type is 3 (RFC 4025 section 2.5, RFC 8777 section
  * 4.2.4), and each rendezvous server of HIP (RFC 8005 section 5). No octet after the RDATA belongs to the name, also where it has
  * a compression pointer.
@@ -690,7 +690,7 @@ uint32_t dnsm_opt_ttl(const dnsm_opt *opt);
  * for names as text. */
 
 /* A question or a record to write. The name is text (see "Names as text"). The data is RDATA in wire format, with names
- * uncompressed. For the 65 types of dnsm_data_text it has to be the fields of the type, whatever the class, without compression
+ * uncompressed. For the 80 types of dnsm_data_text it has to be the fields of the type, whatever the class, without compression
  * pointers, which RDATA within a message may have; for other types it may be any octets. A record of class NONE (254) or ANY
  * (255) may also have no data (RFC 2136 section 2.4). The TTL is in seconds. TTL and data of a question are ignored. */
 typedef struct dnsm_new_item {

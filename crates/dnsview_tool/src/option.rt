@@ -7,7 +7,7 @@ use crate::counts::{octet_count, second_count};
 use dns_edns::{
     BadOptData, ClientSubnet, Cookie, Expire, ExtendedError, KnownOptData, SubnetAddr, TcpKeepalive,
 };
-use dns_iana::OptionCode;
+use dns_iana::{ExtendedErrorCode, OptionCode};
 use dns_name::Name;
 use fields_text::Quoted;
 use std::fmt;
@@ -85,8 +85,9 @@ fn write_known<W: fmt::Write>(
 fn write_other<W: fmt::Write>(f: &mut fmt::Formatter<W>, code: u16, octets: &[u8]) -> fmt::Result {
     match code {
         5..=7 => write_algorithms(f, octets),
-        13 => write_trust_point(f, octets),
+        13 | 18 => write_option_name(f, octets),
         14 => write_key_tags(f, octets),
+        19 => write_zone_version(f, octets),
         _ => write_count(f, octets),
     }
 }
@@ -109,11 +110,15 @@ fn write_text<W: fmt::Write>(f: &mut fmt::Formatter<W>, octets: &[u8]) -> fmt::R
     write!(f, "{text}")
 }
 
-/// Prints an extended error: its code and its text (RFC 8914 section 2).
+/// Prints an extended error: its code, the code's name, and its text (RFC 8914 section 2).
 fn write_error<W: fmt::Write>(f: &mut fmt::Formatter<W>, error: &ExtendedError<'_>) -> fmt::Result {
     let code = error.code;
+    write!(f, "code {code}")?;
+    if let Some(name) = ExtendedErrorCode::from_int(code).registered_name() {
+        write!(f, " ({name})")?;
+    }
     let text = Quoted(error.text_octets);
-    write!(f, "code {code}, {text}")
+    write!(f, ", {text}")
 }
 
 /// Prints algorithm numbers, of one octet each (RFC 6975 section 3).
@@ -153,8 +158,9 @@ fn write_cookie<W: fmt::Write>(f: &mut fmt::Formatter<W>, cookie: &Cookie<'_>) -
     Ok(())
 }
 
-/// Prints the name of the closest trust point, which isn't compressed (RFC 7901 section 4).
-fn write_trust_point<W: fmt::Write>(f: &mut fmt::Formatter<W>, octets: &[u8]) -> fmt::Result {
+/// Prints a name that isn't compressed: of the closest trust point (RFC 7901 section 4), or of the
+/// agent that errors are reported to (RFC 9567 section 5).
+fn write_option_name<W: fmt::Write>(f: &mut fmt::Formatter<W>, octets: &[u8]) -> fmt::Result {
     match Name::from_octets(octets) {
         Ok(name) => write!(f, "{name}."),
         Err(_) => write_malformed(f, octets),
@@ -174,6 +180,28 @@ fn write_key_tags<W: fmt::Write>(f: &mut fmt::Formatter<W>, octets: &[u8]) -> fm
         }
     }
     Ok(())
+}
+
+/// Prints the version of a zone: the number of labels of its name, and the serial of its SOA record
+/// or a version of another type (RFC 9660 section 2). A query has no octets.
+fn write_zone_version<W: fmt::Write>(f: &mut fmt::Formatter<W>, octets: &[u8]) -> fmt::Result {
+    if octets.is_empty() {
+        return write_count(f, octets);
+    }
+    let [labels, kind, version @ ..] = octets else {
+        return write_malformed(f, octets);
+    };
+    match (*kind, version) {
+        (0, [a, b, c, d]) => {
+            let serial = u32::from_be_bytes([*a, *b, *c, *d]);
+            write!(f, "labels {labels}, SOA serial {serial}")
+        }
+        (0, _) => write_malformed(f, octets),
+        (kind, _) => {
+            let count = octet_count(version.len());
+            write!(f, "labels {labels}, type {kind}, {count}")
+        }
+    }
 }
 
 /// Whether octets are key tags, one at least.

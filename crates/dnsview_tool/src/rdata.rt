@@ -1,4 +1,4 @@
-//! Fields of RDATA in words: their names in `fields_table::TABLE`, and their values.
+//! Fields of RDATA in words: their names in the table of `fields_table`, and their values.
 use crate::codes::Mnemonic;
 use crate::counts::{octet_count, second_count, write_address};
 use crate::meaning::number_of;
@@ -81,9 +81,14 @@ impl RdataField<'_> {
     fn write_number<W: fmt::Write>(&self, f: &mut fmt::Formatter<W>) -> fmt::Result {
         let number = number_of(self.octets);
         match (self.kind, self.octets) {
-            (Kind::Number8 | Kind::Number16 | Kind::Number32, _) => write_value(f, &number),
+            (Kind::Number8 | Kind::Scheme | Kind::Number16 | Kind::Number32, _) => {
+                write_value(f, &number)
+            }
             (Kind::Number48, [a, b, c, d, e, g]) => {
                 write_value(f, &u64::from_be_bytes([0, 0, *a, *b, *c, *d, *e, *g]))
+            }
+            (Kind::Number64, [a, b, c, d, e, g, h, i]) => {
+                write_value(f, &u64::from_be_bytes([*a, *b, *c, *d, *e, *g, *h, *i]))
             }
             (Kind::Seconds, _) => write_value(f, &second_count(number)),
             (Kind::Time, _) => write_value(f, &Timestamp(number)),

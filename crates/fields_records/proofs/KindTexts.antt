@@ -33,6 +33,8 @@ octets_have_text variants.Number8 sure octets fit = refl
 octets_have_text variants.Number16 sure octets fit = refl
 octets_have_text variants.Number32 sure octets fit = refl
 octets_have_text variants.Number48 sure octets fit = refl
+octets_have_text variants.Number64 sure octets fit = refl
+octets_have_text variants.Scheme sure octets fit = refl
 octets_have_text variants.Seconds sure octets fit = refl
 octets_have_text variants.Ipv4 sure octets fit = let four : length octets ≡ 4 = fit in rw four refl
 octets_have_text variants.Ipv6 sure octets fit = let sixteen : length octets ≡ 16 = fit in rw sixteen refl

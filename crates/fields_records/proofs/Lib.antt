@@ -32,6 +32,7 @@ mod ReadOctets
 mod RecordBack
 mod RecordLemmas
 mod RecordLines
+mod SchemeWords
 mod StringLemmas
 mod StringLists
 mod Unmarked

@@ -26,7 +26,8 @@ use Rattle.fields_text.specs.declared.text_error.TextError.{TextError}
 use Rattle.fields_records.specs.DataWords.{AreCountedDigits, AreDataWords, AreFields, IsDataText, IsMarked, MayBeData, ReadsData}
 use Rattle.fields_records.specs.Extents.{extent_of}
 use Rattle.fields_text.specs.LengthOctets.{counted}
-use Rattle.fields_records.specs.FieldWords.{AreFieldWords, AreStrings, IsField, IsFieldOf, IsFieldWord, IsNumberIn, IsOne, IsString, Words}
+use Rattle.fields_records.proofs.SchemeWords.{notify_is_no_number}
+use Rattle.fields_records.specs.FieldWords.{AreFieldWords, AreStrings, IsField, IsFieldOf, IsFieldWord, IsNumberIn, IsOne, IsSchemeWord, IsString, Words}
 use Rattle.fields_plain.specs.Salts.{IsHash, IsSalt}
 use Rattle.fields_plain.specs.TimeWords.{IsTime}
 use Rattle.fields_plain.specs.TypeWords.{IsType}
@@ -37,6 +38,13 @@ use Rattle.fields_records.specs.declared.extent.Extent.TheVariants.{One, OneOrTw
 -- fields of one word
 one_number : (size : ℕ) → RepresentsOne (IsNumberIn size)
 one_number size word xs ys a b = a.3 ∙ ap (last_octets size) (sym a.1.1 ∙ b.1.1) ∙ sym b.3
+
+-- a scheme
+one_scheme : RepresentsOne IsSchemeWord
+one_scheme word xs ys (inl a) (inl b) = a.1 ∙ sym b.1
+one_scheme word xs ys (inl a) (inr b) = absurd (notify_is_no_number word ys a.0 b)
+one_scheme word xs ys (inr a) (inl b) = absurd (notify_is_no_number word xs b.0 a)
+one_scheme word xs ys (inr a) (inr b) = one_number 1 word xs ys a b
 
 one_time_field : RepresentsOne IsTime
 one_time_field word xs ys a b = a.2 ∙ ap (last_octets 4) (one_time word a.0 b.0 a.1 b.1) ∙ sym b.2
@@ -58,6 +66,8 @@ one_field_word kinds.Number8 word xs ys a b = one_number 1 word xs ys a b
 one_field_word kinds.Number16 word xs ys a b = one_number 2 word xs ys a b
 one_field_word kinds.Number32 word xs ys a b = one_number 4 word xs ys a b
 one_field_word kinds.Number48 word xs ys a b = one_number 6 word xs ys a b
+one_field_word kinds.Number64 word xs ys a b = one_number 8 word xs ys a b
+one_field_word kinds.Scheme word xs ys a b = one_scheme word xs ys a b
 one_field_word kinds.Seconds word xs ys a b = one_number 4 word xs ys a b
 one_field_word kinds.Time word xs ys a b = one_time_field word xs ys a b
 one_field_word kinds.Ipv4 word xs ys a b = one_ipv4 word xs ys a b

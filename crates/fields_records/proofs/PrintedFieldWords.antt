@@ -26,7 +26,7 @@ use Rattle.fields_text.specs.Hex.{hex_text}
 use Rattle.fields_forms.specs.LocationItems.{LocationItem, location_of, location_text}
 use Rattle.fields_text.specs.String.{is_tag, quoted}
 use Rattle.fields_plain.specs.Time.{time_text}
-use Rattle.fields_records.specs.FieldTexts.{begins_with_space, fields_text, space_before, text_of_any, value_text}
+use Rattle.fields_records.specs.FieldTexts.{begins_with_space, fields_text, scheme_text, space_before, text_of_any, value_text}
 use Rattle.fields_parameters.specs.Parameters.{parameters_text, parameter_word}
 use Rattle.fields_plain.specs.Salts.{salt_text}
 use Rattle.fields_plain.specs.SizedWords.{sized_text}
@@ -79,7 +79,7 @@ any_some f [] text e = absurd (cc e)
 any_some f (x ∷ xs) text e = (omega arith, e)
 
 -- numbers of octets
-number_fits : (octets : List ℕ) → IsBytes octets → length octets ≤ 6 → number_after 0 octets < 2 ^ 64
+number_fits : (octets : List ℕ) → IsBytes octets → length octets ≤ 8 → number_after 0 octets < 2 ^ 64
 number_fits [] bytes few = omega arith
 number_fits (a ∷ []) bytes few = let p = bytes 0 in omega arith
 number_fits (a ∷ b ∷ []) bytes few = let p = bytes 0 in let q = bytes 1 in omega arith
@@ -88,7 +88,11 @@ number_fits (a ∷ b ∷ c ∷ d ∷ []) bytes few = let p = bytes 0 in let q = 
 number_fits (a ∷ b ∷ c ∷ d ∷ e ∷ []) bytes few = let p = bytes 0 in let q = bytes 1 in let r = bytes 2 in let s = bytes 3 in let t = bytes 4 in omega arith
 number_fits (a ∷ b ∷ c ∷ d ∷ e ∷ f ∷ []) bytes few =
     let p = bytes 0 in let q = bytes 1 in let r = bytes 2 in let s = bytes 3 in let t = bytes 4 in let u = bytes 5 in omega arith
-number_fits (a ∷ b ∷ c ∷ d ∷ e ∷ f ∷ g ∷ octets) bytes few = absurd (omega arith)
+number_fits (a ∷ b ∷ c ∷ d ∷ e ∷ f ∷ g ∷ []) bytes few =
+    let p = bytes 0 in let q = bytes 1 in let r = bytes 2 in let s = bytes 3 in let t = bytes 4 in let u = bytes 5 in let v = bytes 6 in omega arith
+number_fits (a ∷ b ∷ c ∷ d ∷ e ∷ f ∷ g ∷ h ∷ []) bytes few =
+    let p = bytes 0 in let q = bytes 1 in let r = bytes 2 in let s = bytes 3 in let t = bytes 4 in let u = bytes 5 in let v = bytes 6 in let w = bytes 7 in omega arith
+number_fits (a ∷ b ∷ c ∷ d ∷ e ∷ f ∷ g ∷ h ∷ i ∷ octets) bytes few = absurd (omega arith)
 
 two_fit : (octets : List ℕ) → IsBytes octets → length octets ≡ 2 → number_after 0 octets < 2 ^ 16
 two_fit [] bytes size = absurd (omega arith)
@@ -96,8 +100,13 @@ two_fit (a ∷ []) bytes size = absurd (omega arith)
 two_fit (a ∷ b ∷ []) bytes size = let p = bytes 0 in let q = bytes 1 in omega arith
 two_fit (a ∷ b ∷ c ∷ octets) bytes size = absurd (omega arith)
 
-number_text_split : (octets text : List ℕ) → IsBytes octets → length octets ≤ 6 → Some (decimal (number_after 0 octets)) ≡ Some text → HasText false text
+number_text_split : (octets text : List ℕ) → IsBytes octets → length octets ≤ 8 → Some (decimal (number_after 0 octets)) ≡ Some text → HasText false text
 number_text_split octets text bytes few e = one_text (decimal (number_after 0 octets)) text (decimal_word (number_after 0 octets) (number_fits octets bytes few)) e
+
+-- a scheme
+scheme_word : (b : Bool) (n : ℕ) → n < 2 ^ 64 → IsWord (if b then codes "NOTIFY" else decimal n)
+scheme_word true n small = tag_word (codes "NOTIFY") refl
+scheme_word false n small = decimal_word n small
 
 -- record types of bit maps
 first_bit : (b : Bool) (first most : ℕ) → first < most → All (λ n. n < most) (if b then first ∷ [] else [])
@@ -201,6 +210,11 @@ octets_has kinds.Number8 octets text h e = let size = h.1 in number_text_split o
 octets_has kinds.Number16 octets text h e = let size = h.1 in number_text_split octets text h.0 (omega arith) e
 octets_has kinds.Number32 octets text h e = let size = h.1 in number_text_split octets text h.0 (omega arith) e
 octets_has kinds.Number48 octets text h e = let size = h.1 in number_text_split octets text h.0 (omega arith) e
+octets_has kinds.Number64 octets text h e = let size = h.1 in number_text_split octets text h.0 (omega arith) e
+octets_has kinds.Scheme octets text h e =
+    let size = h.1 in
+    let n = number_after 0 octets in
+    one_text (scheme_text n) text (scheme_word (n == 1) n (number_fits octets h.0 (omega arith))) e
 octets_has kinds.Seconds octets text h e = let size = h.1 in number_text_split octets text h.0 (omega arith) e
 octets_has kinds.Time octets text h e =
     one_text (time_text (number_after 0 octets)) text (time_word (number_after 0 octets)) (if_some (nat_lt (number_after 0 octets) (2 ^ 32)) (time_text (number_after 0 octets)) text e).1

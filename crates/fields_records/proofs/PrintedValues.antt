@@ -1,22 +1,24 @@
 -- What is printed of a value of one word: it is a word, reads back, and isn't `\#`.
-use Rattle.std.proofs.Common.{◌≡◌, ℕ, suc, ◌<◌, ◌≤◌, ◌^◌, Bool, true, false, Some, List, ◌∷◌, length, decimal, refl, sym, subst, arith, inl}
-use Rattle.std.specs.Prelude.{◌==◌, nat_lt}
+use Rattle.std.proofs.Common.{◌≡◌, ℕ, suc, ◌<◌, ◌≤◌, ◌^◌, Bool, true, false, Some, List, ◌∷◌, length, decimal, refl, sym, ap, ◌∙◌, subst, arith, inl, inr}
+use Rattle.std.specs.Prelude.{◌==◌, codes, if◌then◌else◌, nat_lt}
 use Rattle.std.specs.Net.Addr.{segments_of}
 use Rattle.std.specs.Net.Grammar.{IsDotted}
 use Rattle.std.specs.Net.Text.{ipv4_text, ipv6_text}
 use Rattle.std.proofs.NetLemmas.Texts.{IsDotted-ipv4_text}
 use Rattle.std.proofs.lemmas.Fmt.{decimal_is_IsNumeral}
+use Rattle.std.proofs.lemmas.Bool.{eqb-true}
 use Rattle.std.proofs.lemmas.Option.{same_Some}
 use Rattle.hex.specs.Hex.{IsBytes}
 use Rattle.dns_name.specs.Names.{IsName, Labels, uncompressed}
 use Rattle.fields_plain.specs.EuiTexts.{eui_text}
 use Rattle.fields_plain.specs.LocatorWords.{locator_text, IsLocatorWord}
 use Rattle.fields_text.specs.Base32.{base32_text}
+use Rattle.fields_text.specs.Base32Words.{last_octets}
 use Rattle.fields_text.specs.String.{is_tag, quoted}
 use Rattle.fields_text.specs.Strings.{SpellsString}
 use Rattle.fields_plain.specs.Time.{time_text}
 use Rattle.fields_table.specs.Values.{number_after}
-use Rattle.fields_records.specs.FieldTexts.{ipv4_of, ipv6_of, text_if, text_of_any}
+use Rattle.fields_records.specs.FieldTexts.{ipv4_of, ipv6_of, scheme_text, text_if, text_of_any}
 use Rattle.fields_plain.specs.Salts.{salt_text, IsHash, IsSalt}
 use Rattle.fields_plain.specs.TypeNames.{type_word}
 use Rattle.fields_plain.specs.ZoneNames.{zone_name_text}
@@ -26,7 +28,7 @@ use Rattle.fields_plain.specs.NameWords.{IsNameWord}
 use Rattle.fields_text.proofs.theory.ByteLemmas.{labels_of_octets}
 use Rattle.fields_text.specs.LineWords.{IsWord}
 use Rattle.fields_text.specs.LengthOctets.{counted}
-use Rattle.fields_records.specs.FieldWords.{IsNumberIn, IsString, IsTagWord}
+use Rattle.fields_records.specs.FieldWords.{IsNumberIn, IsSchemeWord, IsString, IsTagWord}
 use Rattle.fields_plain.specs.TimeWords.{IsTime}
 use Rattle.fields_plain.specs.TypeWords.{IsType}
 use Rattle.fields_records.proofs.MarkedWords.{number_differs, type_differs}
@@ -79,6 +81,25 @@ module _ (laws : PrintedLaws) where
         reads = (n, (numeral.0, numeral.1), small, number_octets size octets sized bytes);
         unmarked = number_differs (decimal n) n (numeral.0, numeral.1);
       })
+
+  -- a scheme, by whether its number is 1
+  scheme_by : (b : Bool) (octets text : List ℕ) → (number_after 0 octets == 1) ≡ b → length octets ≡ 1 → IsBytes octets
+      → Some (if b then codes "NOTIFY" else decimal (number_after 0 octets)) ≡ Some text → Printed IsSchemeWord octets text
+  unfolding last_octets
+  scheme_by true octets text test sized bytes e =
+      let one = eqb-true (number_after 0 octets) 1 test in
+      as_text IsSchemeWord octets (codes "NOTIFY") text e (record {
+        is_word = tag_words (codes "NOTIFY") refl;
+        reads = inl (refl, number_octets 1 octets sized bytes ∙ ap (last_octets 1) one);
+        unmarked = tag_unmarked (codes "NOTIFY") refl;
+      })
+  scheme_by false octets text test sized bytes e =
+      let printed = number_printed 1 octets text (omega arith) sized bytes e in
+      record { is_word = printed.is_word; reads = inr printed.reads; unmarked = printed.unmarked }
+
+  -- The text that is printed of a scheme is one word, is read as the same octets, and isn't `\#`.
+  pub scheme_printed : (octets text : List ℕ) → length octets ≡ 1 → IsBytes octets → Some (scheme_text (number_after 0 octets)) ≡ Some text → Printed IsSchemeWord octets text
+  scheme_printed octets text sized bytes e = scheme_by (number_after 0 octets == 1) octets text refl sized bytes e
 
   -- The text that is printed of a time is one word, is read as the same octets, and isn't `\#`.
   pub time_printed : (octets text : List ℕ) → length octets ≡ 4 → IsBytes octets → text_if (nat_lt (number_after 0 octets) (2 ^ 32))

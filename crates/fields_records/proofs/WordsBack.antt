@@ -31,7 +31,7 @@ use Rattle.fields_records.proofs.FieldShapes.{of_counted, of_fixed, of_name, of_
 use Rattle.fields_records.proofs.MarkedWords.{number_differs}
 use Rattle.fields_plain.proofs.theory.SizedLaws.{number_read}
 use Rattle.fields_records.proofs.PrintedLaws.{PrintedLaws}
-use Rattle.fields_records.proofs.PrintedValues.{Printed, eui_printed, hash_printed, ipv4_printed, ipv6_printed, locator_printed, name_printed, number_printed, salt_printed, string_printed, tag_printed, text_printed, time_printed, type_printed}
+use Rattle.fields_records.proofs.PrintedValues.{Printed, eui_printed, hash_printed, ipv4_printed, ipv6_printed, locator_printed, name_printed, number_printed, salt_printed, scheme_printed, string_printed, tag_printed, text_printed, time_printed, type_printed}
 use Rattle.fields_records.proofs.PrintedFieldWords.{any_some}
 use Rattle.fields_records.proofs.StringLists.{first_quoted, string_list_back}
 use Rattle.fields_records.proofs.Unmarked.{Unmarked, base64_unmarked as base64_text_unmarked, hex_unmarked, quoted_unmarked}
@@ -82,6 +82,10 @@ module _ (laws : PrintedLaws) where
       of_fixed (IsPrinted kinds.Number32 text) 4 (λ octets sized parts bytes e. number_printed laws 4 octets text (omega arith) sized bytes e) part is.0 is.1 is.2 e
   word_printed kinds.Number48 part text one is e =
       of_fixed (IsPrinted kinds.Number48 text) 6 (λ octets sized parts bytes e. number_printed laws 6 octets text (omega arith) sized bytes e) part is.0 is.1 is.2 e
+  word_printed kinds.Number64 part text one is e =
+      of_fixed (IsPrinted kinds.Number64 text) 8 (λ octets sized parts bytes e. number_printed laws 8 octets text (omega arith) sized bytes e) part is.0 is.1 is.2 e
+  word_printed kinds.Scheme part text one is e =
+      of_fixed (IsPrinted kinds.Scheme text) 1 (λ octets sized parts bytes e. scheme_printed laws octets text sized bytes e) part is.0 is.1 is.2 e
   word_printed kinds.Seconds part text one is e =
       of_fixed (IsPrinted kinds.Seconds text) 4 (λ octets sized parts bytes e. number_printed laws 4 octets text (omega arith) sized bytes e) part is.0 is.1 is.2 e
   word_printed kinds.Time part text one is e =

@@ -1,5 +1,5 @@
 -- Fields in presentation format. RFC 1035 section 5.1.
-use Rattle.std.specs.Prelude.{ℕ, ◌==◌, ◌^◌, nat_lt, Bool, true, false, if◌then◌else◌, Option, Some, None, option_map, List, [], ◌∷◌, ◌++◌, length, codes, decimal}
+use Rattle.std.specs.Prelude.{ℕ, ◌==◌, ◌^◌, nat_lt, Bool, true, false, if◌then◌else◌, Option, Some, None, option_map, List, [], ◌∷◌, length, codes, decimal}
 use Rattle.std.specs.List.{flat_map}
 use Rattle.std.specs.Fmt.{◌++?◌}
 use Rattle.std.specs.Net.Addr.{segments_of}
@@ -58,9 +58,14 @@ octets_text kinds.Relay octets = relay_text octets
 octets_text kinds.HostIdentity octets = identity_text octets
 octets_text kind octets = None
 
+-- a scheme of notifications. RFC 9859 section 2.2
+abbrev pub scheme_text : ℕ → List ℕ
+scheme_text n = if n == 1 then codes "NOTIFY" else decimal n
+
 -- a number, which is a time of 32 bits for some fields. RFC 4034 section 3.2
 abbrev pub number_text : Kind → ℕ → Option (List ℕ)
 number_text kinds.Time n = text_if (nat_lt n (2 ^ 32)) (time_text n)
+number_text kinds.Scheme n = Some (scheme_text n)
 number_text kind n = Some (decimal n)
 
 -- a string; strings of some kinds print without quotes
@@ -94,6 +99,8 @@ always_has_text kinds.Number8 = true
 always_has_text kinds.Number16 = true
 always_has_text kinds.Number32 = true
 always_has_text kinds.Number48 = true
+always_has_text kinds.Number64 = true
+always_has_text kinds.Scheme = true
 always_has_text kinds.Seconds = true
 always_has_text kinds.Ipv4 = true
 always_has_text kinds.Ipv6 = true

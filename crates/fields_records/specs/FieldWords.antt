@@ -1,5 +1,5 @@
 -- Words that represent a field of record data. RFC 1035 section 5.1; the RFC of each form of word is beside its definition.
-use Rattle.std.specs.Prelude.{◌≡◌, ◌≢◌, ℕ, ◌<◌, ◌≤◌, ◌^◌, true, List, [], ◌∷◌, ◌++◌, length}
+use Rattle.std.specs.Prelude.{◌≡◌, ◌≢◌, ◌⊎◌, ℕ, ◌<◌, ◌≤◌, ◌^◌, true, List, [], ◌∷◌, ◌++◌, codes, length}
 use Rattle.std.specs.Borrow.{Bor}
 use Rattle.std.specs.Net.Grammar.{IsDotted, IsNumber}
 use Rattle.fields_table.specs.declared.kind.Kind.{Kind}
@@ -34,6 +34,10 @@ Words = List (Bor (List ℕ))
 abbrev pub IsNumberIn : ℕ → List ℕ → List ℕ → Type 0
 IsNumberIn size word octets = (n : ℕ) × IsNumber 10 word n × (n < 256 ^ size) × (octets ≡ last_octets size n)
 
+-- a scheme of notifications: the mnemonic of 1, or a number. RFC 9859 section 2.2
+abbrev pub IsSchemeWord : List ℕ → List ℕ → Type 0
+IsSchemeWord word octets = ((word ≡ codes "NOTIFY") × (octets ≡ 1 ∷ [])) ⊎ IsNumberIn 1 word octets
+
 -- a character string. RFC 1035 section 3.3
 abbrev pub IsString : List ℕ → List ℕ → Type 0
 IsString word octets = (string : List ℕ) × SpellsString word string × (length string ≤ 255) × (octets ≡ counted string)
@@ -54,6 +58,8 @@ IsFieldWord kinds.Number8 word octets = IsNumberIn 1 word octets
 IsFieldWord kinds.Number16 word octets = IsNumberIn 2 word octets
 IsFieldWord kinds.Number32 word octets = IsNumberIn 4 word octets
 IsFieldWord kinds.Number48 word octets = IsNumberIn 6 word octets
+IsFieldWord kinds.Number64 word octets = IsNumberIn 8 word octets
+IsFieldWord kinds.Scheme word octets = IsSchemeWord word octets
 IsFieldWord kinds.Seconds word octets = IsNumberIn 4 word octets
 IsFieldWord kinds.Time word octets = IsTime word octets
 IsFieldWord kinds.Ipv4 word octets = IsDotted word octets

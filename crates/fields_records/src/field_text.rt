@@ -3,7 +3,7 @@ ghost use Rattle.std.specs.Prelude.{OnErr, OnSome, ◌≡◌, IfSome, is_some};
 ghost use Rattle.fields_table.specs.Values.{value_shown};
 ghost use Rattle.fields_table.specs.declared.kind.Kind.TheVariants as Kind;
 ghost use Rattle.dns_print.specs.Printing.{PrintsOnOk};
-ghost use Rattle.fields_records.specs.FieldTexts.{always_has_text, begins_with_space, ipv4_of, ipv6_of, number_text, octets_text, string_text, value_text};
+ghost use Rattle.fields_records.specs.FieldTexts.{always_has_text, begins_with_space, ipv4_of, ipv6_of, number_text, octets_text, scheme_text, string_text, value_text};
 ghost use Rattle.fields_forms.specs.GatewayTexts.{gateway_text, relay_text};
 ghost use Rattle.fields_forms.specs.HostIdentities.{identity_text};
 
@@ -84,6 +84,8 @@ pub(crate) fn always_has_text(kind: Kind) -> bool
             | Kind::Number16
             | Kind::Number32
             | Kind::Number48
+            | Kind::Number64
+            | Kind::Scheme
             | Kind::Seconds
             | Kind::Ipv4
             | Kind::Ipv6
@@ -242,6 +244,18 @@ fn write_time<W: TextWriter>(f: &mut W, number: u64) -> fmt::Result
     }
 }
 
+/// Prints a scheme of notifications.
+#[tactic(auto, using(dns_print::proofs::theory::Prints::prints, std::proofs::lemmas::Grind::common_steps))]
+fn write_scheme<W: TextWriter>(f: &mut W, number: u64) -> fmt::Result
+    ensures text { PrintsOnOk W.takes f.old result (scheme_text number) f.new }
+    ensures err { OnErr result W.MayFail }
+{
+    if number == 1 {
+        return f.write_text("NOTIFY");
+    }
+    dns_print::write_number(f, number)
+}
+
 /// Prints a number by the kind of its field.
 fn write_number<W: TextWriter>(f: &mut W, kind: Kind, number: u64) -> fmt::Result
     ensures text { IfSome (number_text kind number)
@@ -250,6 +264,7 @@ fn write_number<W: TextWriter>(f: &mut W, kind: Kind, number: u64) -> fmt::Resul
 {
     match kind {
         Kind::Time => write_time(f, number),
+        Kind::Scheme => write_scheme(f, number),
         _ => dns_print::write_number(f, number),
     }
 }

@@ -1,6 +1,6 @@
 //! Fields that are one word (RFC 1035 section 5.1).
 ghost use Rattle.std.specs.Prelude.{◌≡◌, ◌+◌, ◌^◌};
-ghost use Rattle.fields_records.specs.FieldWords.{IsNumberIn, IsString, IsTagWord, IsFieldWord};
+ghost use Rattle.fields_records.specs.FieldWords.{IsNumberIn, IsSchemeWord, IsString, IsTagWord, IsFieldWord};
 ghost use Rattle.fields_text.specs.Reading.{AppendsOctets};
 
 use arrayvec::ArrayVec;
@@ -24,6 +24,16 @@ fn push_number(octets: &mut Vec<u8>, word: &str, size: u8, most: u64) -> Result<
         Some(number) => push_last(octets, size, number),
         None => Err(TextError::BadWord),
     }
+}
+
+/// Appends a scheme of notifications: its mnemonic, or its number (RFC 9859 section 2.2).
+fn push_scheme(octets: &mut Vec<u8>, word: &str) -> Result<(), TextError>
+    ensures { AppendsOctets (IsSchemeWord word.now) octets.old.items octets.new.items result }
+{
+    if word == "NOTIFY" {
+        return push_last(octets, 1, 1);
+    }
+    push_number(octets, word, 1, 0xff)
 }
 
 /// Appends a character string.
@@ -66,6 +76,8 @@ pub(crate) fn push_word(
         Kind::Number16 => push_number(octets, word, 2, 0xffff),
         Kind::Number32 | Kind::Seconds => push_number(octets, word, 4, 0xffff_ffff),
         Kind::Number48 => push_number(octets, word, 6, 0xffff_ffff_ffff),
+        Kind::Number64 => push_number(octets, word, 8, u64::MAX),
+        Kind::Scheme => push_scheme(octets, word),
         Kind::Time => push_time(octets, word),
         Kind::Ipv4 => push_ipv4(octets, word),
         Kind::Ipv6 => push_ipv6(octets, word),

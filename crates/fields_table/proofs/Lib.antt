@@ -9,6 +9,8 @@ mod OrderedData
 mod OwnedCopies
 mod OwnOrders
 mod OwnTypes
+mod RangeLemmas
+mod RowLemmas
 mod Skipped
 mod SkipSteps
 mod TableLemmas

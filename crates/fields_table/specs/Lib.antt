@@ -18,7 +18,9 @@ pub mod OwnedData
 pub mod OwnedFields
 pub mod OwnOrders
 pub mod OwnTypes
+pub mod Ranges
 pub mod RecordTypes
+pub mod Rows
 pub mod Shapes
 pub mod Skipping
 pub mod Table

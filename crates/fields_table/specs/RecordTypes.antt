@@ -2,7 +2,7 @@
 use Prim.Native.String.{String}
 use Rattle.std.specs.Prelude.{ℕ, List, [], ◌∷◌, codes}
 use Rattle.fields_table.specs.declared.kind.Kind.{Kind}
-use Rattle.fields_table.specs.declared.kind.Kind.TheVariants.{Number8, Number16, Number32, Number48, Seconds, Time, Ipv4, Ipv6, Eui48, Eui64, Locator64, RecordType, CompressibleName, PointedName, LowercasedName, PlainName, CharacterString, Tag, Salt, Hash, SizedOctets, Strings, Text, Hexadecimal, Base64, TypeBitMap, SmallTypeBitMap, ServiceParameters, AddressPrefixes, Location, GatewayAndKey, Relay, HostIdentity, Opaque}
+use Rattle.fields_table.specs.declared.kind.Kind.TheVariants.{Number8, Number16, Number32, Number48, Number64, Scheme, Seconds, Time, Ipv4, Ipv6, Eui48, Eui64, Locator64, RecordType, CompressibleName, PointedName, LowercasedName, PlainName, CharacterString, Tag, Salt, Hash, SizedOctets, Strings, Text, Hexadecimal, Base64, TypeBitMap, SmallTypeBitMap, ServiceParameters, AddressPrefixes, Location, GatewayAndKey, Relay, HostIdentity, Opaque}
 
 -- the definition of a field: its name and its kind
 abbrev pub Definition : Type 0
@@ -58,8 +58,12 @@ record_types =
     ∷ row 17 "RP" (field "mbox-dname" PointedName ∷ field "txt-dname" PointedName ∷ [])
     -- RFC 1183 section 1
     ∷ row 18 "AFSDB" (field "subtype" Number16 ∷ field "hostname" PointedName ∷ [])
+    -- RFC 1183 section 3.1
+    ∷ row 19 "X25" (field "psdn-address" CharacterString ∷ [])
     -- RFC 1183 section 3.3
     ∷ row 21 "RT" (field "preference" Number16 ∷ field "intermediate-host" PointedName ∷ [])
+    -- RFC 1706 section 6
+    ∷ row 23 "NSAP-PTR" (field "owner" PlainName ∷ [])
     -- RFC 2535 section 4.1
     ∷ row 24 "SIG" (field "type-covered" RecordType ∷ field "algorithm" Number8 ∷ field "labels" Number8 ∷ field "original-ttl" Seconds ∷ field "expiration"
     Time ∷ field "inception" Time ∷ field "key-tag" Number16 ∷ field "signer" PointedName ∷ field "signature" Base64 ∷ [])
@@ -67,12 +71,18 @@ record_types =
     ∷ row 25 "KEY" (field "flags" Number16 ∷ field "protocol" Number8 ∷ field "algorithm" Number8 ∷ field "public-key" Base64 ∷ [])
     -- RFC 2163 section 4
     ∷ row 26 "PX" (field "preference" Number16 ∷ field "map822" PointedName ∷ field "mapx400" PointedName ∷ [])
+    -- RFC 1712 section 3
+    ∷ row 27 "GPOS" (field "longitude" CharacterString ∷ field "latitude" CharacterString ∷ field "altitude" CharacterString ∷ [])
     -- RFC 3596 section 2.2
     ∷ row 28 "AAAA" (field "address" Ipv6 ∷ [])
     -- RFC 1876 section 2
     ∷ row 29 "LOC" (field "location" Location ∷ [])
     -- RFC 2535 section 5.2
     ∷ row 30 "NXT" (field "next" PointedName ∷ field "types" SmallTypeBitMap ∷ [])
+    -- the Nimrod proposal that the IANA registry names
+    ∷ row 31 "EID" (field "identifier" Hexadecimal ∷ [])
+    -- the Nimrod proposal that the IANA registry names
+    ∷ row 32 "NIMLOC" (field "locator" Hexadecimal ∷ [])
     -- RFC 2782
     ∷ row 33 "SRV" (field "priority" Number16 ∷ field "weight" Number16 ∷ field "port" Number16 ∷ field "target" PointedName ∷ [])
     -- RFC 3403 section 4.1
@@ -112,6 +122,10 @@ record_types =
     -- RFC 8005 section 5
     ∷ row 55 "HIP" (field "identity" HostIdentity ∷ [])
     -- the template of the IANA registry
+    ∷ row 56 "NINFO" (field "zs-data" Strings ∷ [])
+    -- the template of the IANA registry
+    ∷ row 57 "RKEY" (field "flags" Number16 ∷ field "protocol" Number8 ∷ field "algorithm" Number8 ∷ field "public-key" Base64 ∷ [])
+    -- the template of the IANA registry
     ∷ row 58 "TALINK" (field "previous" PlainName ∷ field "next" PlainName ∷ [])
     -- RFC 7344 section 3.1
     ∷ row 59 "CDS" (field "key-tag" Number16 ∷ field "algorithm" Number8 ∷ field "digest-type" Number8 ∷ field "digest" Hexadecimal ∷ [])
@@ -127,6 +141,12 @@ record_types =
     ∷ row 64 "SVCB" (field "priority" Number16 ∷ field "target" PlainName ∷ field "parameters" ServiceParameters ∷ [])
     -- RFC 9460 section 9
     ∷ row 65 "HTTPS" (field "priority" Number16 ∷ field "target" PlainName ∷ field "parameters" ServiceParameters ∷ [])
+    -- RFC 9859 section 2.1
+    ∷ row 66 "DSYNC" (field "type" RecordType ∷ field "scheme" Scheme ∷ field "port" Number16 ∷ field "target" PlainName ∷ [])
+    -- RFC 9886 section 5.1
+    ∷ row 67 "HHIT" (field "data" Base64 ∷ [])
+    -- RFC 9886 section 5.2
+    ∷ row 68 "BRID" (field "data" Base64 ∷ [])
     -- RFC 4408 section 3.1.1
     ∷ row 99 "SPF" (field "txt-data" Strings ∷ [])
     -- RFC 6742 section 2.1
@@ -153,10 +173,20 @@ record_types =
     ∷ row 257 "CAA" (field "flags" Number8 ∷ field "tag" Tag ∷ field "value" Text ∷ [])
     -- the template of the IANA registry
     ∷ row 258 "AVC" (field "txt-data" Strings ∷ [])
+    -- the draft that the IANA registry names
+    ∷ row 259 "DOA" (field "enterprise" Number32 ∷ field "type" Number32 ∷ field "location" Number8 ∷ field "media-type" CharacterString ∷ field "data" Base64 ∷ [])
     -- RFC 8777 section 4.2
     ∷ row 260 "AMTRELAY" (field "precedence" Number8 ∷ field "relay" Relay ∷ [])
     -- RFC 9606 section 4
     ∷ row 261 "RESINFO" (field "txt-data" Strings ∷ [])
     -- the template of the IANA registry
     ∷ row 262 "WALLET" (field "txt-data" Strings ∷ [])
+    -- the draft that the IANA registry names
+    ∷ row 263 "CLA" (field "cla-data" Strings ∷ [])
+    -- the draft that the IANA registry names
+    ∷ row 264 "IPN" (field "node" Number64 ∷ [])
+    -- the template of the IANA registry
+    ∷ row 32768 "TA" (field "key-tag" Number16 ∷ field "algorithm" Number8 ∷ field "digest-type" Number8 ∷ field "digest" Hexadecimal ∷ [])
+    -- RFC 4431 section 2
+    ∷ row 32769 "DLV" (field "key-tag" Number16 ∷ field "algorithm" Number8 ∷ field "digest-type" Number8 ∷ field "digest" Hexadecimal ∷ [])
     ∷ []

@@ -5,7 +5,6 @@ use Rattle.std.specs.Borrow.{Bor}
 use Rattle.fields_table.specs.RecordTypes.{TypeDefinition, record_types}
 use Rattle.fields_table.specs.declared.kind.Kind.{Kind}
 use Rattle.fields_table.specs.declared.kind.Kind.TheVariants.{Opaque}
-use Rattle.fields_table.specs.declared.table.TheConstants.{TABLE}
 
 -- a field of the table: its name and its kind
 abbrev pub Field : Type 0
@@ -25,13 +24,13 @@ kinds_in ds = map (λ d. d.1) ds
 abbrev pub kinds : List Field → List Kind
 kinds fields = kinds_in (definitions fields)
 
+-- the definition in a row
+abbrev pub type_of : Row → TypeDefinition
+type_of row = record { number = row.0; mnemonic = row.1.now; fields = definitions row.2.now }
+
 -- the definitions of these record types
 abbrev pub types_in : List Row → List TypeDefinition
-types_in rows = map (λ row. record { number = row.0; mnemonic = row.1.now; fields = definitions row.2.now }) rows
-
--- the definitions of the record types in `TABLE`
-unfoldable pub table_types : List TypeDefinition
-table_types = map (λ row. record { number = row.0; mnemonic = row.1.now; fields = map (λ f. (f.0.now, f.1)) row.2.now }) TABLE.now
+types_in rows = map type_of rows
 
 -- whether the numbers of the rows increase, and each is at least `least`
 abbrev pub are_above : ℕ → List Row → Bool

@@ -11,6 +11,10 @@ pub enum Kind {
     Number32,
     /// A number of 48 bits (RFC 8945 section 4.2).
     Number48,
+    /// A number of 64 bits.
+    Number64,
+    /// A scheme of notifications, of 8 bits: NOTIFY for 1, else a number (RFC 9859 section 2.2).
+    Scheme,
     /// A number of seconds, of 32 bits.
     Seconds,
     /// A time: seconds since 1970 of 32 bits, printed as date and time (RFC 4034 section 3.2).

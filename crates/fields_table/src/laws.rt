@@ -7,18 +7,20 @@ ghost use Rattle.dns_iana.specs.Registry.{registered_types};
 ghost use Rattle.fields_table.specs.Layouts.{rest_is_last};
 ghost use Rattle.fields_table.specs.MadeData.{MadePartsReadBack};
 ghost use Rattle.fields_table.specs.NamesOfTypes.{types_with, may_be_compressed, may_have_pointer, is_lowercased};
+ghost use Rattle.fields_table.specs.Ranges.{table_types};
 ghost use Rattle.fields_table.specs.RecordTypes.{record_types};
-ghost use Rattle.fields_table.specs.Table.{kinds_in, table_types};
+ghost use Rattle.fields_table.specs.Table.{kinds_in};
 
 use crate::encoded::Encoded;
 use crate::field_data::FieldData;
 use crate::fields::{Field, Fields};
 use crate::kind::Kind;
+use crate::rows::RecordTypes;
 use crate::shape::Shape;
 use crate::value::Value;
 
-/// `TABLE` has the record types of `specs/RecordTypes.antt`: their numbers, mnemonics and fields.
-#[tactic(auto, unfolding(crate::specs::Table::table_types, crate::specs::RecordTypes::record_types))]
+/// The table has the record types of `specs/RecordTypes.antt`: their numbers, mnemonics and fields.
+#[tactic(auto, unfolding(crate::specs::Ranges::range_types, crate::specs::RecordTypes::record_types))]
 pub fn table_is_specified()
     ensures { table_types ≡ record_types }
 {}
@@ -70,6 +72,7 @@ pub fn field_clones()
     ensures field { (a b : _) → ⟦<Field<'static> as Clone>⟧.is_clone a b → b ≡ a }
     ensures fields { (a b : _) → ⟦<Fields<'static> as Clone>⟧.is_clone a b → b ≡ a }
     ensures record_data { (a b : _) → ⟦<FieldData<'static> as Clone>⟧.is_clone a b → b ≡ a }
+    ensures types { (a b : _) → ⟦<RecordTypes as Clone>⟧.is_clone a b → b ≡ a }
 {}
 
 /// Cloning these values never fails.
@@ -81,4 +84,5 @@ pub fn field_clones_never_fail()
     ensures field { (a : _) → ⟦<Field<'static> as Clone>⟧.is_infallible a }
     ensures fields { (a : _) → ⟦<Fields<'static> as Clone>⟧.is_infallible a }
     ensures record_data { (a : _) → ⟦<FieldData<'static> as Clone>⟧.is_infallible a }
+    ensures types { (a : _) → ⟦<RecordTypes as Clone>⟧.is_infallible a }
 {}

@@ -28,11 +28,11 @@ impl Kind {
         ensures { result ≡ shape_of self }
     {
         match self {
-            Kind::Number8 => Shape::Octets(1),
+            Kind::Number8 | Kind::Scheme => Shape::Octets(1),
             Kind::Number16 | Kind::RecordType => Shape::Octets(2),
             Kind::Number32 | Kind::Seconds | Kind::Time | Kind::Ipv4 => Shape::Octets(4),
             Kind::Number48 | Kind::Eui48 => Shape::Octets(6),
-            Kind::Eui64 | Kind::Locator64 => Shape::Octets(8),
+            Kind::Number64 | Kind::Eui64 | Kind::Locator64 => Shape::Octets(8),
             Kind::Ipv6 | Kind::Location => Shape::Octets(16),
             Kind::CompressibleName => Shape::Name,
             Kind::PointedName => Shape::UncompressedName(true, true),

@@ -4,12 +4,16 @@ ghost use Rattle.fields_table.specs.Table.{are_above, definitions, definitions_o
 
 use crate::kind::Kind::{self, *};
 use crate::laws::table_is_specified;
+use crate::range::TypeRange;
+
+/// A record type of the table: its number, its mnemonic, and its fields in order.
+pub type Row = (u16, &'static str, &'static [(&'static str, Kind)]);
 
 /// The fields of a type that isn't in the table: its RDATA as octets.
 pub const OPAQUE: &[(&str, Kind)] = &[("data", Opaque)];
 
-/// The record types with known fields: number, mnemonic, and fields in order. Numbers increase.
-pub const TABLE: &[(u16, &str, &[(&str, Kind)])] = &[
+/// The record types with the numbers 1 to 23.
+pub(crate) const TYPES_FROM_1: &[Row] = &[
     // RFC 1035 section 3.4.1
     (1, "A", &[("address", Ipv4)]),
     // RFC 1035 section 3.3.11
@@ -76,12 +80,20 @@ pub const TABLE: &[(u16, &str, &[(&str, Kind)])] = &[
         "AFSDB",
         &[("subtype", Number16), ("hostname", PointedName)],
     ),
+    // RFC 1183 section 3.1
+    (19, "X25", &[("psdn-address", CharacterString)]),
     // RFC 1183 section 3.3
     (
         21,
         "RT",
         &[("preference", Number16), ("intermediate-host", PointedName)],
     ),
+    // RFC 1706 section 6
+    (23, "NSAP-PTR", &[("owner", PlainName)]),
+];
+
+/// The record types with the numbers 24 to 47.
+pub(crate) const TYPES_FROM_24: &[Row] = &[
     // RFC 2535 section 4.1
     (
         24,
@@ -119,6 +131,16 @@ pub const TABLE: &[(u16, &str, &[(&str, Kind)])] = &[
             ("mapx400", PointedName),
         ],
     ),
+    // RFC 1712 section 3
+    (
+        27,
+        "GPOS",
+        &[
+            ("longitude", CharacterString),
+            ("latitude", CharacterString),
+            ("altitude", CharacterString),
+        ],
+    ),
     // RFC 3596 section 2.2
     (28, "AAAA", &[("address", Ipv6)]),
     // RFC 1876 section 2
@@ -129,6 +151,10 @@ pub const TABLE: &[(u16, &str, &[(&str, Kind)])] = &[
         "NXT",
         &[("next", PointedName), ("types", SmallTypeBitMap)],
     ),
+    // the Nimrod proposal that the IANA registry names
+    (31, "EID", &[("identifier", Hexadecimal)]),
+    // the Nimrod proposal that the IANA registry names
+    (32, "NIMLOC", &[("locator", Hexadecimal)]),
     // RFC 2782
     (
         33,
@@ -219,6 +245,10 @@ pub const TABLE: &[(u16, &str, &[(&str, Kind)])] = &[
     ),
     // RFC 4034 section 4.1
     (47, "NSEC", &[("next", PlainName), ("types", TypeBitMap)]),
+];
+
+/// The record types with the numbers 48 to 98.
+pub(crate) const TYPES_FROM_48: &[Row] = &[
     // RFC 4034 section 2.1
     (
         48,
@@ -280,6 +310,19 @@ pub const TABLE: &[(u16, &str, &[(&str, Kind)])] = &[
     ),
     // RFC 8005 section 5
     (55, "HIP", &[("identity", HostIdentity)]),
+    // the template of the IANA registry
+    (56, "NINFO", &[("zs-data", Strings)]),
+    // the template of the IANA registry
+    (
+        57,
+        "RKEY",
+        &[
+            ("flags", Number16),
+            ("protocol", Number8),
+            ("algorithm", Number8),
+            ("public-key", Base64),
+        ],
+    ),
     // the template of the IANA registry
     (
         58,
@@ -351,6 +394,25 @@ pub const TABLE: &[(u16, &str, &[(&str, Kind)])] = &[
             ("parameters", ServiceParameters),
         ],
     ),
+    // RFC 9859 section 2.1
+    (
+        66,
+        "DSYNC",
+        &[
+            ("type", RecordType),
+            ("scheme", Scheme),
+            ("port", Number16),
+            ("target", PlainName),
+        ],
+    ),
+    // RFC 9886 section 5.1
+    (67, "HHIT", &[("data", Base64)]),
+    // RFC 9886 section 5.2
+    (68, "BRID", &[("data", Base64)]),
+];
+
+/// The record types with the numbers 99 and greater.
+pub(crate) const TYPES_FROM_99: &[Row] = &[
     // RFC 4408 section 3.1.1
     (99, "SPF", &[("txt-data", Strings)]),
     // RFC 6742 section 2.1
@@ -419,6 +481,18 @@ pub const TABLE: &[(u16, &str, &[(&str, Kind)])] = &[
     ),
     // the template of the IANA registry
     (258, "AVC", &[("txt-data", Strings)]),
+    // the draft that the IANA registry names
+    (
+        259,
+        "DOA",
+        &[
+            ("enterprise", Number32),
+            ("type", Number32),
+            ("location", Number8),
+            ("media-type", CharacterString),
+            ("data", Base64),
+        ],
+    ),
     // RFC 8777 section 4.2
     (
         260,
@@ -429,6 +503,32 @@ pub const TABLE: &[(u16, &str, &[(&str, Kind)])] = &[
     (261, "RESINFO", &[("txt-data", Strings)]),
     // the template of the IANA registry
     (262, "WALLET", &[("txt-data", Strings)]),
+    // the draft that the IANA registry names
+    (263, "CLA", &[("cla-data", Strings)]),
+    // the draft that the IANA registry names
+    (264, "IPN", &[("node", Number64)]),
+    // the template of the IANA registry
+    (
+        32768,
+        "TA",
+        &[
+            ("key-tag", Number16),
+            ("algorithm", Number8),
+            ("digest-type", Number8),
+            ("digest", Hexadecimal),
+        ],
+    ),
+    // RFC 4431 section 2
+    (
+        32769,
+        "DLV",
+        &[
+            ("key-tag", Number16),
+            ("algorithm", Number8),
+            ("digest-type", Number8),
+            ("digest", Hexadecimal),
+        ],
+    ),
 ];
 
 /// The fields of this record type, in order.
@@ -436,14 +536,11 @@ pub fn fields_of(rtype: u16) -> &'static [(&'static str, Kind)]
     ensures { definitions result.now ≡ definitions_of rtype }
 {
     table_is_specified();
-    fields_in(TABLE, rtype)
+    fields_in(TypeRange::of(rtype).rows(), rtype)
 }
 
 /// The fields of this record type by these rows of the table: a binary search.
-fn fields_in(
-    rows: &'static [(u16, &'static str, &'static [(&'static str, Kind)])],
-    rtype: u16,
-) -> &'static [(&'static str, Kind)]
+fn fields_in(rows: &'static [Row], rtype: u16) -> &'static [(&'static str, Kind)]
     requires { are_above 0 rows.now ≡ true }
     ensures { definitions result.now ≡ fields_in (types_in rows.now) rtype }
 {

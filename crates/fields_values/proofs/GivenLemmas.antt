@@ -124,32 +124,49 @@ all_octets_taken kinds.Number8 xs v octets sized bytes shown = number_taken kind
 all_octets_taken kinds.Number16 xs v octets sized bytes shown = number_taken kinds.Number16 2 xs v sized bytes shown
 all_octets_taken kinds.Number32 xs v octets sized bytes shown = number_taken kinds.Number32 4 xs v sized bytes shown
 all_octets_taken kinds.Number48 xs v octets sized bytes shown = number_taken kinds.Number48 6 xs v sized bytes shown
+all_octets_taken kinds.Number64 xs v octets sized bytes shown = number_taken kinds.Number64 8 xs v sized bytes shown
+all_octets_taken kinds.Scheme xs v octets sized bytes shown = number_taken kinds.Scheme 1 xs v sized bytes shown
 all_octets_taken kinds.Seconds xs v octets sized bytes shown = number_taken kinds.Seconds 4 xs v sized bytes shown
 all_octets_taken kinds.Time xs v octets sized bytes shown = number_taken kinds.Time 4 xs v sized bytes shown
 all_octets_taken kinds.Ipv4 xs v octets sized bytes shown = ipv4_taken xs v sized shown
 all_octets_taken kinds.Ipv6 xs v octets sized bytes shown = ipv6_taken xs v sized shown
 all_octets_taken kinds.Eui48 xs v octets sized bytes shown = octets_taken kinds.Eui48 (forms.Fixed 6) xs v (λ given same. (xs, refl, (subst (λ (ys : List ℕ). length ys ≡ 6) same sized, same))) shown
 all_octets_taken kinds.Eui64 xs v octets sized bytes shown = octets_taken kinds.Eui64 (forms.Fixed 8) xs v (λ given same. (xs, refl, (subst (λ (ys : List ℕ). length ys ≡ 8) same sized, same))) shown
-all_octets_taken kinds.Locator64 xs v octets sized bytes shown = octets_taken kinds.Locator64 (forms.Fixed 8) xs v (λ given same. (xs, refl, (subst (λ (ys : List ℕ). length ys ≡ 8) same sized, same))) shown
+all_octets_taken kinds.Locator64 xs v octets sized bytes shown =
+    octets_taken kinds.Locator64 (forms.Fixed 8) xs v (λ given same. (xs, refl, (subst (λ (ys : List ℕ). length ys ≡ 8) same sized, same))) shown
 all_octets_taken kinds.RecordType xs v octets sized bytes shown = type_taken xs v sized bytes shown
 all_octets_taken kinds.CharacterString xs v octets sized bytes shown = string_taken kinds.CharacterString xs v sized bytes shown
 all_octets_taken kinds.Tag xs v octets sized bytes shown = string_taken kinds.Tag xs v sized bytes shown
 all_octets_taken kinds.Salt xs v octets sized bytes shown = string_taken kinds.Salt xs v sized bytes shown
 all_octets_taken kinds.Hash xs v octets sized bytes shown = string_taken kinds.Hash xs v sized bytes shown
 all_octets_taken kinds.SizedOctets xs v octets sized bytes shown = sized_taken xs v sized bytes shown
-all_octets_taken kinds.Strings xs v octets sized bytes shown = octets_taken kinds.Strings (value_form kinds.Strings) xs v (λ given same. (xs, refl, (subst (λ (ys : List ℕ). accepts kinds.Strings ys ≡ true) same sized, same))) shown
-all_octets_taken kinds.Text xs v octets sized bytes shown = octets_taken kinds.Text (value_form kinds.Text) xs v (λ given same. (xs, refl, (subst (λ (ys : List ℕ). accepts kinds.Text ys ≡ true) same sized, same))) shown
-all_octets_taken kinds.Hexadecimal xs v octets sized bytes shown = octets_taken kinds.Hexadecimal (value_form kinds.Hexadecimal) xs v (λ given same. (xs, refl, (subst (λ (ys : List ℕ). accepts kinds.Hexadecimal ys ≡ true) same sized, same))) shown
-all_octets_taken kinds.Base64 xs v octets sized bytes shown = octets_taken kinds.Base64 (value_form kinds.Base64) xs v (λ given same. (xs, refl, (subst (λ (ys : List ℕ). accepts kinds.Base64 ys ≡ true) same sized, same))) shown
-all_octets_taken kinds.TypeBitMap xs v octets sized bytes shown = octets_taken kinds.TypeBitMap (value_form kinds.TypeBitMap) xs v (λ given same. (xs, refl, (subst (λ (ys : List ℕ). accepts kinds.TypeBitMap ys ≡ true) same sized, same))) shown
-all_octets_taken kinds.SmallTypeBitMap xs v octets sized bytes shown = octets_taken kinds.SmallTypeBitMap (value_form kinds.SmallTypeBitMap) xs v (λ given same. (xs, refl, (subst (λ (ys : List ℕ). accepts kinds.SmallTypeBitMap ys ≡ true) same sized, same))) shown
-all_octets_taken kinds.ServiceParameters xs v octets sized bytes shown = octets_taken kinds.ServiceParameters (value_form kinds.ServiceParameters) xs v (λ given same. (xs, refl, (subst (λ (ys : List ℕ). accepts kinds.ServiceParameters ys ≡ true) same sized, same))) shown
-all_octets_taken kinds.AddressPrefixes xs v octets sized bytes shown = octets_taken kinds.AddressPrefixes (value_form kinds.AddressPrefixes) xs v (λ given same. (xs, refl, (subst (λ (ys : List ℕ). accepts kinds.AddressPrefixes ys ≡ true) same sized, same))) shown
-all_octets_taken kinds.Location xs v octets sized bytes shown = octets_taken kinds.Location (forms.Fixed 16) xs v (λ given same. (xs, refl, (subst (λ (ys : List ℕ). length ys ≡ 16) same sized, same))) shown
-all_octets_taken kinds.GatewayAndKey xs v octets sized bytes shown = octets_taken kinds.GatewayAndKey (value_form kinds.GatewayAndKey) xs v (λ given same. (xs, refl, (subst (λ (ys : List ℕ). accepts kinds.GatewayAndKey ys ≡ true) same sized, same))) shown
-all_octets_taken kinds.Relay xs v octets sized bytes shown = octets_taken kinds.Relay (value_form kinds.Relay) xs v (λ given same. (xs, refl, (subst (λ (ys : List ℕ). accepts kinds.Relay ys ≡ true) same sized, same))) shown
-all_octets_taken kinds.HostIdentity xs v octets sized bytes shown = octets_taken kinds.HostIdentity (value_form kinds.HostIdentity) xs v (λ given same. (xs, refl, (subst (λ (ys : List ℕ). accepts kinds.HostIdentity ys ≡ true) same sized, same))) shown
-all_octets_taken kinds.Opaque xs v octets sized bytes shown = octets_taken kinds.Opaque (value_form kinds.Opaque) xs v (λ given same. (xs, refl, (subst (λ (ys : List ℕ). accepts kinds.Opaque ys ≡ true) same sized, same))) shown
+all_octets_taken kinds.Strings xs v octets sized bytes shown =
+    octets_taken kinds.Strings (value_form kinds.Strings) xs v (λ given same. (xs, refl, (subst (λ (ys : List ℕ). accepts kinds.Strings ys ≡ true) same sized, same))) shown
+all_octets_taken kinds.Text xs v octets sized bytes shown =
+    octets_taken kinds.Text (value_form kinds.Text) xs v (λ given same. (xs, refl, (subst (λ (ys : List ℕ). accepts kinds.Text ys ≡ true) same sized, same))) shown
+all_octets_taken kinds.Hexadecimal xs v octets sized bytes shown =
+    octets_taken kinds.Hexadecimal (value_form kinds.Hexadecimal) xs v (λ given same. (xs, refl, (subst (λ (ys : List ℕ). accepts kinds.Hexadecimal ys ≡ true) same sized, same))) shown
+all_octets_taken kinds.Base64 xs v octets sized bytes shown =
+    octets_taken kinds.Base64 (value_form kinds.Base64) xs v (λ given same. (xs, refl, (subst (λ (ys : List ℕ). accepts kinds.Base64 ys ≡ true) same sized, same))) shown
+all_octets_taken kinds.TypeBitMap xs v octets sized bytes shown =
+    octets_taken kinds.TypeBitMap (value_form kinds.TypeBitMap) xs v (λ given same. (xs, refl, (subst (λ (ys : List ℕ). accepts kinds.TypeBitMap ys ≡ true) same sized, same))) shown
+all_octets_taken kinds.SmallTypeBitMap xs v octets sized bytes shown =
+    octets_taken kinds.SmallTypeBitMap (value_form kinds.SmallTypeBitMap) xs v (λ given same. (xs, refl, (subst (λ (ys : List ℕ). accepts kinds.SmallTypeBitMap ys ≡ true) same sized, same))) shown
+all_octets_taken kinds.ServiceParameters xs v octets sized bytes shown =
+    octets_taken kinds.ServiceParameters (value_form kinds.ServiceParameters) xs v
+    (λ given same. (xs, refl, (subst (λ (ys : List ℕ). accepts kinds.ServiceParameters ys ≡ true) same sized, same))) shown
+all_octets_taken kinds.AddressPrefixes xs v octets sized bytes shown =
+    octets_taken kinds.AddressPrefixes (value_form kinds.AddressPrefixes) xs v (λ given same. (xs, refl, (subst (λ (ys : List ℕ). accepts kinds.AddressPrefixes ys ≡ true) same sized, same))) shown
+all_octets_taken kinds.Location xs v octets sized bytes shown =
+    octets_taken kinds.Location (forms.Fixed 16) xs v (λ given same. (xs, refl, (subst (λ (ys : List ℕ). length ys ≡ 16) same sized, same))) shown
+all_octets_taken kinds.GatewayAndKey xs v octets sized bytes shown =
+    octets_taken kinds.GatewayAndKey (value_form kinds.GatewayAndKey) xs v (λ given same. (xs, refl, (subst (λ (ys : List ℕ). accepts kinds.GatewayAndKey ys ≡ true) same sized, same))) shown
+all_octets_taken kinds.Relay xs v octets sized bytes shown =
+    octets_taken kinds.Relay (value_form kinds.Relay) xs v (λ given same. (xs, refl, (subst (λ (ys : List ℕ). accepts kinds.Relay ys ≡ true) same sized, same))) shown
+all_octets_taken kinds.HostIdentity xs v octets sized bytes shown =
+    octets_taken kinds.HostIdentity (value_form kinds.HostIdentity) xs v (λ given same. (xs, refl, (subst (λ (ys : List ℕ). accepts kinds.HostIdentity ys ≡ true) same sized, same))) shown
+all_octets_taken kinds.Opaque xs v octets sized bytes shown =
+    octets_taken kinds.Opaque (value_form kinds.Opaque) xs v (λ given same. (xs, refl, (subst (λ (ys : List ℕ). accepts kinds.Opaque ys ≡ true) same sized, same))) shown
 all_octets_taken kinds.CompressibleName xs v octets sized bytes shown = absurd (cc octets)
 all_octets_taken kinds.PointedName xs v octets sized bytes shown = absurd (cc octets)
 all_octets_taken kinds.LowercasedName xs v octets sized bytes shown = absurd (cc octets)
@@ -194,6 +211,8 @@ name_form kinds.Number8 names = absurd (cc names)
 name_form kinds.Number16 names = absurd (cc names)
 name_form kinds.Number32 names = absurd (cc names)
 name_form kinds.Number48 names = absurd (cc names)
+name_form kinds.Number64 names = absurd (cc names)
+name_form kinds.Scheme names = absurd (cc names)
 name_form kinds.Seconds names = absurd (cc names)
 name_form kinds.Time names = absurd (cc names)
 name_form kinds.Ipv4 names = absurd (cc names)

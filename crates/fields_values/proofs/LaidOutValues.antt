@@ -190,6 +190,8 @@ module _ (others : Layout) (rest : List Part) (after : IsLaidOut others rest) wh
   field_laid kinds.Number16 value part is last = fixed_laid 2 is.0 part is.1 (number_size kinds.Number16 2 value is.0 is.2)
   field_laid kinds.Number32 value part is last = fixed_laid 4 is.0 part is.1 (number_size kinds.Number32 4 value is.0 is.2)
   field_laid kinds.Number48 value part is last = fixed_laid 6 is.0 part is.1 (number_size kinds.Number48 6 value is.0 is.2)
+  field_laid kinds.Number64 value part is last = fixed_laid 8 is.0 part is.1 (number_size kinds.Number64 8 value is.0 is.2)
+  field_laid kinds.Scheme value part is last = fixed_laid 1 is.0 part is.1 (number_size kinds.Scheme 1 value is.0 is.2)
   field_laid kinds.Seconds value part is last = fixed_laid 4 is.0 part is.1 (number_size kinds.Seconds 4 value is.0 is.2)
   field_laid kinds.Time value part is last = fixed_laid 4 is.0 part is.1 (number_size kinds.Time 4 value is.0 is.2)
   field_laid kinds.Ipv4 value part is last = fixed_laid 4 is.0 part is.1 (ipv4_size kinds.Ipv4 value is.0 is.2)

@@ -116,8 +116,10 @@ made_soa bounded mname rname first second serial refresh retry expire minimum re
     let third_size = length-last_octets 4 retry in
     let fourth_size = length-last_octets 4 expire in
     let last_size = length-last_octets 4 minimum in
-    subst (λ (l : Labels). MakesParts 6 (CompressibleName l ∷ CompressibleName second ∷ wide_of serial ∷ wide_of refresh ∷ wide_of retry ∷ wide_of expire ∷ wide_of minimum ∷ []) result) same
-    (subst (λ (l : Labels). MakesParts 6 (CompressibleName (labels mname) ∷ CompressibleName l ∷ wide_of serial ∷ wide_of refresh ∷ wide_of retry ∷ wide_of expire ∷ wide_of minimum ∷ []) result) others
+    subst (λ (l : Labels). MakesParts 6 (CompressibleName l ∷ CompressibleName second
+    ∷ wide_of serial ∷ wide_of refresh ∷ wide_of retry ∷ wide_of expire ∷ wide_of minimum ∷ []) result) same
+    (subst (λ (l : Labels). MakesParts 6 (CompressibleName (labels mname) ∷ CompressibleName l
+    ∷ wide_of serial ∷ wide_of refresh ∷ wide_of retry ∷ wide_of expire ∷ wide_of minimum ∷ []) result) others
     (values_are_made 6 _
     (CompressibleName (labels mname) ∷ CompressibleName (labels rname) ∷ wide_of serial ∷ wide_of refresh ∷ wide_of retry ∷ wide_of expire ∷ wide_of minimum ∷ []) result
     (soa_values mname rname serial refresh retry expire minimum a b c d e)

@@ -40,10 +40,11 @@ pub(crate) fn value_form(kind: Kind) -> Form
     ensures { result ≡ value_form kind }
 {
     match kind {
-        Kind::Number8 => Form::Number(1),
+        Kind::Number8 | Kind::Scheme => Form::Number(1),
         Kind::Number16 => Form::Number(2),
         Kind::Number32 | Kind::Seconds | Kind::Time => Form::Number(4),
         Kind::Number48 => Form::Number(6),
+        Kind::Number64 => Form::Number(8),
         Kind::RecordType => Form::RecordType,
         Kind::Ipv4 => Form::Ipv4,
         Kind::Ipv6 => Form::Ipv6,

@@ -8,5 +8,7 @@ pub returns : goal.returns
 returns g c = (
   c.as_parsed.result,
   c.as_parsed.ensures.labels,
-  subst (λ (values : List NewValue). MakesData 46 values c.from_values.result) (λ i. RecordType c.args.type_covered ∷ Number (c.from.ensures i) ∷ Number (c.from-2.ensures i) ∷ Number (c.from-3.ensures i) ∷ Number (c.from-4.ensures i) ∷ Number (c.from-5.ensures i) ∷ Number (c.from-6.ensures i) ∷ Name c.as_parsed.result ∷ Octets c.args.signature ∷ []) c.from_values.ensures,
+  subst (λ (values : List NewValue). MakesData 46 values c.from_values.result)
+      (λ i. RecordType c.args.type_covered ∷ Number (c.from.ensures i) ∷ Number (c.from-2.ensures i) ∷ Number (c.from-3.ensures i) ∷ Number (c.from-4.ensures i)
+      ∷ Number (c.from-5.ensures i) ∷ Number (c.from-6.ensures i) ∷ Name c.as_parsed.result ∷ Octets c.args.signature ∷ []) c.from_values.ensures,
 )

@@ -8,5 +8,6 @@ pub returns : goal.returns
 returns g c = (
   c.as_parsed.result,
   c.as_parsed.ensures.labels,
-  subst (λ (values : List NewValue). MakesData c.args.rtype values c.from_values.result) (λ i. Number (c.from.ensures i) ∷ Name c.as_parsed.result ∷ Parameters c.args.parameters ∷ []) c.from_values.ensures,
+  subst (λ (values : List NewValue). MakesData c.args.rtype values c.from_values.result)
+      (λ i. Number (c.from.ensures i) ∷ Name c.as_parsed.result ∷ Parameters c.args.parameters ∷ []) c.from_values.ensures,
 )

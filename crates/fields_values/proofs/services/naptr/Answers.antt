@@ -8,5 +8,6 @@ pub returns : goal.returns
 returns g c = (
   c.as_parsed.result,
   c.as_parsed.ensures.labels,
-  subst (λ (values : List NewValue). MakesData 35 values c.from_values.result) (λ i. Number (c.from.ensures i) ∷ Number (c.from-2.ensures i) ∷ String c.args.flags ∷ String c.args.services ∷ String c.args.regexp ∷ Name c.as_parsed.result ∷ []) c.from_values.ensures,
+  subst (λ (values : List NewValue). MakesData 35 values c.from_values.result)
+      (λ i. Number (c.from.ensures i) ∷ Number (c.from-2.ensures i) ∷ String c.args.flags ∷ String c.args.services ∷ String c.args.regexp ∷ Name c.as_parsed.result ∷ []) c.from_values.ensures,
 )
