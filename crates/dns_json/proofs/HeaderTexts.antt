@@ -11,10 +11,11 @@ use Rattle.json_print.proofs.theory.Pieces.{one_member, whole_made}
 use Rattle.dns_json.specs.Header.{count_members, header_members}
 use Rattle.dns_json.specs.Messages.{body_members, head_members, message_json_text}
 
--- the members for the kind of a message, and for the other flags
+-- the members for the kind of a message
 abbrev pub kind_members : HeaderFields → List Member
 kind_members f = (codes "QR", boolean f.qr) ∷ (codes "Opcode", numeral f.opcode) ∷ (codes "AA", boolean f.aa) ∷ (codes "TC", boolean f.tc) ∷ []
 
+-- The members for the other flags.
 abbrev pub flag_members : HeaderFields → List Member
 flag_members f = (codes "RD", boolean f.rd) ∷ (codes "RA", boolean f.ra) ∷ (codes "AD", boolean f.ad) ∷ (codes "CD", boolean f.cd) ∷ []
 

@@ -25,7 +25,9 @@ use Rattle.dns_json.specs.Records.{hex_text, presentation, rdata_members, record
 use Rattle.dns_json.proofs.MemberLists.{additionals, after_asked, after_class, answers, asked_class, asked_type, authorities, question_items, record_class, record_items, record_type}
 
 ttl_line : (ttl : ℕ) → is_line (ttl_text ttl) ≡ true
-ttl_line ttl = either_line (nat_lt ttl (2 ^ 31)) (decimal ttl) (codes "-" ++ decimal (2 ^ 32 - ttl)) (decimal_line ttl) (line_append (codes "-") (decimal (2 ^ 32 - ttl)) refl (decimal_line (2 ^ 32 - ttl)))
+ttl_line ttl =
+    either_line (nat_lt ttl (2 ^ 31)) (decimal ttl) (codes "-" ++ decimal (2 ^ 32 - ttl)) (decimal_line ttl)
+    (line_append (codes "-") (decimal (2 ^ 32 - ttl)) refl (decimal_line (2 ^ 32 - ttl)))
 
 header_lines : (f : HeaderFields) → EachValue IsLine (header_members f)
 header_lines f = (

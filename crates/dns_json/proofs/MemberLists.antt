@@ -21,10 +21,11 @@ record_type rtype = type_members (codes "TYPE") (codes "TYPEname") rtype
 abbrev pub record_class : ℕ → List Member
 record_class class = class_members (codes "CLASS") (codes "CLASSname") class
 
--- the type and the class of the first question
+-- the type of the first question
 abbrev pub asked_type : QuestionItem → List Member
 asked_type q = type_members (codes "QTYPE") (codes "QTYPEname") q.rtype
 
+-- The class of the first question.
 abbrev pub asked_class : QuestionItem → List Member
 asked_class q = class_members (codes "QCLASS") (codes "QCLASSname") q.class
 
@@ -36,13 +37,15 @@ after_class x = (codes "TTL", number (ttl_text x.entry.ttl)) ∷ (rdata_members 
 abbrev pub after_asked : List ℕ → List Member
 after_asked b = (codes "questionRRs", entries_json question_json (questions_of b)) ∷ (sections_members b ++ octets_members b)
 
--- the members for the three sections of records
+-- the members for the answer section
 abbrev pub answers : List ℕ → List Member
 answers b = section_members Answer (reading_of Answer b)
 
+-- The members for the authority section.
 abbrev pub authorities : List ℕ → List Member
 authorities b = section_members Authority (reading_of Authority b)
 
+-- The members for the additional section.
 abbrev pub additionals : List ℕ → List Member
 additionals b = section_members Additional (reading_of Additional b)
 

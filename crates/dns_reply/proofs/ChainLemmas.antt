@@ -34,6 +34,7 @@ module _ (zone : Labels) (q : QuestionItem) (answers : Records) where
   last_name : (i : ℕ) (x : Labels × ℕ) → nth_name zone q answers i ≡ Some x → next_alias zone q answers x.0 ≡ None → nth_name zone q answers (suc i) ≡ None
   last_name i x e none = next_name i x e ∙ ap (option_map (after_alias x.1)) none
 
+  -- after the chain's end there is no name
   pub none_next : (i : ℕ) → nth_name zone q answers i ≡ None → nth_name zone q answers (suc i) ≡ None
   unfolding nth_name
   none_next i e = ap (option_and_then (λ (y : Labels × ℕ). option_map (after_alias y.1) (next_alias zone q answers y.0))) e

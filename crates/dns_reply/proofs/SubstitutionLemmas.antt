@@ -87,6 +87,7 @@ module _ (name owner target : Labels) (below : is_below name owner ≡ true) (n 
   pub joined_octets : take (n - o) octets ++ others ≡ uncompressed (substituted name owner target)
   joined_octets = rw (whole, size, same, same_others) (made_octets name owner target below)
 
+  -- So they are as many.
   pub joined_length : length (take (n - o) octets) + length others ≡ length (uncompressed (substituted name owner target))
   joined_length = sym (length-append (take (n - o) octets) others) ∙ ap length joined_octets
 

@@ -46,9 +46,11 @@ taken_framed most (message ∷ messages) octets after taken = (taken.0, taken.2,
 calls_framed : (most : ℕ) (calls : List Call) (old new : List ℕ) → Lead most calls old new → Framed (old ++ pushed calls) (handed_out calls) new
 calls_framed most calls old new lead = taken_framed most (handed_out calls) (old ++ pushed calls) new (calls_taken most calls old new lead)
 
+-- What calls took and left is what they were given.
 pub calls_take_frames : CallsTakeFrames
 calls_take_frames most calls old new lead = all_of (handed_out calls) (old ++ pushed calls) new (calls_framed most calls old new lead)
 
+-- With the messages of what is left, these are the messages of all octets.
 pub calls_give_frames : CallsGiveFrames
 calls_give_frames most calls old new rest messages lead frames =
     let all = framed_more (handed_out calls) messages (old ++ pushed calls) new rest (calls_framed most calls old new lead) (framed_of messages new rest frames.0) in
@@ -69,6 +71,7 @@ one_taken most (m ∷ ms) (n ∷ ns) octets new last x p y q =
     let later = one_taken most ms ns y.0 new last (subst (λ (b : List ℕ). Taken most b ms new) one.1 x.3) p y.3 q in
     (λ i. one.0 i ∷ later.0 i, later.1)
 
+-- Pieces don't matter: the same octets give the same messages.
 pub pieces_dont_matter : PiecesDontMatter
 pieces_dont_matter most calls others new last lead leads same none nones =
     let x : Taken most (pushed calls) (handed_out calls) new = calls_taken most calls [] new lead in

@@ -43,10 +43,11 @@ before-ends {R = R} first later =
 pub ok_of : {p q : Act × State} → p ≡ q → let a : Outcome = Ok p in let b : Outcome = Ok q in a ≡ b
 ok_of e = ap (λ (p : Act × State). let o : Outcome = Ok p in o) e
 
--- The choice of a test that is true, or false.
+-- The choice of a test that is true.
 pub chosen : {X : Type 0} (b : Bool) (x y : X) → b ≡ true → (if b then x else y) ≡ x
 chosen b x y is = ap (λ (c : Bool). if c then x else y) is
 
+-- The choice of a test that is false.
 pub not_chosen : {X : Type 0} (b : Bool) (x y : X) → b ≡ false → (if b then x else y) ≡ y
 not_chosen b x y is = ap (λ (c : Bool). if c then x else y) is
 
@@ -70,6 +71,7 @@ module _ {R : Type 0} where
   abbrev pub rest_of : Difference R → List (Difference R) → R → List R
   rest_of d ds end = d.removed ++ (all_added d ++ (flat_map difference_records ds ++ end ∷ []))
 
+  -- The steps of these records.
   abbrev pub rest_steps : Difference R → List (Difference R) → ℕ → List (StepOf R)
   rest_steps d ds serial = map Remove d.removed ++ (map Add (all_added d) ++ (flat_map difference_steps ds ++ End serial ∷ []))
 

@@ -37,6 +37,7 @@ pub chosen_ok : (b : Bool) (x : Act × State) (e : TransferError) {z : Act × St
 chosen_ok true x e is = (refl, cc is)
 chosen_ok false x e is = absurd (cc is)
 
+-- A pair that a test chose is the first if the test is true, and else the second.
 pub chosen_pair : (b : Bool) (x y : Act × State) {z : Act × State} → (if b then x else y) ≡ z → ((b ≡ true) × (x ≡ z)) ⊎ ((b ≡ false) × (y ≡ z))
 chosen_pair true x y is = inl (refl, is)
 chosen_pair false x y is = inr (refl, is)
@@ -46,6 +47,7 @@ direct_if : (b : Bool) (x : Act × State) (e : TransferError) → IsDirect (Ok x
 direct_if true x e is = is
 direct_if false x e is = tt
 
+-- The same if both outcomes are acts.
 pub direct_pair : (b : Bool) (x y : Act × State) → IsDirect (Ok x) → IsDirect (Ok y) → IsDirect (Ok (if b then x else y))
 direct_pair true x y is same = is
 direct_pair false x y is same = same
@@ -112,6 +114,7 @@ module _ {R : Type 0} (kind : R → Result Kind TransferError) (request : Reques
         let stops = ap (λ (known : Result Kind TransferError). run_by kind request r (run kind request (whole_reading rs)) known from) is in
         absurd (no_end e given (sym stops ∙ reads))
 
+    -- Records that are read to the end begin with a record that a state takes.
     pub first_of : runs kind request (r ∷ rs) from ≡ ends given → FirstOf r rs from given
     first_of reads = by_kind (kind r) refl reads
 

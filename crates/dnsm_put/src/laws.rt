@@ -6,7 +6,7 @@ ghost use Rattle.dnsm_put.specs.PutLayouts.{PutLayoutsAreFields};
 use crate::draft::{Draft, PutError, PutItem};
 use crate::response::ResponseError;
 
-/// The names that `put` compresses are those among the fields of the record types in `TABLE` of
+/// The names that `put` compresses are those among the fields of the record types in the table of
 /// `fields_table` that may be compressed.
 #[tactic(auto, unfolding(fields_table::specs::RecordTypes::record_types, fields_table::specs::Table::definitions_of))]
 pub fn layouts_are_fields()

@@ -21,6 +21,7 @@ pub record Found (size : ℕ) (octets after : List ℕ) (name : Labels) : Type 0
   pub labels : All IsLabel name
   pub short : size + name_size name ≤ 254
 
+-- The labels found after a label, with it.
 abbrev pub with_label : List ℕ → Option (Labels × List ℕ) → Option (Labels × List ℕ)
 with_label label others = option_map (λ name. (label ∷ name.0, name.1)) others
 

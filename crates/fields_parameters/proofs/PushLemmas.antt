@@ -34,6 +34,7 @@ module _ (old middle new a b all : List ℕ) (whole : all ≡ a ++ b) where
 pub octets_none : (old new next a b all : List ℕ) → all ≡ a ++ b → PushesOctets a old new false → PushesOctets all old next false
 octets_none old new next a b all whole first = exceeds_more old a b all whole first
 
+-- The octets of keys.
 abbrev pub octets_of : List ℕ → List ℕ
 octets_of keys = flat_map two_octets keys
 

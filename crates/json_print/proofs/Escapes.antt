@@ -74,31 +74,37 @@ control_escaped c control none = ascii_escaped c (omega arith) ∙ by_code c con
 pub short_of : (c k letter : ℕ) → c ≡ k → escape (encode_utf8 k) ≡ 92 ∷ letter ∷ [] → escape (encode_utf8 c) ≡ 92 ∷ letter ∷ []
 short_of c k letter is e = subst (λ (n : ℕ). escape (encode_utf8 n) ≡ 92 ∷ letter ∷ []) (sym is) e
 
--- The seven short escapes.
+-- A quotation mark has a short escape.
 pub short_quote : escape (encode_utf8 34) ≡ 92 ∷ 34 ∷ []
 unfolding escape_byte
 short_quote = ascii_escaped 34 (lit< tt)
 
+-- That of a backslash.
 pub short_backslash : escape (encode_utf8 92) ≡ 92 ∷ 92 ∷ []
 unfolding escape_byte
 short_backslash = ascii_escaped 92 (lit< tt)
 
+-- That of a backspace.
 pub short_b : escape (encode_utf8 8) ≡ 92 ∷ 98 ∷ []
 unfolding escape_byte
 short_b = ascii_escaped 8 (lit< tt)
 
+-- That of a form feed.
 pub short_f : escape (encode_utf8 12) ≡ 92 ∷ 102 ∷ []
 unfolding escape_byte
 short_f = ascii_escaped 12 (lit< tt)
 
+-- That of a line feed.
 pub short_n : escape (encode_utf8 10) ≡ 92 ∷ 110 ∷ []
 unfolding escape_byte
 short_n = ascii_escaped 10 (lit< tt)
 
+-- That of a carriage return.
 pub short_r : escape (encode_utf8 13) ≡ 92 ∷ 114 ∷ []
 unfolding escape_byte
 short_r = ascii_escaped 13 (lit< tt)
 
+-- That of a tab.
 pub short_t : escape (encode_utf8 9) ≡ 92 ∷ 116 ∷ []
 unfolding escape_byte
 short_t = ascii_escaped 9 (lit< tt)

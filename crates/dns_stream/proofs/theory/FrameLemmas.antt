@@ -174,6 +174,7 @@ some_framed (suc bound) octets few are =
       ]
     ]
 
+-- Any octets are frames and less than a frame.
 pub some_framing : SomeFraming
 some_framing octets are =
     let some = some_framed (length octets) octets (omega arith) are in
@@ -184,12 +185,15 @@ fits_prefix : (capacity : Option ℕ) (n : ℕ) → Fits (stream_capacity capaci
 fits_prefix None n fits = fits
 fits_prefix (Some capacity) n fits = omega arith
 
+-- What a stream target holds is a frame.
 pub targets_hold_frames : TargetsHoldFrames
 targets_hold_frames capacity message after fits = (fits_prefix capacity (length message) fits, refl)
 
+-- What several hold are the frames of their messages.
 pub targets_hold_messages : TargetsHoldMessages
 targets_hold_messages messages each = ((each, sym (append-nil (flat_map with_prefix messages))), λ two. absurd (omega arith))
 
+-- Less than a frame lacks octets, and conversely.
 pub partial_lacks_octets : PartialLacksOctets
 partial_lacks_octets octets count missing =
     elim (cases_lt (length octets) 2) [
@@ -197,6 +201,7 @@ partial_lacks_octets octets count missing =
       | inr long ↦ let few = missing.message long in (λ partial. let less = partial long in omega arith, λ some two. omega arith)
     ]
 
+-- Less than an accepted frame is less than a reader stores.
 pub none_leaves_capacity : NoneLeavesCapacity
 none_leaves_capacity most octets two partial accepted =
     elim (cases_lt (length octets) 2) [
@@ -217,5 +222,6 @@ one_error most octets Short Long refused others = absurd (not_both most octets r
 one_error most octets Long Short refused others = absurd (not_both most octets others refused)
 one_error most octets Long Long refused others = refl
 
+-- A length is accepted, or refused with one error.
 pub never_both : NeverBoth
 never_both most octets error refused = (not_accepted most octets error refused, λ other others. one_error most octets error other refused others)

@@ -84,9 +84,11 @@ IsLine j = is_line (json_text j) ≡ true
 pub string_line : (s : List ℕ) → IsLine (string s)
 string_line s = rw (string_text s) (quoted_line s)
 
+-- A number has none if its digits have none.
 pub number_line : (s : List ℕ) → is_line s ≡ true → IsLine (number s)
 number_line s h = rw (number_text s) h
 
+-- Nor has a numeral.
 pub numeral_line : (n : ℕ) → IsLine (numeral n)
 numeral_line n = number_line (decimal n) (decimal_line n)
 
@@ -94,6 +96,7 @@ word_line : (b : Bool) → is_line (boolean_word b) ≡ true
 word_line true = refl
 word_line false = refl
 
+-- Nor have true and false.
 pub boolean_line : (b : Bool) → IsLine (boolean b)
 boolean_line b = rw (boolean_text b) (word_line b)
 

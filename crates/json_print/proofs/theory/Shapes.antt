@@ -54,6 +54,7 @@ array_sound most js h = let s = items_sound most js h in record { numbers = s.0;
 pub string_sound : (most : ℕ) (s : List ℕ) → IsSound most (string s)
 string_sound most s = record { numbers = tt; shallow = omega arith }
 
+-- True and false neither.
 pub boolean_sound : (most : ℕ) (b : Bool) → IsSound most (boolean b)
 boolean_sound most b = record { numbers = tt; shallow = omega arith }
 
@@ -61,5 +62,6 @@ boolean_sound most b = record { numbers = tt; shallow = omega arith }
 pub number_sound : (most : ℕ) (s : List ℕ) → IsNumber s → IsSound most (number s)
 number_sound most s h = record { numbers = h; shallow = omega arith }
 
+-- A numeral below 2^64 is a number.
 pub numeral_sound : (most n : ℕ) → n < 2 ^ 64 → IsSound most (numeral n)
 numeral_sound most n h = number_sound most (decimal n) (IsNumber-decimal n h)
