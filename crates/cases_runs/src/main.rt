@@ -7,6 +7,7 @@
 //! that fails, and the counts. Its page says what the keys are.
 #![tactic(auto)]
 
+mod edits;
 mod message;
 mod opt;
 mod part;

@@ -1,15 +1,13 @@
 //! What calls of the library return for a message, or for arguments.
 ghost use Rattle.std.specs.Prelude.{◌<◌, IfOk, IsTrue, length};
 
+use crate::edits::{cased_shown, changed_shown};
 use crate::opt::opt_line;
 use crate::replies::{redirected_shown, reply_shown};
 use crate::returned::write_call;
 use crate::run::{Run, words_of};
 use crate::transfer::transfer_shown;
 use cases_files::{Report, key_of, octets_of};
-use dns_edit::{EditError, TtlChange, age_ttls, cap_ttls, change_ttls};
-use dns_item::Ttl;
-use dns_read::Message;
 use dnsview_tool::{file_of, rows};
 use std::alloc::{AllocError, Global};
 use std::io;
@@ -30,7 +28,12 @@ pub(crate) enum Call {
     Age,
     Cap,
     ChangeCap,
+    Id,
+    HeaderRcode,
+    QuestionCase,
     RemoveLast,
+    Regular,
+    End,
     LastAddress,
     HasAddress,
     ManyOpts,
@@ -63,6 +66,11 @@ impl Call {
             "age" => Some(Call::Age),
             "cap" => Some(Call::Cap),
             "change-cap" => Some(Call::ChangeCap),
+            "id" => Some(Call::Id),
+            "header-rcode" => Some(Call::HeaderRcode),
+            "question-case" => Some(Call::QuestionCase),
+            "regular" => Some(Call::Regular),
+            "end" => Some(Call::End),
             "remove-last" => Some(Call::RemoveLast),
             "last-address" => Some(Call::LastAddress),
             "has-address" => Some(Call::HasAddress),
@@ -100,9 +108,9 @@ pub(crate) fn check_call<W: Write + Drop>(
         Call::Rows => rows_shown(alloc, text)?,
         Call::Reply | Call::ReplyExact => reply_shown(alloc, run, call, text)?,
         Call::Redirected => redirected_shown(alloc, text)?,
-        Call::Age | Call::Cap | Call::ChangeCap | Call::RemoveLast => {
-            changed_shown(alloc, run, call, text)?
-        }
+        Call::QuestionCase => cased_shown(alloc, run, text)?,
+        Call::Age | Call::Cap | Call::ChangeCap | Call::Id | Call::HeaderRcode | Call::RemoveLast =>
+            changed_shown(alloc, run, call, text)?,
         Call::Axfr | Call::Ixfr => transfer_shown(alloc, run, call, text)?,
         _ => message_shown(alloc, run, call)?,
     };
@@ -144,43 +152,4 @@ fn message_shown(alloc: Global, run: &Run<'_>, call: Call) -> Result<String, All
     let mut text = String::new(alloc);
     write_call(&mut text, run, call)?;
     Ok(text)
-}
-
-/// A number of seconds, and after `=` the message that is changed by it, or why it can't be.
-fn changed_shown(alloc: Global, run: &Run<'_>, call: Call, text: &str) -> io::Result<String> {
-    let (number, _) = text.split_once(' ').unwrap_or((text, ""));
-    let Ok(seconds) = number.parse::<u32>() else {
-        return Ok(String::from_str(alloc, "bad number")?);
-    };
-    let Ok(mut message) = Message::from_octets(Vec::from_slice(alloc, run.message.as_slice())?)
-    else {
-        return Ok(String::from_str(alloc, "short message")?);
-    };
-    match change(&mut message, call, seconds) {
-        Ok(()) => {
-            let digits = hex::encode(alloc, message.as_slice())?;
-            Ok(format!(in alloc; "{number} = {digits}")?)
-        }
-        Err(error) => Ok(format!(in alloc; "{number} = {error}")?),
-    }
-}
-
-/// Changes a message by a call.
-fn change(message: &mut Message<Vec<u8>>, call: Call, seconds: u32) -> Result<(), EditError> {
-    match call {
-        Call::Age => age_ttls(message, seconds),
-        Call::Cap => cap_ttls(message, Ttl::from_secs(seconds)),
-        Call::ChangeCap => change_ttls(message, TtlChange::Cap(Ttl::from_secs(seconds))),
-        _ => {
-            remove_last(message);
-            Ok(())
-        }
-    }
-}
-
-/// Removes the last additional record, if there is one.
-fn remove_last(message: &mut Message<Vec<u8>>) {
-    if message.header_counts().arcount() > 0 {
-        message.remove_last_additional();
-    }
 }

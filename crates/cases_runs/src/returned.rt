@@ -3,7 +3,7 @@ use crate::message::Call;
 use crate::reading::write_reading;
 use crate::run::Run;
 use dns_data::A;
-use dns_edit::min_ttl;
+use dns_edit::{is_regular, min_ttl, records_end};
 use dns_read::Message;
 use dns_reply::has_many_opts;
 use std::alloc::AllocError;
@@ -18,6 +18,8 @@ pub(crate) fn write_call(text: &mut String, run: &Run<'_>, call: Call) -> Result
         Call::Canonical => write_canonical(text, &message),
         Call::Sole => write_sole(text, &message),
         Call::Least => write_least(text, &message),
+        Call::Regular => write_word(text, is_regular(&message)),
+        Call::End => write_end(text, &message),
         Call::LastAddress => write_last_address(text, &message),
         Call::HasAddress => write_word(text, message.contains_answer::<A>()),
         Call::ManyOpts => write_word(text, has_many_opts(&message)),
@@ -52,6 +54,14 @@ fn write_least(text: &mut String, message: &Message<&[u8]>) -> Result<(), AllocE
     match min_ttl(message) {
         Ok(Some(ttl)) => write!(text, "{}", ttl.as_secs()),
         Ok(None) => write!(text, "none"),
+        Err(error) => write!(text, "{error}"),
+    }
+}
+
+/// Writes the offset where the records end, or why they can't be skipped.
+fn write_end(text: &mut String, message: &Message<&[u8]>) -> Result<(), AllocError> {
+    match records_end(message) {
+        Ok(end) => write!(text, "{end}"),
         Err(error) => write!(text, "{error}"),
     }
 }

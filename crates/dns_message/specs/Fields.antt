@@ -1,6 +1,9 @@
 -- Record types as a table, RDATA as named fields, and records as lines, printed and read.
-pub use Rattle.fields_table.specs.Table.{Definition, definitions, kinds_in, kinds_of}
-unfoldable pub use Rattle.fields_table.specs.Table.{definitions_of, table_types}
+pub use Rattle.fields_table.specs.Table.{Definition, definitions, kinds_in, kinds_of, type_of}
+unfoldable pub use Rattle.fields_table.specs.Table.{definitions_of}
+pub use Rattle.fields_table.specs.Ranges.{later_types, table_types, types_after}
+unfoldable pub use Rattle.fields_table.specs.Ranges.{range_types}
+pub use Rattle.fields_table.specs.Rows.{types_left as record_types_left}
 pub use Rattle.fields_table.specs.RecordTypes.{TypeDefinition}
 pub use Rattle.fields_table.specs.NamesOfTypes.{may_be_compressed, may_have_pointer, is_lowercased, types_with}
 unfoldable pub use Rattle.fields_table.specs.RecordTypes.{record_types}

@@ -75,7 +75,8 @@ pub mod message {
     };
 }
 
-/// TTLs of a message, lowered in place, and theorems on what is read of it then.
+/// Messages checked and changed in place: TTLs, the header, a letter case. Theorems on what is read
+/// of them then.
 ///
 /// A response from a cache, `age` seconds after it was stored:
 ///
@@ -84,7 +85,10 @@ pub mod message {
 /// Some(response)
 /// ```
 pub mod edit {
-    pub use dns_edit::{EditError, TtlChange, age_ttls, cap_ttls, change_ttls, laws, min_ttl};
+    pub use dns_edit::{
+        EditError, OtherName, TtlChange, age_ttls, cap_ttls, change_ttls, is_regular, laws,
+        min_ttl, records_end, set_id, set_question_case, set_rcode,
+    };
 }
 
 /// Messages on a stream, such as a TCP connection, whose octets come in pieces.
@@ -252,7 +256,7 @@ pub mod data {
 /// None
 /// ```
 ///
-/// A record type that `TABLE` lacks is a list of fields, and needs no proof. Its module begins with
+/// A record type that the table lacks is a list of fields, and needs no proof. Its module begins with
 /// `ghost use Rattle.std.specs.Prelude.{map};` and
 /// `ghost use Rattle.app.specs.declared.host.TheConstants.{FIELDS};`, if its crate is `app` and its
 /// module `host`:
@@ -318,7 +322,7 @@ pub mod fields {
     pub use fields_records::{DataText, RecordText, from_text, read_record};
     pub use fields_table::{
         DataOf, Encoded, Field, FieldData, Fields, Kind, OPAQUE, OwnedFieldData, RecordFields,
-        Shape, TABLE, Value, fields_of, laws, layout_type,
+        RecordTypes, Row, Shape, Value, fields_of, laws, layout_type, record_types,
     };
     pub use fields_text::{TextError, laws as word_laws, split_words};
     pub use fields_values::{NewValue, ValueError, from_values, laws as value_laws};
