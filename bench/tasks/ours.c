@@ -1,69 +1,25 @@
-/* The tasks with calls for users of Rattle, by the exports of crates/bench. */
+/* The tasks of TTLs and of RDATA with calls for users of Rattle, by the exports of crates/bench. */
 
-#include "records.h"
 #include "tasks.h"
 
-#include <string.h>
-
 size_t dns_bench_age(const uint8_t *octets, size_t octets_len, size_t rounds);
-size_t dns_bench_json(const uint8_t *octets, size_t octets_len, size_t rounds);
-size_t dns_bench_reply(const uint8_t *query, size_t query_len, const uint8_t *reply, size_t reply_len, size_t rounds);
-size_t dns_bench_stream(const uint8_t *octets, size_t octets_len, size_t rounds);
-size_t dns_bench_transfer(const uint8_t *soa, size_t soa_len, const uint8_t *records, size_t records_len, size_t times);
-size_t dns_bench_read_line(const uint8_t *line, size_t line_len, size_t rounds);
-size_t dns_bench_print_line(const uint8_t *line, size_t line_len, size_t rounds);
 size_t dns_bench_mx(const uint8_t *exchange, size_t exchange_len, uint32_t text, size_t rounds);
 
-/* The octets of RDATA of MX with the exchange mail.example.com, of w2 up to the end of its question, and how many messages the stream
- * has. */
-enum { MX_LEN = 20, W2_QUESTION = 33, MESSAGES = 64 };
+/* The octets of RDATA of MX with the exchange mail.example.com. */
+enum { MX_LEN = 20 };
 
 static const uint8_t octets[] = "\4mail\7example\3com", text[] = "mail.example.com.";
 
-/* The question of w2 as a query. */
-static uint8_t query[W2_QUESTION];
-
-/* w2 as messages of a stream, each after its length. */
-static uint8_t stream[1 << 16];
-static size_t stream_len;
-
-static struct input w2, f64, x1, x2500;
+static struct input w2, f64;
 
 void prepare(void)
 {
     w2 = load_input("w2");
     f64 = load_input("f64");
-    x1 = load_input("x1");
-    x2500 = load_input("x2500");
-    memcpy(query, w2.octets, sizeof query);
-    memcpy(query + 2, (const uint8_t[]){1, 0, 0, 1, 0, 0, 0, 0, 0, 0}, 10);
-    for (int i = 0; i < MESSAGES; i++) {
-        stream[stream_len] = (uint8_t)(w2.len >> 8);
-        stream[stream_len + 1] = (uint8_t)w2.len;
-        memcpy(stream + stream_len + 2, w2.octets, w2.len);
-        stream_len += 2 + w2.len;
-    }
 }
 
 static size_t run_age_w2(uint64_t times) { return dns_bench_age(w2.octets, w2.len, times); }
 static size_t run_age_f64(uint64_t times) { return dns_bench_age(f64.octets, f64.len, times); }
-
-static size_t run_json(uint64_t times) { return dns_bench_json(w2.octets, w2.len, times); }
-
-static size_t run_reply(uint64_t times)
-{
-    return dns_bench_reply(query, sizeof query, w2.octets, w2.len, times) ? w2.len : 0;
-}
-
-static size_t run_stream(uint64_t times)
-{
-    return dns_bench_stream(stream, stream_len, times) == MESSAGES ? stream_len : 0;
-}
-
-static size_t transfer(void)
-{
-    return dns_bench_transfer(x1.octets, x1.len, x2500.octets, x2500.len, TRANSFERRED);
-}
 
 static size_t run_mx(uint64_t times)
 {
@@ -75,25 +31,10 @@ static size_t run_mx_text(uint64_t times)
     return dns_bench_mx(text, sizeof text - 1, 1, times) == times ? MX_LEN : 0;
 }
 
-static size_t read_line(const struct line *record, uint64_t times)
-{
-    return dns_bench_read_line((const uint8_t *)record->text, record->len, times);
-}
-
-static size_t print_line(const struct line *record, uint64_t times)
-{
-    return dns_bench_print_line((const uint8_t *)record->text, record->len, times);
-}
-
 const struct task tasks[] = {
     {"TTLs of w2", "age_ttls", .often = run_age_w2},
     {"TTLs of 64 KiB", "age_ttls", .often = run_age_f64},
-    {"w2 as a reply", "reply_to", .often = run_reply},
-    {"w2 as JSON", "MessageJson", .often = run_json},
-    {"a stream of 64 times w2", "StreamReader", .often = run_stream},
-    {"a transfer of 100,000 records", "Transfer", .one = transfer},
     {"RDATA of MX", "mx", .often = run_mx},
     {"RDATA of MX", "from_text", .often = run_mx_text},
-    TASKS_OF_LINES("RecordText", print_line, "read_record", read_line),
     {.work = NULL},
 };

@@ -6,8 +6,10 @@
 //! 0 if a name is malformed, an allocation fails, or `out` is too short.
 #![tactic(auto)]
 
+mod edit;
 mod messages;
 mod names;
+mod values;
 mod walk;
 
 ghost use Rattle.bench.specs.Message.{HandsOut};
@@ -182,4 +184,22 @@ pub extern "C" fn dns_bench_zone(
     ensures { HandsOut out.old out.new result }
 {
     write_with(alloc, Kind::Zone, target, work, out)
+}
+
+/// Lowers the TTLs of a copy of a message by a second, `rounds` times. Returns its length, or 0 if the
+/// octets are no message, or its TTLs can't be changed in place.
+#[unsafe(no_mangle)]
+pub extern "C" fn dns_bench_age(alloc: Global, octets: &[u8], rounds: usize) -> usize {
+    edit::age(alloc, octets, rounds).unwrap_or(0)
+}
+
+/// Makes RDATA of MX with preference 10, `rounds` times: of the octets of the exchange by value, or of
+/// its text if `text` isn't 0. Returns `rounds`, or 0 on failure.
+#[unsafe(no_mangle)]
+pub extern "C" fn dns_bench_mx(alloc: Global, exchange: &[u8], text: u32, rounds: usize) -> usize {
+    let made = match text {
+        0 => values::by_value(alloc, exchange, rounds),
+        _ => values::by_text(alloc, exchange, rounds),
+    };
+    made.unwrap_or(0)
 }

@@ -1,35 +1,14 @@
-//! Exports for C code that measures times of single tasks: TTLs lowered in place, RDATA made, replies
-//! judged, messages printed as JSON, streams and transfers read, records read from text and printed.
-//! `bench` has the others: a function that more code calls is less often put in line, so they have a
-//! library of their own.
+//! Exports for C code that measures times of tasks with responses and with records as text: replies
+//! judged, messages printed as JSON, streams and transfers read, records read and printed. A function
+//! that more code calls is less often put in line, so they have a library of their own beside `bench`.
 //!
-//! Each does its task `rounds` times. On failure its result is 0.
+//! Each does its task `rounds` times, or with `times` messages. On failure its result is 0.
 #![tactic(auto)]
 
-mod edit;
 mod responses;
 mod texts;
-mod values;
 
 use std::alloc::Global;
-
-/// Lowers the TTLs of a copy of a message by a second, `rounds` times. Returns its length, or 0 if the
-/// octets are no message, or its TTLs can't be changed in place.
-#[unsafe(no_mangle)]
-pub extern "C" fn dns_bench_age(alloc: Global, octets: &[u8], rounds: usize) -> usize {
-    edit::age(alloc, octets, rounds).unwrap_or(0)
-}
-
-/// Makes RDATA of MX with preference 10, `rounds` times: of the octets of the exchange by value, or of
-/// its text if `text` isn't 0. Returns `rounds`, or 0 on failure.
-#[unsafe(no_mangle)]
-pub extern "C" fn dns_bench_mx(alloc: Global, exchange: &[u8], text: u32, rounds: usize) -> usize {
-    let made = match text {
-        0 => values::by_value(alloc, exchange, rounds),
-        _ => values::by_text(alloc, exchange, rounds),
-    };
-    made.unwrap_or(0)
-}
 
 /// Judges a reply to a query, `rounds` times. Returns the TTL of its answer, or 0 if it isn't one.
 #[unsafe(no_mangle)]
