@@ -5,6 +5,7 @@ use Rattle.dns_name.proofs.theory.ExtentLaws.{ends_after}
 use Rattle.dns_name.proofs.theory.Names.{one_end}
 use Rattle.dns_item.specs.Items.{SkipsRecord}
 use Rattle.dns_item.specs.Questions.{SkipsQuestion}
+use Rattle.dns_item.proofs.theory.QuestionEntryLemmas.{question_end_or_fault}
 use Rattle.dns_read.specs.Reading.{Skipped}
 use Rattle.dns_edit.specs.declared.error.EditError.{EditError}
 use Rattle.dns_edit.specs.Acceptance.{AcceptsData, AcceptsFrom, AcceptsQuestion, AcceptsRecord, AllAccepted, OneRefused}
@@ -51,18 +52,27 @@ abbrev AllApart : List ℕ → List ℕ → List ℕ → Type 0
 AllApart b fields names = (t : ℕ) → LabelOfAny b names t → NameApart b fields t
 
 module _ {b : List ℕ} where
-  question_skips : {names after : List ℕ} {p q : ℕ} → AcceptsQuestion b names p q after → SkipsQuestion b p q
+  -- a question that is accepted can be skipped
+  pub question_skips : {names after : List ℕ} {p q : ℕ} → AcceptsQuestion b names p q after → SkipsQuestion b p q
   question_skips a = record { name_end = a.name_end; name_ends = a.name.ends; end = a.end; within = a.within }
 
   pub records_skipped : {n p q : ℕ} {names after : List ℕ} → AllAccepted (AcceptsRecord b) n names p q after → Skipped (SkipsRecord b) n p q
   records_skipped x = skipped_if (λ names after p q a. a.skips) x
+
+  -- questions that are accepted end where they are skipped to
+  pub asked_end : {n p q r : ℕ} {names after : List ℕ} → AllAccepted (AcceptsQuestion b) n names p q after → Skipped (SkipsQuestion b) n p r → q ≡ r
+  asked_end none Skipped.none = refl
+  asked_end {r = r} (more {n = n} {p = p} {q = q} h x) (Skipped.more {q = q'} k y) =
+      let e : q' ≡ q = (question_end_or_fault b).one p q' q k (question_skips h) in
+      asked_end x (subst (λ q. Skipped (SkipsQuestion b) n q r) e y)
 
   -- each question ends after its begin
   pub questions_rise : {n p q : ℕ} {names after : List ℕ} → AllAccepted (AcceptsQuestion b) n names p q after → p ≤ q
   questions_rise none = omega arith
   questions_rise (more h x) = let l = ends_after h.name.ends in let e = h.end in let w = questions_rise x in omega arith
 
-  names_rise : {n p q : ℕ} {names after : List ℕ} → AllAccepted (AcceptsName b) n names p q after → p ≤ q
+  -- names that are accepted end after their begin
+  pub names_rise : {n p q : ℕ} {names after : List ℕ} → AllAccepted (AcceptsName b) n names p q after → p ≤ q
   names_rise none = omega arith
   names_rise (more h x) = let l = ends_after h.ends in let w = names_rise x in omega arith
 

@@ -23,7 +23,8 @@ use Rattle.dns_read.proofs.theory.RecordsFromLemmas.{records_from_are_read}
 use Rattle.dns_read.specs.Sections.{question_count, answer_count, authority_count, additional_count, AnswersStart, AuthoritiesStart, AdditionalsStart}
 use Rattle.dns_read.specs.declared.section.Section.{Section}
 use Rattle.dns_read.specs.declared.section.Section.TheVariants.{Answer, Authority, Additional}
-use Rattle.dns_edit.specs.Alike.{EntriesAlike, SectionAlike, named_question, named_record}
+use Rattle.dns_edit.specs.Alike.{SectionAlike, named_question, named_record}
+use Rattle.dns_edit.specs.Offsets.{RdataNameAt}
 use Rattle.dns_edit.specs.Ttls.{record_total}
 use Rattle.dns_edit.proofs.AgreeLemmas.{SameFrom, number_same16, number_same32}
 use Rattle.dns_edit.proofs.EntryLemmas.{skipped_by}
@@ -35,33 +36,36 @@ pub data NameAlike (f : List ℕ → List ℕ) (b c : List ℕ) : ℕ → Type 0
   label : {p n : ℕ} → head_at b p ≡ Ok (Label n) → head_at c p ≡ Ok (Label n) → f (label_at c p n) ≡ f (label_at b p n) → NameAlike f b c (p + 1 + n) → NameAlike f b c p
   pointer : {p t : ℕ} → head_at b p ≡ Ok (Pointer t) → head_at c p ≡ Ok (Pointer t) → NameAlike f b c t → NameAlike f b c p
 
--- the label at offset p reads alike, and the name after it
-abbrev Labelled : (List ℕ → List ℕ) → List ℕ → List ℕ → ℕ → ℕ → Type 0
+-- The label at offset p reads alike, and the name after it.
+abbrev pub Labelled : (List ℕ → List ℕ) → List ℕ → List ℕ → ℕ → ℕ → Type 0
 Labelled f b c p n = (head_at c p ≡ Ok (Label n)) × (f (label_at c p n) ≡ f (label_at b p n)) × NameAlike f b c (p + 1 + n)
 
--- the pointer at offset p reads alike, and the name that it leads to
-abbrev Pointed : (List ℕ → List ℕ) → List ℕ → List ℕ → ℕ → ℕ → Type 0
+-- The pointer at offset p reads alike, and the name that it leads to.
+abbrev pub Pointed : (List ℕ → List ℕ) → List ℕ → List ℕ → ℕ → ℕ → Type 0
 Pointed f b c p t = (head_at c p ≡ Ok (Pointer t)) × NameAlike f b c t
 
--- the name that is read in the other octets
-record Other (f : List ℕ → List ℕ) (c : List ℕ) (p : ℕ) (name : Labels) : Type 0 where
-  name' : Labels
-  is_at : NameAt c p name'
-  alike : map f name' ≡ map f name
-  size : name_size name' ≡ name_size name
+-- The name that is read in the other octets.
+pub record Other (f : List ℕ → List ℕ) (c : List ℕ) (p : ℕ) (name : Labels) : Type 0 where
+  pub name' : Labels
+  pub is_at : NameAt c p name'
+  pub alike : map f name' ≡ map f name
+  pub size : name_size name' ≡ name_size name
 
 module _ {f : List ℕ → List ℕ} {b c : List ℕ} where
-  alike_root : {p : ℕ} → NameAlike f b c p → head_at b p ≡ Ok Root → head_at c p ≡ Ok Root
+  -- A root label is read alike.
+  pub alike_root : {p : ℕ} → NameAlike f b c p → head_at b p ≡ Ok Root → head_at c p ≡ Ok Root
   alike_root (NameAlike.root h g) e = g
   alike_root (NameAlike.label h g l x) e = cc
   alike_root (NameAlike.pointer h g x) e = cc
 
-  alike_label : {p n : ℕ} → NameAlike f b c p → head_at b p ≡ Ok (Label n) → Labelled f b c p n
+  -- A label is read alike.
+  pub alike_label : {p n : ℕ} → NameAlike f b c p → head_at b p ≡ Ok (Label n) → Labelled f b c p n
   alike_label (NameAlike.root h g) e = cc
   alike_label {p = p} (NameAlike.label {n = k} h g l x) e = subst (Labelled f b c p) (let same : k ≡ _ = cc in same) (g, l, x)
   alike_label (NameAlike.pointer h g x) e = cc
 
-  alike_pointer : {p t : ℕ} → NameAlike f b c p → head_at b p ≡ Ok (Pointer t) → Pointed f b c p t
+  -- A pointer is read alike.
+  pub alike_pointer : {p t : ℕ} → NameAlike f b c p → head_at b p ≡ Ok (Pointer t) → Pointed f b c p t
   alike_pointer (NameAlike.root h g) e = cc
   alike_pointer (NameAlike.label h g l x) e = cc
   alike_pointer {p = p} (NameAlike.pointer {t = k} h g x) e = subst (Pointed f b c p) (let same : k ≡ _ = cc in same) (g, x)
@@ -72,7 +76,8 @@ module _ {f : List ℕ → List ℕ} {b c : List ℕ} where
   alike_fault (NameAlike.pointer h g x) e = cc
 
   module _ (long : length b ≡ length c) where
-    name_alike : {p : ℕ} {name : Labels} → NameAlike f b c p → NameAt b p name → Other f c p name
+    -- A name that reads alike is read.
+    pub name_alike : {p : ℕ} {name : Labels} → NameAlike f b c p → NameAt b p name → Other f c p name
     name_alike w (NameAt.root h) = record { name' = []; is_at = NameAt.root (alike_root w h); alike = refl; size = refl }
     name_alike w (NameAt.label {p = p} {n = n} {name = name} h fits x small) =
         let y = alike_label w h in
@@ -130,13 +135,15 @@ record RecordOther (f : List ℕ → List ℕ) (c : List ℕ) (p q : ℕ) (x : R
   reads : ReadsRecord c p q entry
   alike : named_record (map f) (Ok entry) ≡ named_record (map f) (Ok x)
 
--- Both have the same counts, and the entries read alike.
+-- Both have the same length and the same counts but for ARCOUNT, and the entries and the names in RDATA read alike.
 pub record AllAlike (f : List ℕ → List ℕ) (b c : List ℕ) : Type 0 where
-  pub counts : (p : ℕ) → 4 ≤ p → p + 2 ≤ header_size → number_at w16 b p ≡ number_at w16 c p
+  pub long : length b ≡ length c
+  pub counts : (p : ℕ) → 4 ≤ p → p + 2 ≤ 10 → number_at w16 b p ≡ number_at w16 c p
   pub start : ℕ
   pub end : ℕ
   pub questions : Skipped (QuestionAlike f b c) (question_count b) header_size start
   pub records : Skipped (RecordAlike f b c) (record_total b) start end
+  pub rdata : (p end : ℕ) → RdataNameAt b p end → NameAlike f b c p
 
 module _ {f : List ℕ → List ℕ} {b c : List ℕ} where
   question_skips : {p q : ℕ} → QuestionAlike f b c p q → SkipsQuestion c p q
@@ -277,6 +284,22 @@ module _ {f : List ℕ → List ℕ} {b c : List ℕ} where
       sections Authority = (p, record { before = (all.start, asked, skip x.0); after = authorities; records = records_alike x.1 })
       sections Additional = (q, record { before = (p, (all.start, asked, skip x.0), skip x.1); after = additionals; records = records_alike x.2 })
 
-    -- Then the messages read alike.
-    pub entries_alike : EntriesAlike (map f) b c
-    entries_alike = record { questions = questions_alike all.questions; sections = sections parts.0 parts.1 parts.2 }
+    -- Then the questions and the records read alike.
+    pub all_questions : map (named_question (map f)) (questions_from c (question_count b) header_size) ≡ map (named_question (map f)) (questions_from b (question_count b) header_size)
+    all_questions = questions_alike all.questions
+
+    -- Each section reads alike.
+    pub all_sections : (which : Section) → (p : ℕ) × SectionAlike (map f) b c which p
+    all_sections = sections parts.0 parts.1 parts.2
+
+    -- So do the first records of the additional section.
+    pub first_additionals : (m : ℕ) → additional_count b ≡ m + 1 → (p : ℕ) × AdditionalsStart b p × AdditionalsStart c p
+        × (map (named_record (map f)) (records_from c m p) ≡ map (named_record (map f)) (records_from b m p))
+    first_additionals m e =
+        let x = parts.2 in
+        let first = in_two m 1 e x.2 in (
+          parts.1,
+          (parts.0, (all.start, asked parts.0 parts.1 x, skip x.0), skip x.1),
+          additionals parts.0 parts.1 x,
+          records_alike first.1,
+        )

@@ -31,9 +31,10 @@ use Rattle.dns_edit.specs.Case.{AsksFor}
 use Rattle.dns_edit.specs.Pointers.{AcceptsName, LabelOf, PointsTo}
 use Rattle.dns_edit.proofs.AcceptLemmas.{questions_rise}
 use Rattle.dns_edit.proofs.AgreeLemmas.{SameFrom, as_long, same_after}
-use Rattle.dns_edit.proofs.AlikeLemmas.{AllAlike, NameAlike, QuestionAlike, ends_alike, entries_alike}
+use Rattle.dns_edit.proofs.AlikeLemmas.{AllAlike, NameAlike, QuestionAlike, ends_alike}
+use Rattle.dns_edit.proofs.CutLemmas.{entries_alike}
 use Rattle.dns_edit.specs.Ttls.{record_total}
-use Rattle.dns_edit.proofs.RegularLemmas.{LabelsAlike, questions_alike, records_alike}
+use Rattle.dns_edit.proofs.RegularLemmas.{LabelsAlike, questions_alike, rdata_alike, records_alike}
 use Rattle.dns_edit.proofs.RegularStays.{LabelsStay, questions_stay, records_stay}
 use Rattle.dns_edit.proofs.WalkLemmas.{label_next, no_label_at_root}
 
@@ -56,8 +57,8 @@ name_there {c = c} p (label ∷ name) is h =
     let P : List ℕ → Type 0 = λ octets. NameAt c p (octets ∷ name) in
     subst P (label_octets first) (NameAt.label (octets_at.label_begins t.0 first) (let w = first.within in omega arith) rest (omega (arith, is.short)))
 
--- its encoding is these octets
-name_ends : {c : List ℕ} (p s : ℕ) (name : Labels) → IsName name → s + name_size name ≤ max_size → At c p (uncompressed name) → NameContinues c p s (p + length (uncompressed name))
+-- Its encoding is these octets.
+pub name_ends : {c : List ℕ} (p s : ℕ) (name : Labels) → IsName name → s + name_size name ≤ max_size → At c p (uncompressed name) → NameContinues c p s (p + length (uncompressed name))
 name_ends {c = c} p s [] is small h =
     let P : ℕ → Type 0 = λ q. NameContinues c p s q in
     let e : p + 1 ≡ p + length (uncompressed []) = omega arith in
@@ -95,7 +96,8 @@ written_name b slice octets c name is same e asks w =
 
 -- octets that are the same, ignoring ASCII case
 
-abbrev lower : List ℕ → List ℕ
+-- Octets with their ASCII letters lowercased.
+abbrev pub lower : List ℕ → List ℕ
 lower xs = map to_ascii_lowercase xs
 
 low_stays : (n : ℕ) → n ≤ 63 → to_ascii_lowercase n ≡ n
@@ -137,8 +139,8 @@ module _ (b c : List ℕ) (same : lower b ≡ lower c) where
       sym (take-map to_ascii_lowercase k (drop (p + 1) c)) ∙ ap (take k) (sym (drop-map to_ascii_lowercase (p + 1) c)) ∙ ap (λ (xs : List ℕ). take k (drop (p + 1) xs)) (sym same)
       ∙ ap (take k) (drop-map to_ascii_lowercase (p + 1) b) ∙ take-map to_ascii_lowercase k (drop (p + 1) b)
 
-  -- a name without pointer reads alike
-  first_alike : {p s q : ℕ} → NameContinues b p s q → ((t : ℕ) → PointsTo b p t → ⊥)
+  -- A name without pointer reads alike.
+  pub first_alike : {p s q : ℕ} → NameContinues b p s q → ((t : ℕ) → PointsTo b p t → ⊥)
       → NameAlike lowered_label b c p × ((t : ℕ) → LabelOf b p t → NameAlike lowered_label b c t)
   first_alike (NameContinues.root {p = p} h) points = (NameAlike.root h (root_same p h), λ t x. absurd (no_label_at_root h x))
   first_alike (NameContinues.pointer {t = t} h) points = absurd (points t (PointsTo.pointer h))
@@ -151,8 +153,8 @@ module _ (b c : List ℕ) (same : lower b ≡ lower c) where
   label_stays (LabelOf.first {p = p} {n = n} h) = LabelOf.first (label_same p n h)
   label_stays (LabelOf.later {p = p} {n = n} h x) = LabelOf.later (label_same p n h) (label_stays x)
 
--- a name that reads alike points to the same offset
-alike_points : {f : List ℕ → List ℕ} {b c : List ℕ} {p t : ℕ} → NameAlike f b c p → PointsTo c p t → PointsTo b p t
+-- A name that reads alike points to the same offset.
+pub alike_points : {f : List ℕ → List ℕ} {b c : List ℕ} {p t : ℕ} → NameAlike f b c p → PointsTo c p t → PointsTo b p t
 alike_points (NameAlike.root h k) (PointsTo.pointer g) = absurd (cc)
 alike_points (NameAlike.root h k) (PointsTo.label g x) = absurd (cc)
 alike_points {b = b} {p = p} {t = t} (NameAlike.pointer h k r) (PointsTo.pointer g) = let e : head_at b p ≡ Ok (Pointer t) = cc in PointsTo.pointer e
@@ -169,8 +171,8 @@ in_parts b p n =
     ∙ ap (λ (ys : List ℕ). take p b ++ ys) (ap (λ (ys : List ℕ). take n (drop p b) ++ ys) (sym (drop-drop n p b)) ∙ take-append-drop n (drop p b))
     ∙ take-append-drop p b)
 
--- octets that are overwritten by others that are the same, ignoring ASCII case
-lower_overwritten : (b xs : List ℕ) (p : ℕ) → lower (take (length xs) (drop p b)) ≡ lower xs → lower b ≡ lower (overwritten b p xs)
+-- Octets that are overwritten by others that are the same, ignoring ASCII case, stay the same so.
+pub lower_overwritten : (b xs : List ℕ) (p : ℕ) → lower (take (length xs) (drop p b)) ≡ lower xs → lower b ≡ lower (overwritten b p xs)
 lower_overwritten b xs p e =
     let n = length xs in
     let old = take n (drop p b) in
@@ -253,12 +255,15 @@ pub case_reads_alike : CaseReadsAlike
 case_reads_alike b name (start, a) is asks =
     let x = asked b name is asks refl asks.0 a.questions in
     let fits = inside b name is asks in
+    let entries = records_alike x.same_after_name x.low a.records x.labels in
     let all : AllAlike lowered_label b (overwritten b header_size (uncompressed name)) = record {
-      counts = λ p low high. count_kept b (uncompressed name) p high (omega arith);
+      long = long b name is asks;
+      counts = λ p low high. count_kept b (uncompressed name) p (omega arith) (omega arith);
       start = start;
       end = a.end;
       questions = x.questions;
-      records = records_alike x.same_after_name x.low a.records x.labels;
+      records = entries.0;
+      rdata = rdata_alike x.same_after_name a x.low entries.1;
     } in
     entries_alike all
 

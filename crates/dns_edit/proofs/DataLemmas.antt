@@ -44,16 +44,20 @@ get_cut (x ∷ b) [] (suc e) (suc k) h = sym (cut_none b e k (sym h))
 get_cut (x ∷ b) (y ∷ c) (suc e) zero h = h
 get_cut (x ∷ b) (y ∷ c) (suc e) (suc k) h = get_cut b c e k h
 
+-- What begins in the octets before an offset begins in all octets.
 module _ (b : List ℕ) (e : ℕ) where
-  lift_root : (p : ℕ) → head_at (take e b) p ≡ Ok Root → head_at b p ≡ Ok Root
+  -- a root label
+  pub lift_root : (p : ℕ) → head_at (take e b) p ≡ Ok Root → head_at b p ≡ Ok Root
   lift_root p h = root_begins b p (get_of_take b e p 0 (root_there (take e b) p h))
 
-  lift_label : (p : ℕ) {n : ℕ} → head_at (take e b) p ≡ Ok (Label n) → head_at b p ≡ Ok (Label n)
+  -- a label
+  pub lift_label : (p : ℕ) {n : ℕ} → head_at (take e b) p ≡ Ok (Label n) → head_at b p ≡ Ok (Label n)
   lift_label p {n = n} h =
       let l = label_head (take e b) p n h in
       label_begins b p n (omega (arith, l.some)) (omega (arith, l.short)) (get_of_take b e p n (label_there (take e b) p n h))
 
-  lift_pointer : (p : ℕ) {t : ℕ} → head_at (take e b) p ≡ Ok (Pointer t) → head_at b p ≡ Ok (Pointer t)
+  -- a pointer
+  pub lift_pointer : (p : ℕ) {t : ℕ} → head_at (take e b) p ≡ Ok (Pointer t) → head_at b p ≡ Ok (Pointer t)
   lift_pointer p {t = t} h =
       let w = pointer_within (take e b) p t h in
       let n = length-take e b in
@@ -77,25 +81,25 @@ name_cut {b = b} {c = c} e s w (NameAt.label {p = p} {n = n} {name = name} h fit
 name_cut {b = b} e s w (NameAt.pointer h back x) =
     let y = apart_pointer w (lift_pointer b e _ h) in NameAt.pointer (pointer_same (cut_same e s) y.0 h) back (name_cut e s y.1 x)
 
-module _ {fields b c : List ℕ} (e : ℕ) (s : SameApart fields b c) where
-  -- past the end of the RDATA there is nothing in both
-  past_same : (p : ℕ) → e ≤ p → head_at (take e b) p ≡ head_at (take e c) p
-  past_same p l =
-      let n = length-take e b in
-      let m = length-take e c in
-      same_head (take e b) (take e c) p (slice_get_past (take e b) p (omega arith) ∙ sym (slice_get_past (take e c) p (omega arith)))
-      (slice_get_past (take e b) (p + 1) (omega arith) ∙ sym (slice_get_past (take e c) (p + 1) (omega arith)))
+-- Past the end of the RDATA there is nothing in both.
+pub past_same : (b c : List ℕ) (e p : ℕ) → e ≤ p → head_at (take e b) p ≡ head_at (take e c) p
+past_same b c e p l =
+    let n = length-take e b in
+    let m = length-take e c in
+    same_head (take e b) (take e c) p (slice_get_past (take e b) p (omega arith) ∙ sym (slice_get_past (take e c) p (omega arith)))
+    (slice_get_past (take e b) (p + 1) (omega arith) ∙ sym (slice_get_past (take e c) (p + 1) (omega arith)))
 
+module _ {fields b c : List ℕ} (e : ℕ) (s : SameApart fields b c) where
   head_fault : {p : ℕ} {f : Fault} → NameApart b fields p → head_at (take e b) p ≡ Err f → head_at (take e c) p ≡ Err f
   head_fault (NameApart.root {p = p} h a) g = elim (cases_lt p e) [
     | inl l ↦ let there = root_begins (take e b) p (get_take b e p l ∙ root_there b p h) in cc
-    | inr l ↦ sym (past_same p l) ∙ g
+    | inr l ↦ sym (past_same b c e p l) ∙ g
   ]
   head_fault (NameApart.label {p = p} {n = n} h a x) g = elim (cases_lt p e) [
     | inl l ↦
         let k = label_head b p n h in
         let there = label_begins (take e b) p n (omega (arith, k.some)) (omega (arith, k.short)) (get_take b e p l ∙ label_there b p n h) in cc
-    | inr l ↦ sym (past_same p l) ∙ g
+    | inr l ↦ sym (past_same b c e p l) ∙ g
   ]
   head_fault (NameApart.pointer {p = p} h a x) g =
       let first = s.same p (apart_in fields p (p + 2) p (p + 1) (omega arith) (omega arith) a) in

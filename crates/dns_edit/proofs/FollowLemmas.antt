@@ -1,7 +1,6 @@
 -- Reading a name of a regular message follows few pointers: each leads to a label, and a name has at most 127 labels.
-use Rattle.std.proofs.Common.{◌≡◌, ℕ, ◌+◌, ◌≤◌, inl, inr, List, [], ◌∷◌, All, arith, subst, sym}
+use Rattle.std.proofs.Common.{◌≡◌, ℕ, ◌+◌, ◌≤◌, inl, inr, List, [], ◌∷◌, arith, subst, sym}
 use Rattle.std.specs.Prelude.{Ok}
-use Rattle.std.proofs.lemmas.List.Elements.{All-nil, All-cons}
 use Rattle.dns_name.specs.Names.{head_at, max_size}
 use Rattle.dns_name.specs.Unique.{label_head}
 use Rattle.dns_name.specs.declared.head.Head.TheVariants.{Root, Label}
@@ -9,6 +8,7 @@ use Rattle.dns_edit.specs.Acceptance.{AcceptsData, AcceptsQuestion, AcceptsRecor
 use Rattle.dns_edit.specs.Acceptance.AllAccepted.{none, more}
 use Rattle.dns_edit.specs.Following.{FollowsFew, NamesFollowFew, ReadsTo}
 use Rattle.dns_edit.specs.Pointers.{AcceptsName, LabelOf, LabelOfAny, PointsTo}
+use Rattle.dns_edit.proofs.OffsetLemmas.{LeadsTo, question_leads, owner_leads, rdata_name}
 
 -- a label that is one of a name begins at its offset
 some_label : {b : List ℕ} {p t : ℕ} → LabelOf b p t → (n : ℕ) × (head_at b t ≡ Ok (Label n))
@@ -24,27 +24,13 @@ points_from : {b : List ℕ} {p t u : ℕ} → LabelOf b p t → PointsTo b t u 
 points_from (LabelOf.first h) y = y
 points_from (LabelOf.later h x) y = PointsTo.label h (points_from x y)
 
--- from offset p on, a pointer leads to a label of one of the names
-abbrev LeadsTo : List ℕ → List ℕ → ℕ → Type 0
-LeadsTo b names p = (t : ℕ) → PointsTo b p t → LabelOfAny b names t
-
--- each pointer of the names, and of their labels, leads to a label of one of them
+-- each pointer of the labels of the names leads to a label of one of them
 record Closed (b names : List ℕ) : Type 0 where
-  own : All (LeadsTo b names) names
   labels : (t : ℕ) → LabelOfAny b names t → LeadsTo b names t
 
-all_leads : {b : List ℕ} (p : ℕ) (names some : List ℕ) → All (LeadsTo b names) some → All (LeadsTo b (p ∷ names)) some
-all_leads p names some a = λ k d less t x. inr (a k d less t x)
-
 module _ {b : List ℕ} where
-  closed_none : Closed b []
-  closed_none = record { own = All-nil _; labels = λ t x. absurd x }
-
-  closed_add : {p : ℕ} {names : List ℕ} → ((t : ℕ) → PointsTo b p t → LabelOfAny b names t) → Closed b names → Closed b (p ∷ names)
-  closed_add {p = p} {names = names} back c = record {
-    own = All-cons (LeadsTo b (p ∷ names)) p names (λ t x. inr (back t x)) (all_leads p names names c.own);
-    labels = λ t x u y. elim x [ inl own ↦ inr (back u (points_from own y)) | inr before ↦ inr (c.labels t before u y) ];
-  }
+  closed_add : {p : ℕ} {names : List ℕ} → LeadsTo b names p → Closed b names → Closed b (p ∷ names)
+  closed_add back c = record { labels = λ t x u y. elim x [ inl own ↦ inr (back u (points_from own y)) | inr before ↦ inr (c.labels t before u y) ] }
 
   name_closed : {names after : List ℕ} {p q : ℕ} → AcceptsName b names p q after → Closed b names → Closed b after
   name_closed a c = subst (λ (names : List ℕ). Closed b names) (sym a.added) (closed_add (λ t x. (a.back t x).1) c)
@@ -108,6 +94,10 @@ follows_few c g = record {
 
 -- To read a name of a regular message, at most 127 pointers are followed, and 128 if reading fails.
 pub names_follow_few : NamesFollowFew
-names_follow_few b start a =
-    let c = records_closed a.records (questions_closed a.questions closed_none) in
-    λ k d less. follows_few c (c.own k d less)
+names_follow_few b (start, a) =
+    let c : Closed b a.names = records_closed a.records (questions_closed a.questions (record { labels = λ t x. absurd x })) in
+    record {
+      questions = λ p x. follows_few c (question_leads a p x);
+      owners = λ p x. follows_few c (owner_leads a p x);
+      rdata = λ p end x. follows_few c (rdata_name a p end x).leads;
+    }

@@ -9,9 +9,15 @@ mod WriteLemmas
 mod StayLemmas
 mod ReadLemmas
 mod MinLemmas
+mod NamedTypes
 mod DataLemmas
+mod OffsetLemmas
 mod FollowLemmas
+mod CutLemmas
 mod AlikeLemmas
 mod RegularLemmas
 mod RegularStays
+mod RegularTtls
 mod CaseLemmas
+mod AskedLemmas
+mod OptLemmas

@@ -1,25 +1,33 @@
 -- The entries of a regular message read alike in octets that are the same from some offset on.
-use Rattle.std.proofs.Common.{◌≡◌, ◌∙◌, ℕ, ◌+◌, ◌-◌, ◌≤◌, inl, inr, List, [], ◌∷◌, take, length, length-drop, map, arith, refl, subst, sym, ap}
-use Rattle.std.specs.Prelude.{Result, Ok, Err}
+use Rattle.std.proofs.Common.{◌≡◌, ◌∙◌, ℕ, ◌+◌, ◌-◌, ◌<◌, ◌≤◌, inl, inr, List, [], ◌∷◌, take, drop, length, length-drop, map, arith, refl, subst, sym, ap}
+use Rattle.std.specs.Prelude.{Result, Ok, Err, slice_get}
+use Rattle.std.specs.Int.{w16, from_be_bytes}
 use Rattle.std.proofs.lemmas.List.{map-id}
-use Rattle.dns_name.specs.Names.{Labels, Fault, label_at, NameContinues}
+use Rattle.dns_name.specs.Names.{Labels, Fault, label_at, NameAt, NameContinues}
+use Rattle.dns_name.specs.Parsers.{number_at}
 use Rattle.dns_name.proofs.theory.ExtentLaws.{ends_after}
+use Rattle.dns_wire.proofs.theory.Stability.{get_take, same_part}
 use Rattle.dns_code.specs.HeaderSection.{header_size}
 use Rattle.dns_item.specs.Questions.{QuestionItem, SkipsQuestion}
 use Rattle.dns_item.specs.Items.{RecordEntry}
 use Rattle.dns_read.specs.Reading.{Skipped}
 use Rattle.dns_read.specs.QuestionsFrom.{questions_from}
 use Rattle.dns_read.specs.RecordsFrom.{records_from}
-use Rattle.dns_read.specs.Sections.{question_count, record_count}
-use Rattle.dns_edit.specs.Acceptance.{AcceptsData, AcceptsQuestion, AcceptsRecord, AllAccepted}
+use Rattle.dns_read.specs.Sections.{additional_count, question_count, record_count}
+use Rattle.dns_edit.specs.Acceptance.{AcceptsData, AcceptsFrom, AcceptsQuestion, AcceptsRecord, AllAccepted, IsRegular}
 use Rattle.dns_edit.specs.Acceptance.AllAccepted.{none, more}
-use Rattle.dns_edit.specs.Alike.{EntriesAlike, EntriesSame, HeaderReadsAlike, named_question, named_record}
+use Rattle.dns_edit.specs.Alike.{EntriesAlike, EntriesSame, HeaderReadsAlike, ReadsNameAs, named_question, named_record}
+use Rattle.dns_edit.specs.Offsets.{RdataNameAt}
+use Rattle.dns_edit.specs.Opt.{RemovedReadsAlike}
 use Rattle.dns_edit.specs.Pointers.{AcceptsName, LabelOf, LabelOfAny, PointsTo}
 use Rattle.dns_edit.specs.Rdata.{names_start}
+use Rattle.dns_edit.specs.Readings.{ReadsNameAlike}
 use Rattle.dns_edit.proofs.AcceptLemmas.{names_low, questions_rise}
 use Rattle.dns_edit.proofs.AgreeLemmas.{SameFrom, dropped, head_same, number_same16}
-use Rattle.dns_edit.proofs.AlikeLemmas.{AllAlike, NameAlike, QuestionAlike, RecordAlike, entries_alike}
+use Rattle.dns_edit.proofs.AlikeLemmas.{AllAlike, NameAlike, QuestionAlike, RecordAlike, first_additionals}
+use Rattle.dns_edit.proofs.CutLemmas.{entries_alike}
 use Rattle.dns_edit.proofs.EntryLemmas.{long_record}
+use Rattle.dns_edit.proofs.OffsetLemmas.{rdata_name}
 use Rattle.dns_edit.proofs.WalkLemmas.{label_next, no_label_at_pointer, no_label_at_root}
 
 -- Names that begin at labels of these names read alike.
@@ -82,8 +90,8 @@ module _ {f : List ℕ → List ℕ} {b c : List ℕ} where
 
     -- Records at or after the offset read alike.
     pub records_alike : {n p r : ℕ} {names after : List ℕ} → from ≤ p → AllAccepted (AcceptsRecord b) n names p r after → LabelsAlike f b c names
-        → Skipped (RecordAlike f b c) n p r
-    records_alike l none all = Skipped.none
+        → Skipped (RecordAlike f b c) n p r × LabelsAlike f b c after
+    records_alike l none all = (Skipped.none, all)
     records_alike l (more {p = p} {q = q} h x) all =
         let w = long_record b h.skips in
         let low = w.0 in
@@ -93,7 +101,16 @@ module _ {f : List ℕ → List ℕ} {b c : List ℕ} where
         let second = data_alike rdata h.rdata first.1 in
         let this : RecordAlike f b c p q = record { skips = h.skips; owner = first.0; after = later same h.skips.name_end (omega arith) } in
         let next : from ≤ q = omega arith in
-        Skipped.more this (records_alike next x second)
+        let rest = records_alike next x second in
+        (Skipped.more this rest.0, rest.1)
+
+    -- Names in RDATA at or after the offset read alike.
+    pub rdata_alike : {start : ℕ} (a : AcceptsFrom b start) → from ≤ start → LabelsAlike f b c a.names → (p end : ℕ) → RdataNameAt b p end → NameAlike f b c p
+    rdata_alike a l all p end x =
+        let y = rdata_name a p end x in
+        let low = y.low in
+        let there : from ≤ p = omega arith in
+        (own_alike there y.ends (λ t z. all t (y.leads t z))).0
 
 -- the first four octets
 
@@ -111,6 +128,18 @@ same_question (Err e) = refl
 same_record : (x : Result RecordEntry Fault) → named_record (map unchanged) x ≡ x
 same_record (Ok x) = ap (λ (name : Labels). let entry : RecordEntry = record x { owner = name } in let r : Result RecordEntry Fault = Ok entry in r) (map-id x.owner)
 same_record (Err e) = refl
+
+same_name : (other name : Labels) → map unchanged other ≡ map unchanged name → other ≡ name
+same_name other name e = sym (map-id other) ∙ e ∙ map-id name
+
+name_same : {b c : List ℕ} {p : ℕ} → ReadsNameAs (map unchanged) b c p → ReadsNameAlike b c p
+name_same {b = b} {c = c} {p = p} h = record {
+  names = λ name. (
+    λ x. let o = h.before name x in subst (λ (name : Labels). NameAt c p name) (same_name o.0 name o.2) o.1,
+    λ x. let o = h.after name x in subst (λ (name : Labels). NameAt b p name) (same_name o.0 name o.2) o.1,
+  );
+  faults = h.faults;
+}
 
 alike_same : {b c : List ℕ} → EntriesAlike (map unchanged) b c → EntriesSame b c
 alike_same {b = b} {c = c} h =
@@ -130,24 +159,55 @@ alike_same {b = b} {c = c} h =
                   ∙ map_same (named_record (map unchanged)) same_record (records_from b n x.0);
             },
           );
+      rdata = λ p end x. name_same (h.rdata p end x);
+    }
+
+-- Octets of the header section that aren't the first counts are in no name of a regular message.
+all_same : (b c : List ℕ) (from : ℕ) → from ≤ header_size → SameFrom b c from → ((p : ℕ) → 4 ≤ p → p + 2 ≤ 10 → number_at w16 b p ≡ number_at w16 c p)
+    → IsRegular b → AllAlike unchanged b c
+all_same b c from first same counts (start, a) =
+    let rise = questions_rise a.questions in
+    let second : from ≤ start = omega arith in
+    let asked = questions_alike {f = unchanged} same first a.questions (λ t x. absurd x) in
+    let entries = records_alike same second a.records asked.1 in
+    record {
+      long = same.long;
+      counts = counts;
+      start = start;
+      end = a.end;
+      questions = asked.0;
+      records = entries.0;
+      rdata = rdata_alike same a second entries.1;
     }
 
 -- Changes of the first four octets of a regular message change no name.
 pub header_reads_alike : HeaderReadsAlike
-header_reads_alike b c (start, a) long there e =
+header_reads_alike b c regular long there e =
     let n = length-drop 4 b in
     let m = length-drop 4 c in
     let k = ap length e in
     let same : SameFrom b c 4 = record { long = omega arith; octets = sym e } in
-    let rise = questions_rise a.questions in
-    let first : 4 ≤ header_size = omega arith in
-    let second : 4 ≤ start = omega arith in
-    let asked = questions_alike {f = unchanged} same first a.questions (λ t x. absurd x) in
-    let all : AllAlike unchanged b c = record {
-      counts = λ p low high. number_same16 same p low;
-      start = start;
-      end = a.end;
-      questions = asked.0;
-      records = records_alike same second a.records asked.1;
-    } in
-    alike_same (entries_alike all)
+    alike_same (entries_alike (all_same b c 4 (omega arith) same (λ p low high. number_same16 same p low) regular))
+
+-- A count before ARCOUNT is the same if the octets before it are.
+pub count_same : (b c : List ℕ) (p : ℕ) → p + 2 ≤ 10 → take 10 b ≡ take 10 c → number_at w16 b p ≡ number_at w16 c p
+count_same b c p l before =
+    let n : p + 2 - p ≡ 2 = omega arith in
+    let each : (k : ℕ) → p ≤ k → k < p + 2 → slice_get b k ≡ slice_get c k =
+    λ k low high. sym (get_take b 10 k (omega arith)) ∙ ap (λ (ys : List ℕ). slice_get ys k) before ∙ get_take c 10 k (omega arith) in
+    ap (λ n. from_be_bytes w16 (take n (drop p b))) n ∙ ap (from_be_bytes w16) (same_part b c 2 p each) ∙ ap (λ n. from_be_bytes w16 (take n (drop p c))) (sym n)
+
+-- The removal of the last record of a regular message changes no name.
+pub removed_reads_alike : RemovedReadsAlike
+removed_reads_alike b c regular long there lost =
+    let n = length-drop header_size b in
+    let m = length-drop header_size c in
+    let k = ap length lost.after in
+    let same : SameFrom b c header_size = record { long = omega arith; octets = sym lost.after } in
+    let all = all_same b c header_size (omega arith) same (λ p low high. count_same b c p high (sym lost.before)) regular in
+    let left = additional_count c in
+    let x = first_additionals all left (sym lost.count) in
+    let each = map_same (named_record (map unchanged)) same_record in (
+      alike_same (entries_alike all),
+      (x.0, record { before = x.1; after = x.2; records = sym (each (records_from c left x.0)) ∙ x.3 ∙ each (records_from b left x.0) }),
+    )

@@ -1,5 +1,5 @@
--- A regular message stays regular if its first four octets change, or the letter case of the name that it asks for.
-use Rattle.std.proofs.Common.{◌≡◌, ◌∙◌, ℕ, ◌+◌, ◌≤◌, inl, inr, List, [], length, length-drop, arith, subst, sym, ap}
+-- A regular message stays regular if its first four octets change, or if its last record is removed.
+use Rattle.std.proofs.Common.{◌≡◌, ◌∙◌, ℕ, zero, suc, ◌+◌, ◌≤◌, inl, inr, List, [], length, length-drop, arith, subst, sym, ap}
 use Rattle.std.specs.Prelude.{cond, get_or, nat_eq}
 use Rattle.std.proofs.lemmas.List.{get_or-drop}
 use Rattle.dns_name.proofs.theory.ExtentLaws.{ends_after}
@@ -8,12 +8,14 @@ use Rattle.dns_read.specs.Sections.{question_count}
 use Rattle.dns_edit.specs.Acceptance.{AcceptsData, AcceptsQuestion, AcceptsRecord, AllAccepted}
 use Rattle.dns_edit.specs.Acceptance.AllAccepted.{none, more}
 use Rattle.dns_edit.specs.Alike.{HeaderStaysRegular}
+use Rattle.dns_edit.specs.Opt.{RemovedStaysRegular}
 use Rattle.dns_edit.specs.Pointers.{AcceptsName, LabelOf, LabelOfAny, PointsTo}
 use Rattle.dns_edit.specs.Rdata.{name_count, names_start, octets_before, string_end}
 use Rattle.dns_edit.specs.Ttls.{record_total}
 use Rattle.dns_edit.proofs.AcceptLemmas.{names_low, questions_rise}
 use Rattle.dns_edit.proofs.AgreeLemmas.{SameFrom, continues_same, dropped, head_same, number_same16, skips_same}
 use Rattle.dns_edit.proofs.EntryLemmas.{long_record}
+use Rattle.dns_edit.proofs.RegularLemmas.{count_same}
 
 -- Labels of these names begin at the same offsets in other octets.
 abbrev pub LabelsStay : List ℕ → List ℕ → List ℕ → Type 0
@@ -130,5 +132,36 @@ header_stays_regular b c (start, a) long e =
         names = a.names;
         questions = subst (λ n. AllAccepted (AcceptsQuestion c) n [] header_size start a.asked) counted asked.0;
         records = subst (λ n. AllAccepted (AcceptsRecord c) n a.asked start a.end a.names) all (records_stay same second a.records asked.1);
+      },
+    )
+
+-- all entries but the last
+accepted_less : {Accepts : List ℕ → ℕ → ℕ → List ℕ → Type 0} {n p q : ℕ} {names after : List ℕ} (m : ℕ) → n ≡ m + 1 → AllAccepted Accepts n names p q after
+    → (r : ℕ) × (before : List ℕ) × AllAccepted Accepts m names p r before
+accepted_less {p = p} {names = names} zero e x = (p, names, none)
+accepted_less (suc m) e none = absurd (omega arith)
+accepted_less (suc m) e (more {n = n} h x) =
+    let y = accepted_less m (let less : n ≡ m + 1 = omega arith in less) x in
+    (y.0, y.1, more h y.2)
+
+-- The removal of the last record keeps a message regular.
+pub removed_stays_regular : RemovedStaysRegular
+removed_stays_regular b c (start, a) long there lost =
+    let n = length-drop header_size b in
+    let m = length-drop header_size c in
+    let k = ap length lost.after in
+    let same : SameFrom b c header_size = record { long = omega arith; octets = sym lost.after } in
+    let asked = questions_stay same (omega arith) a.questions (λ t x. absurd x) in
+    let records = records_stay same (questions_rise a.questions) a.records asked.1 in
+    let counted = λ (p : ℕ) (l : p + 2 ≤ 10). count_same b c p l (sym lost.before) in
+    let fewer : record_total b ≡ record_total c + 1 = omega (arith, counted 6 (omega arith), counted 8 (omega arith), lost.count) in
+    let left = accepted_less (record_total c) fewer records in (
+      start,
+      record {
+        end = left.0;
+        asked = a.asked;
+        names = left.1;
+        questions = subst (λ n. AllAccepted (AcceptsQuestion c) n [] header_size start a.asked) (counted 4 (omega arith)) asked.0;
+        records = left.2;
       },
     )

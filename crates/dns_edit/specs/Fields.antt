@@ -1,6 +1,6 @@
 -- That the table of names in RDATA is that of the fields of the record types.
-use Rattle.std.specs.Prelude.{◌≡◌, ℕ, ◌+◌, List, [], ◌∷◌, Bool, true, false, cond, nat_eq, suc}
-use Rattle.std.specs.List.{list_all}
+use Rattle.std.specs.Prelude.{◌≡◌, ◌≢◌, ◌==◌, ℕ, ◌+◌, List, [], ◌∷◌, Bool, true, false, cond, nat_eq, suc, IsTrue}
+use Rattle.std.specs.List.{list_all, list_any}
 use Rattle.fields_table.specs.RecordTypes.{Definition, TypeDefinition, record_types}
 use Rattle.fields_table.specs.Shapes.{shape_of}
 use Rattle.fields_table.specs.declared.shape.Shape.{Shape}
@@ -35,3 +35,7 @@ has_its_names type =
 -- The names in RDATA of each record type of `fields_table` are those among its fields.
 abbrev pub NamesAreFields : Type 0
 NamesAreFields = list_all has_its_names record_types ≡ true
+
+-- A record type with names in RDATA is one of `fields_table`.
+abbrev pub NamesAreOfFields : Type 0
+NamesAreOfFields = (n : ℕ) → name_count n ≢ 0 → IsTrue (list_any (λ type. type.number == n) record_types)

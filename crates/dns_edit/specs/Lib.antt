@@ -6,9 +6,11 @@ pub mod Pointers
 pub mod Marks
 pub mod Acceptance
 pub mod Spans
+pub mod Offsets
 pub mod Edits
 pub mod Readings
 pub mod Following
 pub mod Ends
 pub mod Case
 pub mod Alike
+pub mod Opt

@@ -36,3 +36,4 @@ pub record AcceptsName (b names : List ℕ) (p q : ℕ) (after : List ℕ) : Typ
 abbrev pub RefusesName : List ℕ → List ℕ → ℕ → EditError → Type 0
 RefusesName b names p (errors.Parse e) = SkipFaultAt b p (fault_of e)
 RefusesName b names p errors.Pointer = (q t : ℕ) × NameEndsAt b p q × PointsTo b p t × (IsLabelBefore b names p t → ⊥)
+RefusesName b names p errors.NotLast = ⊥

@@ -6,7 +6,7 @@ use Rattle.dns_read.specs.Reading.{Skipped}
 use Rattle.dns_edit.specs.Uses.{NameApart}
 
 -- Whether a number is in a list.
-abbrev is_among : ℕ → List ℕ → Bool
+abbrev pub is_among : ℕ → List ℕ → Bool
 is_among n [] = false
 is_among n (m ∷ ms) = cond (nat_eq n m) true (is_among n ms)
 
@@ -22,12 +22,19 @@ string_end b p = p + 1 + get_or b p 0
 abbrev pub names_start : List ℕ → ℕ → ℕ → ℕ
 names_start b rtype start = cond (nat_eq rtype 35) (string_end b (string_end b (string_end b (start + 4)))) (start + octets_before rtype)
 
--- The number of names that follow: 1 in NS (2), MD, MF, CNAME (5), MB (7), MG, MR (9), PTR (12), MX, AFSDB, RT, NSAP-PTR (23), SIG, NXT (30), SRV, NAPTR (35), KX, DNAME (39),
--- RRSIG (46), NSEC (47), SVCB, HTTPS, DSYNC, LP, TKEY (249) and TSIG (250); 2 in SOA (6), MINFO (14), RP (17), PX and TALINK (58).
+-- Types with one name in RDATA: NS (2), MD, MF, CNAME (5), MB (7), MG, MR (9), PTR (12), MX, AFSDB, RT, NSAP-PTR (23), SIG, NXT (30), SRV, NAPTR (35), KX, DNAME (39), RRSIG (46),
+-- NSEC (47), SVCB, HTTPS, DSYNC, LP, TKEY (249) and TSIG (250).
+abbrev pub one_name_types : List ℕ
+one_name_types =
+    2 ∷ 3 ∷ 4 ∷ 5 ∷ 7 ∷ 8 ∷ 9 ∷ 12 ∷ 15 ∷ 18 ∷ 21 ∷ 23 ∷ 24 ∷ 30 ∷ 33 ∷ 35 ∷ 36 ∷ 39 ∷ 46 ∷ 47 ∷ 64 ∷ 65 ∷ 66 ∷ 107 ∷ 249 ∷ 250 ∷ []
+
+-- Types with two: SOA (6), MINFO (14), RP (17), PX and TALINK (58).
+abbrev pub two_name_types : List ℕ
+two_name_types = 6 ∷ 14 ∷ 17 ∷ 26 ∷ 58 ∷ []
+
+-- The number of names that follow.
 abbrev pub name_count : ℕ → ℕ
-name_count rtype =
-    cond (is_among rtype (2 ∷ 3 ∷ 4 ∷ 5 ∷ 7 ∷ 8 ∷ 9 ∷ 12 ∷ 15 ∷ 18 ∷ 21 ∷ 23 ∷ 24 ∷ 30 ∷ 33 ∷ 35 ∷ 36 ∷ 39 ∷ 46 ∷ 47 ∷ 64 ∷ 65 ∷ 66 ∷ 107 ∷ 249 ∷ 250 ∷ [])) 1
-    (cond (is_among rtype (6 ∷ 14 ∷ 17 ∷ 26 ∷ 58 ∷ [])) 2 0)
+name_count rtype = cond (is_among rtype one_name_types) 1 (cond (is_among rtype two_name_types) 2 0)
 
 -- The RDATA from `start` to `end` is empty, or its consecutive names are within it and use no octet of the fields.
 abbrev pub DataApart : List ℕ → List ℕ → ℕ → ℕ → ℕ → Type 0

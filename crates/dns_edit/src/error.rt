@@ -1,7 +1,7 @@
 use dns_octets::ParseError;
 use thiserror::Error;
 
-/// Why the TTLs of a message can't be changed in place. The message is then unchanged.
+/// Why a message can't be changed in place. It is then unchanged.
 #[derive(Clone, Copy, Debug, PartialEq, Eq, Error)]
 pub enum EditError {
     /// A question, a record or a name in RDATA can't be skipped, or the names in RDATA run past its
@@ -11,6 +11,9 @@ pub enum EditError {
     /// A pointer doesn't lead to a label of an earlier name, so a name may use octets of a TTL.
     #[error("pointer to no earlier label")]
     Pointer,
+    /// A record follows the OPT record, as TSIG does (RFC 8945 section 5.1).
+    #[error("record after the OPT record")]
+    NotLast,
 }
 
 impl From<ParseError> for EditError {

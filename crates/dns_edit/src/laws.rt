@@ -2,9 +2,11 @@
 //! nothing: each contract is a theorem.
 ghost use Rattle.std.specs.Prelude.{◌≡◌, ◌↔◌, IsTrue};
 ghost use Rattle.dns_edit.specs.Acceptance.{NeverBoth};
-ghost use Rattle.dns_edit.specs.Alike.{CaseReadsAlike, CaseStaysRegular, HeaderReadsAlike, HeaderStaysRegular};
-ghost use Rattle.dns_edit.specs.Fields.{NamesAreFields};
+ghost use Rattle.dns_edit.specs.Alike.{CaseReadsAlike, CaseStaysRegular, HeaderReadsAlike, HeaderStaysRegular, TtlsStayRegular};
+ghost use Rattle.dns_edit.specs.Case.{AsksForNames};
+ghost use Rattle.dns_edit.specs.Fields.{NamesAreFields, NamesAreOfFields};
 ghost use Rattle.dns_edit.specs.Following.{NamesFollowFew};
+ghost use Rattle.dns_edit.specs.Opt.{RemovedReadsAlike, RemovedStaysRegular};
 ghost use Rattle.dns_edit.specs.Readings.{ChangedReadsAlike, NamesReadAlike, RdataReadsAlike};
 
 use crate::change::TtlChange;
@@ -28,23 +30,37 @@ pub fn rdata_reads_alike()
 {}
 
 /// If a regular message and another differ in the header alone, as after [`crate::set_id`], their
-/// questions and records read the same. Of names in RDATA it says nothing.
+/// questions and records read the same. So do names in RDATA, to a parser that ends with it: those
+/// of the types that [`crate::change_ttls`] knows.
 pub fn header_reads_alike()
     ensures { HeaderReadsAlike }
 {}
 
 /// After [`crate::set_question_case`] a regular message reads as before, ignoring ASCII case: its
-/// questions and records, with their names lowercased.
+/// questions and records, with their names lowercased, and names in RDATA as above.
 pub fn case_reads_alike()
     ensures { CaseReadsAlike }
 {}
 
-/// A regular message stays regular after [`crate::set_id`] and [`crate::set_rcode`], and after
-/// [`crate::set_question_case`]. So these can come one after the other, and before
-/// [`crate::change_ttls`].
+/// After [`crate::remove_opt`] a regular message reads as before, without its last record.
+pub fn removed_reads_alike()
+    ensures { RemovedReadsAlike }
+{}
+
+/// [`crate::set_question_case`] succeeds exactly if the message has a question, and its name has no
+/// pointer and is equal to the given one, ignoring ASCII case.
+pub fn asks_for_names()
+    ensures { AsksForNames }
+{}
+
+/// A regular message stays regular after [`crate::set_id`] and [`crate::set_rcode`], after
+/// [`crate::set_question_case`], [`crate::change_ttls`] and [`crate::remove_opt`]. So these can come
+/// in any order.
 pub fn stays_regular()
     ensures header { HeaderStaysRegular }
     ensures case { CaseStaysRegular }
+    ensures ttls { TtlsStayRegular }
+    ensures opt { RemovedStaysRegular }
 {}
 
 /// No message is both accepted and refused. So [`crate::change_ttls`] succeeds exactly where the
@@ -59,10 +75,12 @@ pub fn names_follow_few()
     ensures { NamesFollowFew }
 {}
 
-/// The names in RDATA of each record type of `fields_table` are those among its fields.
+/// The names in RDATA of each record type of `fields_table` are those among its fields. No other type
+/// has names in RDATA.
 #[tactic(auto, unfolding(fields_table::specs::RecordTypes::record_types))]
 pub fn names_are_fields()
-    ensures { NamesAreFields }
+    ensures types { NamesAreFields }
+    ensures others { NamesAreOfFields }
 {}
 
 /// Two changes or two errors are equal if and only if they are the same.

@@ -1,8 +1,9 @@
 -- What stays as it is in a message whose TTLs are lowered.
-use Rattle.std.specs.Prelude.{ℕ, ◌+◌, ◌<◌, List, All}
+use Rattle.std.specs.Prelude.{ℕ, ◌+◌, ◌<◌, List}
+use Rattle.dns_code.specs.HeaderSection.{header_size}
 use Rattle.dns_item.specs.Items.{SkipsRecord}
 use Rattle.dns_read.specs.Reading.{Skipped}
-use Rattle.dns_edit.specs.Acceptance.{AcceptsFrom}
+use Rattle.dns_read.specs.Sections.{question_count, AnswersStart}
 use Rattle.dns_edit.specs.Following.{FollowsFew}
 use Rattle.dns_edit.specs.Edits.{NamesAvoid}
 use Rattle.dns_edit.specs.Readings.{DataReadsAlike, ReadsNameAlike}
@@ -18,6 +19,7 @@ abbrev pub KeepsData : List ℕ → List ℕ → Type 0
 KeepsData b c = (fields : List ℕ) × (avoid : NamesAvoid b fields)
     × ((k p q : ℕ) → k < record_total b → Skipped (SkipsRecord b) k avoid.start p → (s : SkipsRecord b p q) → DataReadsAlike b c fields (s.name_end + 10) q)
 
--- Few pointers are followed to read a name of the message.
-abbrev pub IsCheap : List ℕ → Type 0
-IsCheap b = (start : ℕ) × (regular : AcceptsFrom b start) × All (FollowsFew b) regular.names
+-- Few pointers are followed to read the name of the first question, and the owner of the first record.
+pub record IsCheap (b : List ℕ) : Type 0 where
+  pub question : 0 < question_count b → FollowsFew b header_size
+  pub owner : (start : ℕ) → AnswersStart b start → 0 < record_total b → FollowsFew b start

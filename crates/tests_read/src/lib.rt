@@ -18,6 +18,8 @@ mod iterators;
 #[cfg(test)]
 mod messages;
 #[cfg(test)]
+mod opt;
+#[cfg(test)]
 mod streams;
 #[cfg(test)]
 mod transfers;

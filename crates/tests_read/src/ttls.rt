@@ -2,7 +2,7 @@
 ghost use Rattle.std.specs.Prelude.{◌↔◌, IsTrue, OnOk};
 ghost use Rattle.dns_read.specs.Message.{message_octets};
 ghost use Rattle.dns_edit.specs.Acceptance.{AcceptsTtls};
-ghost use Rattle.dns_edit.specs.Fields.{NamesAreFields};
+ghost use Rattle.dns_edit.specs.Fields.{NamesAreFields, NamesAreOfFields};
 ghost use Rattle.tests_read.specs.Ttls.{IsCheap, KeepsNames, KeepsData};
 
 use dns_edit::laws::{
@@ -39,12 +39,14 @@ fn lowers_under_data(response: &mut Message<Vec<u8>>, age: u32) -> Result<(), Ed
 
 /// Which names in RDATA are looked at follows from the fields of the record types.
 fn knows_the_names()
-    ensures { NamesAreFields }
+    ensures types { NamesAreFields }
+    ensures others { NamesAreOfFields }
 {
     names_are_fields();
 }
 
-/// Whether few pointers are followed to read a query, as a server asks first.
+/// Whether few pointers are followed to read the first question's name and the first owner, as a
+/// server asks first.
 fn is_cheap(query: &Message<&[u8]>) -> bool
     ensures { IsTrue result → IsCheap (message_octets query.now) }
 {

@@ -1,0 +1,57 @@
+ghost use Rattle.std.specs.Prelude.{◌≤◌, length};
+ghost use Rattle.dns_read.specs.Message.{message_octets};
+ghost use Rattle.dns_edit.specs.Opt.{FindsFirstOpt, FindsOpt, RemovesOpt};
+
+use crate::error::EditError;
+use crate::span::span_at;
+use dns_octets::{Octets, OctetsMut, ParseError};
+use dns_read::Message;
+
+/// Removes the OPT record (RFC 6891 section 6.1.1) of the additional section, if it is the last
+/// record. Returns whether there was one.
+///
+/// A proxy does so for a client that doesn't know EDNS. ARCOUNT falls by one, and no other octet
+/// changes: the octets of the record are then after [`crate::records_end`].
+///
+/// Returns `NotLast` if a record follows the first OPT record, and `Parse` if an entry before it
+/// can't be skipped. The message then stays as it is.
+pub fn remove_opt<Octs: OctetsMut>(message: &mut Message<Octs>) -> Result<bool, EditError>
+    ensures { RemovesOpt (message_octets message.old) (message_octets message.new) result }
+{
+    let count = message.header_counts().arcount();
+    match find_opt(message) {
+        Err(error) => Err(EditError::Parse(error)),
+        Ok(None) => Ok(false),
+        Ok(Some(before)) => {
+            if before + 1 < count {
+                return Err(EditError::NotLast);
+            }
+            message.remove_last_additional();
+            Ok(true)
+        }
+    }
+}
+
+/// The number of additional records before the first OPT record.
+fn find_opt<Octs: Octets>(message: &Message<Octs>) -> Result<Option<u16>, ParseError>
+    ensures { FindsFirstOpt (message_octets message.now) result }
+{
+    let start = message.additional()?.pos();
+    records_before_opt(message.as_slice(), start, message.header_counts().arcount())
+}
+
+/// The number of records before the first OPT record, of `count` records from offset `start` on.
+fn records_before_opt(octets: &[u8], start: usize, count: u16) -> Result<Option<u16>, ParseError>
+    requires { start ≤ length octets.now }
+    ensures { FindsOpt octets.now start count result }
+{
+    let mut pos = start;
+    for before in 0..count {
+        let span = span_at(octets, pos)?;
+        if span.rtype == 41 {
+            return Ok(Some(before));
+        }
+        pos = span.end;
+    }
+    Ok(None)
+}
