@@ -63,7 +63,7 @@ impl fmt::Display for RdataField<'_> {
                 write_string(f, self.kind, self.octets.get(1..).unwrap_or(&[]))
             }
             Kind::SizedOctets => write_string(f, self.kind, self.octets.get(2..).unwrap_or(&[])),
-            Kind::Text | Kind::Hexadecimal | Kind::Base64 => {
+            Kind::Text | Kind::Hexadecimal | Kind::Base64 | Kind::Base64OrHyphen => {
                 f.write_str(": ")?;
                 write_octets(f, self.kind, self.octets)
             }
@@ -81,7 +81,8 @@ impl RdataField<'_> {
     fn write_number<W: fmt::Write>(&self, f: &mut fmt::Formatter<W>) -> fmt::Result {
         let number = number_of(self.octets);
         match (self.kind, self.octets) {
-            (Kind::Number8 | Kind::Scheme | Kind::Number16 | Kind::Number32, _) => {
+            (Kind::SyncScheme, [1]) => f.write_str(" NOTIFY"),
+            (Kind::Number8 | Kind::SyncScheme | Kind::Number16 | Kind::Number32, _) => {
                 write_value(f, &number)
             }
             (Kind::Number48, [a, b, c, d, e, g]) => {
@@ -209,7 +210,7 @@ fn write_octets<W: fmt::Write>(
             let digits = Base32(octets);
             write!(f, "{digits}")
         }
-        Kind::Base64 | Kind::SizedOctets => {
+        Kind::Base64 | Kind::Base64OrHyphen | Kind::SizedOctets => {
             let digits = Base64Display::new(octets, &STANDARD);
             write!(f, "{digits}")
         }

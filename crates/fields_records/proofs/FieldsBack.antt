@@ -18,7 +18,7 @@ use Rattle.fields_records.proofs.FieldPart.{HasWords, IsFieldPart}
 use Rattle.fields_records.proofs.FirstFields.{AreLayoutParts, first_field, left_is_last, no_texts, others_end}
 use Rattle.fields_records.proofs.ListsBack.{gateway_back, gateway_unmarked, identity_back, identity_unmarked, location_back, location_unmarked, parameters_back, parameters_unmarked, prefixes_back, prefixes_unmarked, relay_back, relay_unmarked, small_map_back, small_map_unmarked, type_map_back, type_map_unmarked}
 use Rattle.fields_records.proofs.PrintedLaws.{PrintedLaws}
-use Rattle.fields_records.proofs.WordsBack.{base64_back, base64_unmarked, hexadecimal_back, hexadecimal_unmarked, sized_back, sized_unmarked, strings_back, strings_unmarked, word_back, word_unmarked}
+use Rattle.fields_records.proofs.WordsBack.{base64_back, base64_or_hyphen_back, base64_or_hyphen_unmarked, base64_unmarked, hexadecimal_back, hexadecimal_unmarked, sized_back, sized_unmarked, strings_back, strings_unmarked, word_back, word_unmarked}
 
 -- an opaque field has no text
 no_text : (part : Part) (own : Words) → IsFieldPart kinds.Opaque part → HasWords kinds.Opaque part own → ⊥
@@ -37,6 +37,7 @@ module _ (laws : PrintedLaws) where
   field_back kinds.Strings part own is has = strings_back laws part own is has
   field_back kinds.Hexadecimal part own is has = hexadecimal_back laws part own is has
   field_back kinds.Base64 part own is has = base64_back laws part own is has
+  field_back kinds.Base64OrHyphen part own is has = base64_or_hyphen_back laws part own is has
   field_back kinds.TypeBitMap part own is has = type_map_back laws part own is has
   field_back kinds.SmallTypeBitMap part own is has = small_map_back laws part own is has
   field_back kinds.ServiceParameters part own is has = parameters_back laws part own is has
@@ -54,6 +55,7 @@ module _ (laws : PrintedLaws) where
   field_unmarked kinds.Strings part own after is has all marked = strings_unmarked laws part own is has after marked
   field_unmarked kinds.Hexadecimal part own after is has all marked = hexadecimal_unmarked laws part own is has after marked
   field_unmarked kinds.Base64 part own after is has all marked = base64_unmarked laws part own is has after marked
+  field_unmarked kinds.Base64OrHyphen part own after is has all marked = base64_or_hyphen_unmarked laws part own is has after marked
   field_unmarked kinds.TypeBitMap part own after is has all marked = type_map_unmarked laws part own is has (own_marked own after (all refl) marked)
   field_unmarked kinds.SmallTypeBitMap part own after is has all marked = small_map_unmarked laws part own is has (own_marked own after (all refl) marked)
   field_unmarked kinds.ServiceParameters part own after is has all marked = parameters_unmarked laws part own is has (own_marked own after (all refl) marked)

@@ -34,7 +34,7 @@ octets_have_text variants.Number16 sure octets fit = refl
 octets_have_text variants.Number32 sure octets fit = refl
 octets_have_text variants.Number48 sure octets fit = refl
 octets_have_text variants.Number64 sure octets fit = refl
-octets_have_text variants.Scheme sure octets fit = refl
+octets_have_text variants.SyncScheme sure octets fit = refl
 octets_have_text variants.Seconds sure octets fit = refl
 octets_have_text variants.Ipv4 sure octets fit = let four : length octets ≡ 4 = fit in rw four refl
 octets_have_text variants.Ipv6 sure octets fit = let sixteen : length octets ≡ 16 = fit in rw sixteen refl
@@ -51,6 +51,7 @@ octets_have_text variants.Salt sure octets fit = refl
 octets_have_text variants.SizedOctets sure octets fit = refl
 octets_have_text variants.Strings sure octets fit = refl
 octets_have_text variants.Text sure octets fit = refl
+octets_have_text variants.Base64OrHyphen sure octets fit = refl
 octets_have_text variants.TypeBitMap sure octets fit = refl
 octets_have_text variants.ServiceParameters sure octets fit = refl
 octets_have_text variants.Time sure octets fit = absurd (cc sure)

@@ -9,6 +9,7 @@ mod FieldShapes
 mod FieldsLemmas
 mod FirstFields
 mod GatewaysBack
+mod HyphenWords
 mod JoinedDigits
 mod KindTexts
 mod ListsBack

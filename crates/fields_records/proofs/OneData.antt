@@ -26,8 +26,9 @@ use Rattle.fields_text.specs.declared.text_error.TextError.{TextError}
 use Rattle.fields_records.specs.DataWords.{AreCountedDigits, AreDataWords, AreFields, IsDataText, IsMarked, MayBeData, ReadsData}
 use Rattle.fields_records.specs.Extents.{extent_of}
 use Rattle.fields_text.specs.LengthOctets.{counted}
+use Rattle.fields_records.proofs.HyphenWords.{hyphen_is_no_base64, hyphen_none}
 use Rattle.fields_records.proofs.SchemeWords.{notify_is_no_number}
-use Rattle.fields_records.specs.FieldWords.{AreFieldWords, AreStrings, IsField, IsFieldOf, IsFieldWord, IsNumberIn, IsOne, IsSchemeWord, IsString, Words}
+use Rattle.fields_records.specs.FieldWords.{AreBase64OrHyphen, AreFieldWords, AreStrings, IsField, IsFieldOf, IsFieldWord, IsNumberIn, IsOne, IsSchemeWord, IsString, Words}
 use Rattle.fields_plain.specs.Salts.{IsHash, IsSalt}
 use Rattle.fields_plain.specs.TimeWords.{IsTime}
 use Rattle.fields_plain.specs.TypeWords.{IsType}
@@ -67,7 +68,7 @@ one_field_word kinds.Number16 word xs ys a b = one_number 2 word xs ys a b
 one_field_word kinds.Number32 word xs ys a b = one_number 4 word xs ys a b
 one_field_word kinds.Number48 word xs ys a b = one_number 6 word xs ys a b
 one_field_word kinds.Number64 word xs ys a b = one_number 8 word xs ys a b
-one_field_word kinds.Scheme word xs ys a b = one_scheme word xs ys a b
+one_field_word kinds.SyncScheme word xs ys a b = one_scheme word xs ys a b
 one_field_word kinds.Seconds word xs ys a b = one_number 4 word xs ys a b
 one_field_word kinds.Time word xs ys a b = one_time_field word xs ys a b
 one_field_word kinds.Ipv4 word xs ys a b = one_ipv4 word xs ys a b
@@ -95,10 +96,17 @@ one_strings (word ∷ words) xs ys a b =
     let others = one_strings words a.1 b.1 a.4 b.4 in
     a.3 ∙ (λ i. first i ++ others i) ∙ sym b.3
 
+one_base64_or_hyphen : RepresentsOne AreBase64OrHyphen
+one_base64_or_hyphen words xs ys (inl a) (inl b) = hyphen_none words xs a ∙ sym (hyphen_none words ys b)
+one_base64_or_hyphen words xs ys (inl a) (inr b) = absurd (hyphen_is_no_base64 words xs ys a b.0)
+one_base64_or_hyphen words xs ys (inr a) (inl b) = absurd (hyphen_is_no_base64 words ys xs b a.0)
+one_base64_or_hyphen words xs ys (inr a) (inr b) = one_base64 words xs ys a.0 b.0
+
 one_field_words : (kind : Kind) → RepresentsOne (AreFieldWords kind)
 one_field_words kinds.Strings words xs ys a b = one_strings words xs ys a.1 b.1
 one_field_words kinds.Hexadecimal words xs ys a b = one_hex words xs ys a.0 b.0
 one_field_words kinds.Base64 words xs ys a b = one_base64 words xs ys a.0 b.0
+one_field_words kinds.Base64OrHyphen words xs ys a b = one_base64_or_hyphen words xs ys a b
 one_field_words kinds.TypeBitMap words xs ys a b = one_map words xs ys a b
 one_field_words kinds.SmallTypeBitMap words xs ys a b = one_small_map words xs ys a b
 one_field_words kinds.ServiceParameters words xs ys a b = one_parameters words xs ys a b

@@ -26,7 +26,7 @@ use Rattle.fields_text.specs.Hex.{hex_text}
 use Rattle.fields_forms.specs.LocationItems.{LocationItem, location_of, location_text}
 use Rattle.fields_text.specs.String.{is_tag, quoted}
 use Rattle.fields_plain.specs.Time.{time_text}
-use Rattle.fields_records.specs.FieldTexts.{begins_with_space, fields_text, scheme_text, space_before, text_of_any, value_text}
+use Rattle.fields_records.specs.FieldTexts.{base64_or_hyphen, begins_with_space, fields_text, scheme_text, space_before, text_of_any, value_text}
 use Rattle.fields_parameters.specs.Parameters.{parameters_text, parameter_word}
 use Rattle.fields_plain.specs.Salts.{salt_text}
 use Rattle.fields_plain.specs.SizedWords.{sized_text}
@@ -107,6 +107,11 @@ number_text_split octets text bytes few e = one_text (decimal (number_after 0 oc
 scheme_word : (b : Bool) (n : ℕ) → n < 2 ^ 64 → IsWord (if b then codes "NOTIFY" else decimal n)
 scheme_word true n small = tag_word (codes "NOTIFY") refl
 scheme_word false n small = decimal_word n small
+
+-- base64, or a hyphen
+base64_or_hyphen_word : (octets : List ℕ) → IsWord (base64_or_hyphen octets)
+base64_or_hyphen_word [] = salt_word [] (λ i. omega arith)
+base64_or_hyphen_word (o ∷ octets) = base64_word (o ∷ octets) (omega arith)
 
 -- record types of bit maps
 first_bit : (b : Bool) (first most : ℕ) → first < most → All (λ n. n < most) (if b then first ∷ [] else [])
@@ -211,7 +216,7 @@ octets_has kinds.Number16 octets text h e = let size = h.1 in number_text_split 
 octets_has kinds.Number32 octets text h e = let size = h.1 in number_text_split octets text h.0 (omega arith) e
 octets_has kinds.Number48 octets text h e = let size = h.1 in number_text_split octets text h.0 (omega arith) e
 octets_has kinds.Number64 octets text h e = let size = h.1 in number_text_split octets text h.0 (omega arith) e
-octets_has kinds.Scheme octets text h e =
+octets_has kinds.SyncScheme octets text h e =
     let size = h.1 in
     let n = number_after 0 octets in
     one_text (scheme_text n) text (scheme_word (n == 1) n (number_fits octets h.0 (omega arith))) e
@@ -240,6 +245,7 @@ octets_has kinds.Text octets text h e = one_text (quoted octets) text (quoted_wo
 octets_has kinds.Hexadecimal octets text h e = let some = any_some hex_text octets text e in one_text (hex_text octets) text (hex_word octets h.0 some.0) some.1
 octets_has kinds.Base64 octets text h e =
     let some = any_some (encode_of standard) octets text e in one_text (encode_of standard octets) text (base64_word octets some.0) some.1
+octets_has kinds.Base64OrHyphen octets text h e = one_text (base64_or_hyphen octets) text (base64_or_hyphen_word octets) e
 octets_has kinds.TypeBitMap octets text h e = some_text true (types_text (map_types octets)) text (types_has (map_types octets) (map_below octets h.0)) e
 octets_has kinds.SmallTypeBitMap octets text h e =
     let test = if_some (is_small_map octets) (types_text (octet_types 0 octets)) text e in

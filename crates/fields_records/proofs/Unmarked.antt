@@ -22,6 +22,7 @@ use Rattle.fields_text.specs.Hex.{hex_text}
 use Rattle.fields_text.specs.String.{is_tag, quote, quoted, string_octet}
 use Rattle.fields_plain.specs.Time.{time_text}
 use Rattle.fields_plain.specs.Salts.{salt_text}
+use Rattle.fields_records.specs.FieldTexts.{base64_or_hyphen}
 use Rattle.fields_plain.specs.ZoneNames.{dotted_label, zone_label_text, zone_name_text}
 
 -- A word other than `\#`.
@@ -200,3 +201,8 @@ base64_unmarked [] some = absurd (omega arith)
 base64_unmarked (a ∷ []) some = longer _ _ _ _
 base64_unmarked (a ∷ b ∷ []) some = longer _ _ _ _
 base64_unmarked (a ∷ b ∷ c ∷ octets) some = longer _ _ _ _
+
+-- Base64 or a hyphen is not `\#`.
+pub base64_or_hyphen_unmarked : (octets : List ℕ) → Unmarked (base64_or_hyphen octets)
+base64_or_hyphen_unmarked [] e = let same = first_same 45 92 [] (35 ∷ []) e in omega (arith, same)
+base64_or_hyphen_unmarked (o ∷ octets) e = base64_unmarked (o ∷ octets) (omega arith) e

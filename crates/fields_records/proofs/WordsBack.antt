@@ -1,6 +1,6 @@
 -- The words of the text of one field represent its octets, and the first word isn't `\#`: fields of one word, sized octets, character strings, and octets in hexadecimal and in base64.
-use Rattle.std.proofs.Common.{◌≡◌, ◌≢◌, ◌∙◌, ℕ, suc, ◌/◌, ◌%◌, ◌<◌, true, false, Some, List, [], ◌∷◌, ◌++◌, length, decimal, refl, sym, subst, arith, append-nil}
-use Rattle.std.specs.Prelude.{map}
+use Rattle.std.proofs.Common.{◌≡◌, ◌≢◌, ◌∙◌, ℕ, suc, ◌/◌, ◌%◌, ◌<◌, true, false, Some, List, [], ◌∷◌, ◌++◌, length, decimal, refl, sym, subst, arith, append-nil, inl, inr}
+use Rattle.std.specs.Prelude.{codes, map}
 use Rattle.std.proofs.lemmas.Option.{same_Some}
 use Rattle.base64.specs.Engines.{standard}
 use Rattle.base64.specs.GeneralPurpose.{encode_of}
@@ -16,7 +16,7 @@ use Rattle.fields_text.specs.Hex.{hex_text}
 use Rattle.fields_text.specs.Octets.{IsBase64, IsHex}
 use Rattle.fields_text.specs.String.{quoted}
 use Rattle.fields_plain.specs.SizedWords.{sized_text, AreSized, IsSizedWords}
-use Rattle.fields_records.specs.FieldTexts.{text_of_any, value_text}
+use Rattle.fields_records.specs.FieldTexts.{base64_or_hyphen, text_of_any, value_text}
 use Rattle.fields_text.specs.JoinedWords.{joined}
 use Rattle.fields_text.specs.LengthOctets.{sized}
 use Rattle.fields_text.specs.LineWords.{AreWordsOf, IsWord, texts, word_of_any}
@@ -24,7 +24,7 @@ use Rattle.fields_text.specs.LineWords.AreWordsWithin.{none, more}
 use Rattle.fields_text.proofs.theory.LineLemmas.{one_list}
 use Rattle.fields_records.specs.DataWords.{IsMarked}
 use Rattle.fields_records.specs.Extents.{extent_of}
-use Rattle.fields_records.specs.FieldWords.{AreFieldWords, IsFieldWord, IsOne, Words}
+use Rattle.fields_records.specs.FieldWords.{AreBase64OrHyphen, AreFieldWords, IsFieldWord, IsHyphen, IsOne, Words}
 use Rattle.fields_records.specs.declared.extent.Extent.TheVariants.{One}
 use Rattle.fields_records.proofs.FieldPart.{HasWords, IsFieldPart}
 use Rattle.fields_records.proofs.FieldShapes.{of_counted, of_fixed, of_name, of_rest, of_sized, of_uncompressed}
@@ -34,7 +34,7 @@ use Rattle.fields_records.proofs.PrintedLaws.{PrintedLaws}
 use Rattle.fields_records.proofs.PrintedValues.{Printed, eui_printed, hash_printed, ipv4_printed, ipv6_printed, locator_printed, name_printed, number_printed, salt_printed, scheme_printed, string_printed, tag_printed, text_printed, time_printed, type_printed}
 use Rattle.fields_records.proofs.PrintedFieldWords.{any_some}
 use Rattle.fields_records.proofs.StringLists.{first_quoted, string_list_back}
-use Rattle.fields_records.proofs.Unmarked.{Unmarked, base64_unmarked as base64_text_unmarked, hex_unmarked, quoted_unmarked}
+use Rattle.fields_records.proofs.Unmarked.{Unmarked, base64_or_hyphen_unmarked as base64_or_hyphen_text_unmarked, base64_unmarked as base64_text_unmarked, hex_unmarked, quoted_unmarked}
 
 -- a text that is one word
 word_alone : (text : List ℕ) → IsWord text → AreWordsOf text (text ∷ [])
@@ -84,8 +84,8 @@ module _ (laws : PrintedLaws) where
       of_fixed (IsPrinted kinds.Number48 text) 6 (λ octets sized parts bytes e. number_printed laws 6 octets text (omega arith) sized bytes e) part is.0 is.1 is.2 e
   word_printed kinds.Number64 part text one is e =
       of_fixed (IsPrinted kinds.Number64 text) 8 (λ octets sized parts bytes e. number_printed laws 8 octets text (omega arith) sized bytes e) part is.0 is.1 is.2 e
-  word_printed kinds.Scheme part text one is e =
-      of_fixed (IsPrinted kinds.Scheme text) 1 (λ octets sized parts bytes e. scheme_printed laws octets text sized bytes e) part is.0 is.1 is.2 e
+  word_printed kinds.SyncScheme part text one is e =
+      of_fixed (IsPrinted kinds.SyncScheme text) 1 (λ octets sized parts bytes e. scheme_printed laws octets text sized bytes e) part is.0 is.1 is.2 e
   word_printed kinds.Seconds part text one is e =
       of_fixed (IsPrinted kinds.Seconds text) 4 (λ octets sized parts bytes e. number_printed laws 4 octets text (omega arith) sized bytes e) part is.0 is.1 is.2 e
   word_printed kinds.Time part text one is e =
@@ -273,3 +273,35 @@ module _ (laws : PrintedLaws) where
   base64_unmarked part own is has =
       let printed = base64_part part own is has in
       first_unmarked own (encode_of standard (part_octets part)) [] printed.1 (base64_text_unmarked (part_octets part) printed.0)
+
+  -- base64, or a hyphen
+  base64_or_hyphen_word : (octets : List ℕ) → IsBytes octets → IsWord (base64_or_hyphen octets)
+  base64_or_hyphen_word [] bytes = laws.words.salts [] bytes
+  base64_or_hyphen_word (o ∷ octets) bytes = laws.words.base64 (o ∷ octets) bytes (omega arith)
+
+  abbrev HyphenPart : Words → Part → Type 0
+  HyphenPart own part = IsBytes (part_octets part) → HasWords kinds.Base64OrHyphen part own → texts own ≡ base64_or_hyphen (part_octets part) ∷ []
+
+  base64_or_hyphen_part : (part : Part) (own : Words) → IsFieldPart kinds.Base64OrHyphen part → HasWords kinds.Base64OrHyphen part own
+      → texts own ≡ base64_or_hyphen (part_octets part) ∷ []
+  base64_or_hyphen_part part own is has =
+      of_rest (HyphenPart own) (accepts kinds.Base64OrHyphen)
+      (λ octets accepted bytes has.
+      let same = same_Some (base64_or_hyphen octets) has.0 has.1 in
+      own_word own (base64_or_hyphen octets) (subst (λ (t : List ℕ). AreWordsOf t (texts own)) (sym same) has.2) (base64_or_hyphen_word octets bytes))
+      part is.0 is.2 has
+
+  are_base64_or_hyphen : (octets : List ℕ) (own : Words) → IsBytes octets → texts own ≡ base64_or_hyphen octets ∷ [] → AreBase64OrHyphen own octets
+  are_base64_or_hyphen [] own bytes e = inl (one_own IsHyphen own (codes "-") [] e (refl, refl))
+  are_base64_or_hyphen (o ∷ octets) own bytes e =
+      inr (joined_one IsBase64 own (encode_of standard (o ∷ octets)) (o ∷ octets) e (laws.reading.base64 (o ∷ octets) bytes), some_octets (o ∷ octets) (omega arith))
+
+  -- the printed words of a field in base64 or a hyphen are read as its octets
+  pub base64_or_hyphen_back : (part : Part) (own : Words) → IsFieldPart kinds.Base64OrHyphen part → HasWords kinds.Base64OrHyphen part own
+      → AreFieldWords kinds.Base64OrHyphen own (part_octets part)
+  base64_or_hyphen_back part own is has = are_base64_or_hyphen (part_octets part) own is.2 (base64_or_hyphen_part part own is has)
+
+  -- the first printed word of a field in base64 or a hyphen isn't `\#`, whatever words follow
+  pub base64_or_hyphen_unmarked : (part : Part) (own : Words) → IsFieldPart kinds.Base64OrHyphen part → HasWords kinds.Base64OrHyphen part own → (after : Words) → ¬ (IsMarked (own ++ after))
+  base64_or_hyphen_unmarked part own is has =
+      first_unmarked own (base64_or_hyphen (part_octets part)) [] (base64_or_hyphen_part part own is has) (base64_or_hyphen_text_unmarked (part_octets part))

@@ -10,6 +10,7 @@ extent_of kinds.SizedOctets = OneOrTwo
 extent_of kinds.Strings = All
 extent_of kinds.Hexadecimal = All
 extent_of kinds.Base64 = All
+extent_of kinds.Base64OrHyphen = All
 extent_of kinds.TypeBitMap = All
 extent_of kinds.SmallTypeBitMap = All
 extent_of kinds.ServiceParameters = All

@@ -39,6 +39,11 @@ abbrev pub text_of_any : (List ℕ → List ℕ) → List ℕ → Option (List �
 text_of_any text [] = None
 text_of_any text (x ∷ xs) = Some (text (x ∷ xs))
 
+-- base64 of the octets, or a hyphen if there are none
+abbrev pub base64_or_hyphen : List ℕ → List ℕ
+base64_or_hyphen [] = codes "-"
+base64_or_hyphen (x ∷ xs) = encode_of standard (x ∷ xs)
+
 -- octets of a field of this kind; none if they have no presentation format. Texts of types, parameters, gateways and relays begin with a space
 abbrev pub octets_text : Kind → List ℕ → Option (List ℕ)
 octets_text kinds.Eui48 octets = Some (eui_text octets)
@@ -49,6 +54,7 @@ octets_text kinds.Strings octets = Some (strings_text octets)
 octets_text kinds.Text octets = Some (quoted octets)
 octets_text kinds.Hexadecimal octets = text_of_any hex_text octets
 octets_text kinds.Base64 octets = text_of_any (encode_of standard) octets
+octets_text kinds.Base64OrHyphen octets = Some (base64_or_hyphen octets)
 octets_text kinds.TypeBitMap octets = Some (types_text (map_types octets))
 octets_text kinds.SmallTypeBitMap octets = text_if (is_small_map octets) (types_text (octet_types 0 octets))
 octets_text kinds.ServiceParameters octets = Some (parameters_text octets)
@@ -65,7 +71,7 @@ scheme_text n = if n == 1 then codes "NOTIFY" else decimal n
 -- a number, which is a time of 32 bits for some fields. RFC 4034 section 3.2
 abbrev pub number_text : Kind → ℕ → Option (List ℕ)
 number_text kinds.Time n = text_if (nat_lt n (2 ^ 32)) (time_text n)
-number_text kinds.Scheme n = Some (scheme_text n)
+number_text kinds.SyncScheme n = Some (scheme_text n)
 number_text kind n = Some (decimal n)
 
 -- a string; strings of some kinds print without quotes
@@ -100,7 +106,7 @@ always_has_text kinds.Number16 = true
 always_has_text kinds.Number32 = true
 always_has_text kinds.Number48 = true
 always_has_text kinds.Number64 = true
-always_has_text kinds.Scheme = true
+always_has_text kinds.SyncScheme = true
 always_has_text kinds.Seconds = true
 always_has_text kinds.Ipv4 = true
 always_has_text kinds.Ipv6 = true
@@ -117,6 +123,7 @@ always_has_text kinds.Salt = true
 always_has_text kinds.SizedOctets = true
 always_has_text kinds.Strings = true
 always_has_text kinds.Text = true
+always_has_text kinds.Base64OrHyphen = true
 always_has_text kinds.TypeBitMap = true
 always_has_text kinds.ServiceParameters = true
 always_has_text kind = false

@@ -1,5 +1,6 @@
 -- Words that represent a field of record data. RFC 1035 section 5.1; the RFC of each form of word is beside its definition.
 use Rattle.std.specs.Prelude.{◌≡◌, ◌≢◌, ◌⊎◌, ℕ, ◌<◌, ◌≤◌, ◌^◌, true, List, [], ◌∷◌, ◌++◌, codes, length}
+use Rattle.std.specs.Str.{str_to_ascii_lowercase}
 use Rattle.std.specs.Borrow.{Bor}
 use Rattle.std.specs.Net.Grammar.{IsDotted, IsNumber}
 use Rattle.fields_table.specs.declared.kind.Kind.{Kind}
@@ -34,9 +35,9 @@ Words = List (Bor (List ℕ))
 abbrev pub IsNumberIn : ℕ → List ℕ → List ℕ → Type 0
 IsNumberIn size word octets = (n : ℕ) × IsNumber 10 word n × (n < 256 ^ size) × (octets ≡ last_octets size n)
 
--- a scheme of notifications: the mnemonic of 1, or a number. RFC 9859 section 2.2
+-- a scheme of notifications: the mnemonic of 1, ignoring ASCII case, or a number. RFC 9859 section 2.2
 abbrev pub IsSchemeWord : List ℕ → List ℕ → Type 0
-IsSchemeWord word octets = ((word ≡ codes "NOTIFY") × (octets ≡ 1 ∷ [])) ⊎ IsNumberIn 1 word octets
+IsSchemeWord word octets = ((str_to_ascii_lowercase word ≡ codes "notify") × (octets ≡ 1 ∷ [])) ⊎ IsNumberIn 1 word octets
 
 -- a character string. RFC 1035 section 3.3
 abbrev pub IsString : List ℕ → List ℕ → Type 0
@@ -59,7 +60,7 @@ IsFieldWord kinds.Number16 word octets = IsNumberIn 2 word octets
 IsFieldWord kinds.Number32 word octets = IsNumberIn 4 word octets
 IsFieldWord kinds.Number48 word octets = IsNumberIn 6 word octets
 IsFieldWord kinds.Number64 word octets = IsNumberIn 8 word octets
-IsFieldWord kinds.Scheme word octets = IsSchemeWord word octets
+IsFieldWord kinds.SyncScheme word octets = IsSchemeWord word octets
 IsFieldWord kinds.Seconds word octets = IsNumberIn 4 word octets
 IsFieldWord kinds.Time word octets = IsTime word octets
 IsFieldWord kinds.Ipv4 word octets = IsDotted word octets
@@ -79,11 +80,30 @@ IsFieldWord kinds.Hash word octets = IsHash word octets
 IsFieldWord kinds.Text word octets = SpellsString word octets
 IsFieldWord kind word octets = ⊥
 
+-- exactly one word
+abbrev pub IsOne : (List ℕ → List ℕ → Type 0) → Words → List ℕ → Type 0
+IsOne Is [] octets = ⊥
+IsOne Is (word ∷ []) octets = Is word.now octets
+IsOne Is (word ∷ next ∷ words) octets = ⊥
+
+-- a hyphen, for no octets
+abbrev pub IsHyphen : List ℕ → List ℕ → Type 0
+IsHyphen word octets = (word ≡ codes "-") × (octets ≡ [])
+
+-- base64 of one octet at least
+abbrev pub AreSomeBase64 : Words → List ℕ → Type 0
+AreSomeBase64 words octets = AreBase64 words octets × (octets ≢ [])
+
+-- a hyphen, or base64 of one octet at least
+abbrev pub AreBase64OrHyphen : Words → List ℕ → Type 0
+AreBase64OrHyphen words octets = IsOne IsHyphen words octets ⊎ AreSomeBase64 words octets
+
 -- the words are a field of this kind. There is one character string at least, and digits represent one octet at least. An opaque field has no words
 abbrev pub AreFieldWords : Kind → Words → List ℕ → Type 0
 AreFieldWords kinds.Strings words octets = (words ≢ []) × AreStrings words octets
 AreFieldWords kinds.Hexadecimal words octets = AreHex words octets × (octets ≢ [])
-AreFieldWords kinds.Base64 words octets = AreBase64 words octets × (octets ≢ [])
+AreFieldWords kinds.Base64 words octets = AreSomeBase64 words octets
+AreFieldWords kinds.Base64OrHyphen words octets = AreBase64OrHyphen words octets
 AreFieldWords kinds.TypeBitMap words octets = IsTypeMap words octets
 AreFieldWords kinds.SmallTypeBitMap words octets = IsSmallTypeMap words octets
 AreFieldWords kinds.ServiceParameters words octets = AreParameterWords words octets
@@ -93,12 +113,6 @@ AreFieldWords kinds.GatewayAndKey words octets = IsGateway words octets
 AreFieldWords kinds.Relay words octets = IsRelay words octets
 AreFieldWords kinds.HostIdentity words octets = IsHostIdentity words octets
 AreFieldWords kind words octets = ⊥
-
--- exactly one word
-abbrev pub IsOne : (List ℕ → List ℕ → Type 0) → Words → List ℕ → Type 0
-IsOne Is [] octets = ⊥
-IsOne Is (word ∷ []) octets = Is word.now octets
-IsOne Is (word ∷ next ∷ words) octets = ⊥
 
 -- the words of this extent are a field of this kind
 abbrev pub IsFieldOf : Extent → Kind → Words → List ℕ → Type 0

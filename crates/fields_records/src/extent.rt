@@ -26,6 +26,7 @@ pub(crate) fn extent_of(kind: Kind) -> Extent
         Kind::Strings
         | Kind::Hexadecimal
         | Kind::Base64
+        | Kind::Base64OrHyphen
         | Kind::TypeBitMap
         | Kind::SmallTypeBitMap
         | Kind::ServiceParameters

@@ -3,7 +3,7 @@ ghost use Rattle.std.specs.Prelude.{OnErr, OnSome, ◌≡◌, IfSome, is_some};
 ghost use Rattle.fields_table.specs.Values.{value_shown};
 ghost use Rattle.fields_table.specs.declared.kind.Kind.TheVariants as Kind;
 ghost use Rattle.dns_print.specs.Printing.{PrintsOnOk};
-ghost use Rattle.fields_records.specs.FieldTexts.{always_has_text, begins_with_space, ipv4_of, ipv6_of, number_text, octets_text, scheme_text, string_text, value_text};
+ghost use Rattle.fields_records.specs.FieldTexts.{always_has_text, base64_or_hyphen, begins_with_space, ipv4_of, ipv6_of, number_text, octets_text, scheme_text, string_text, value_text};
 ghost use Rattle.fields_forms.specs.GatewayTexts.{gateway_text, relay_text};
 ghost use Rattle.fields_forms.specs.HostIdentities.{identity_text};
 
@@ -32,6 +32,7 @@ fn octets_have_text(kind: Kind, octets: &[u8]) -> bool
         | Kind::Eui64
         | Kind::Strings
         | Kind::Text
+        | Kind::Base64OrHyphen
         | Kind::TypeBitMap
         | Kind::ServiceParameters => true,
         Kind::Locator64 => octets.len() == 8,
@@ -85,7 +86,7 @@ pub(crate) fn always_has_text(kind: Kind) -> bool
             | Kind::Number32
             | Kind::Number48
             | Kind::Number64
-            | Kind::Scheme
+            | Kind::SyncScheme
             | Kind::Seconds
             | Kind::Ipv4
             | Kind::Ipv6
@@ -102,6 +103,7 @@ pub(crate) fn always_has_text(kind: Kind) -> bool
             | Kind::SizedOctets
             | Kind::Strings
             | Kind::Text
+            | Kind::Base64OrHyphen
             | Kind::TypeBitMap
             | Kind::ServiceParameters
     )
@@ -207,6 +209,18 @@ fn write_identity<W: TextWriter>(f: &mut W, octets: &[u8]) -> fmt::Result
     }
 }
 
+/// Prints base64, or a hyphen if there are no octets.
+#[tactic(auto, using(dns_print::proofs::theory::Prints::prints, std::proofs::lemmas::Grind::common_steps))]
+fn write_base64_or_hyphen<W: TextWriter>(f: &mut W, octets: &[u8]) -> fmt::Result
+    ensures text { PrintsOnOk W.takes f.old result (base64_or_hyphen octets.now) f.new }
+    ensures err { OnErr result W.MayFail }
+{
+    if octets.is_empty() {
+        return f.write_text("-");
+    }
+    write_base64(f, octets)
+}
+
 /// Prints octets by the kind of their field.
 fn write_octets<W: TextWriter>(f: &mut W, kind: Kind, octets: &[u8]) -> fmt::Result
     ensures text { IfSome (octets_text kind octets.now)
@@ -221,6 +235,7 @@ fn write_octets<W: TextWriter>(f: &mut W, kind: Kind, octets: &[u8]) -> fmt::Res
         Kind::Text => write_quoted(f, octets),
         Kind::Hexadecimal => write_hex(f, octets),
         Kind::Base64 => write_base64(f, octets),
+        Kind::Base64OrHyphen => write_base64_or_hyphen(f, octets),
         Kind::TypeBitMap => write_type_map(f, octets),
         Kind::SmallTypeBitMap => write_small_map(f, octets),
         Kind::ServiceParameters => write_parameters(f, octets),
@@ -264,7 +279,7 @@ fn write_number<W: TextWriter>(f: &mut W, kind: Kind, number: u64) -> fmt::Resul
 {
     match kind {
         Kind::Time => write_time(f, number),
-        Kind::Scheme => write_scheme(f, number),
+        Kind::SyncScheme => write_scheme(f, number),
         _ => dns_print::write_number(f, number),
     }
 }

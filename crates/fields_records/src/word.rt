@@ -26,11 +26,12 @@ fn push_number(octets: &mut Vec<u8>, word: &str, size: u8, most: u64) -> Result<
     }
 }
 
-/// Appends a scheme of notifications: its mnemonic, or its number (RFC 9859 section 2.2).
+/// Appends a scheme of notifications: its mnemonic, ignoring ASCII case, or its number (RFC 9859
+/// section 2.2).
 fn push_scheme(octets: &mut Vec<u8>, word: &str) -> Result<(), TextError>
     ensures { AppendsOctets (IsSchemeWord word.now) octets.old.items octets.new.items result }
 {
-    if word == "NOTIFY" {
+    if word.eq_ignore_ascii_case("NOTIFY") {
         return push_last(octets, 1, 1);
     }
     push_number(octets, word, 1, 0xff)
@@ -77,7 +78,7 @@ pub(crate) fn push_word(
         Kind::Number32 | Kind::Seconds => push_number(octets, word, 4, 0xffff_ffff),
         Kind::Number48 => push_number(octets, word, 6, 0xffff_ffff_ffff),
         Kind::Number64 => push_number(octets, word, 8, u64::MAX),
-        Kind::Scheme => push_scheme(octets, word),
+        Kind::SyncScheme => push_scheme(octets, word),
         Kind::Time => push_time(octets, word),
         Kind::Ipv4 => push_ipv4(octets, word),
         Kind::Ipv6 => push_ipv6(octets, word),

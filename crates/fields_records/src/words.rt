@@ -1,7 +1,7 @@
 //! Fields that are all words that are left (RFC 1035 section 5.1).
 ghost use Rattle.std.specs.Prelude.{◌≡◌, ◌≢◌, ◌↔◌, [], IsTrue};
-ghost use Rattle.fields_records.specs.FieldWords.{AreStrings, AreFieldWords};
-ghost use Rattle.fields_text.specs.JoinedWords.{AreBase64, AreHex, joined};
+ghost use Rattle.fields_records.specs.FieldWords.{AreBase64OrHyphen, AreFieldWords, AreSomeBase64, AreStrings, IsHyphen, IsOne};
+ghost use Rattle.fields_text.specs.JoinedWords.{AreHex, joined};
 ghost use Rattle.fields_forms.specs.LocationWords.{IsLocation};
 ghost use Rattle.fields_text.specs.Reading.{AppendsOctets};
 
@@ -69,13 +69,36 @@ fn push_hex(alloc: Global, octets: &mut Vec<u8>, words: &[&str]) -> Result<(), T
 
 /// Appends the octets of base64, one octet at least.
 fn push_base64(alloc: Global, octets: &mut Vec<u8>, words: &[&str]) -> Result<(), TextError>
-    ensures { AppendsOctets (λ all. AreBase64 words.now all × (all ≢ []))
-        octets.old.items octets.new.items result }
+    ensures { AppendsOctets (AreSomeBase64 words.now) octets.old.items octets.new.items result }
 {
     if are_blank(words) {
         return Err(TextError::BadWord);
     }
     push_read(octets, read_base64_words(alloc, words))
+}
+
+/// Whether the words are a hyphen.
+fn is_hyphen(words: &[&str]) -> bool
+    ensures { IsTrue result ↔ IsOne IsHyphen words.now [] }
+{
+    match words {
+        [word] => *word == "-",
+        _ => false,
+    }
+}
+
+/// Appends no octets for a hyphen, else those of base64, one octet at least.
+fn push_base64_or_hyphen(
+    alloc: Global,
+    octets: &mut Vec<u8>,
+    words: &[&str],
+) -> Result<(), TextError>
+    ensures { AppendsOctets (AreBase64OrHyphen words.now) octets.old.items octets.new.items result }
+{
+    if is_hyphen(words) {
+        return Ok(());
+    }
+    push_base64(alloc, octets, words)
 }
 
 /// Appends a location.
@@ -102,6 +125,7 @@ pub(crate) fn push_words(
         Kind::Strings => push_some_strings(octets, words),
         Kind::Hexadecimal => push_hex(alloc, octets, words),
         Kind::Base64 => push_base64(alloc, octets, words),
+        Kind::Base64OrHyphen => push_base64_or_hyphen(alloc, octets, words),
         Kind::TypeBitMap => push_read(octets, read_type_map(alloc, words)),
         Kind::SmallTypeBitMap => push_read(octets, read_small_type_map(alloc, words)),
         Kind::ServiceParameters => push_read(octets, read_parameters(alloc, words)),

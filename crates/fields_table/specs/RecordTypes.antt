@@ -2,7 +2,7 @@
 use Prim.Native.String.{String}
 use Rattle.std.specs.Prelude.{ℕ, List, [], ◌∷◌, codes}
 use Rattle.fields_table.specs.declared.kind.Kind.{Kind}
-use Rattle.fields_table.specs.declared.kind.Kind.TheVariants.{Number8, Number16, Number32, Number48, Number64, Scheme, Seconds, Time, Ipv4, Ipv6, Eui48, Eui64, Locator64, RecordType, CompressibleName, PointedName, LowercasedName, PlainName, CharacterString, Tag, Salt, Hash, SizedOctets, Strings, Text, Hexadecimal, Base64, TypeBitMap, SmallTypeBitMap, ServiceParameters, AddressPrefixes, Location, GatewayAndKey, Relay, HostIdentity, Opaque}
+use Rattle.fields_table.specs.declared.kind.Kind.TheVariants.{Number8, Number16, Number32, Number48, Number64, SyncScheme, Seconds, Time, Ipv4, Ipv6, Eui48, Eui64, Locator64, RecordType, CompressibleName, PointedName, LowercasedName, PlainName, CharacterString, Tag, Salt, Hash, SizedOctets, Strings, Text, Hexadecimal, Base64, Base64OrHyphen, TypeBitMap, SmallTypeBitMap, ServiceParameters, AddressPrefixes, Location, GatewayAndKey, Relay, HostIdentity, Opaque}
 
 -- the definition of a field: its name and its kind
 abbrev pub Definition : Type 0
@@ -62,7 +62,7 @@ record_types =
     ∷ row 19 "X25" (field "psdn-address" CharacterString ∷ [])
     -- RFC 1183 section 3.3
     ∷ row 21 "RT" (field "preference" Number16 ∷ field "intermediate-host" PointedName ∷ [])
-    -- RFC 1706 section 6
+    -- RFC 1348
     ∷ row 23 "NSAP-PTR" (field "owner" PlainName ∷ [])
     -- RFC 2535 section 4.1
     ∷ row 24 "SIG" (field "type-covered" RecordType ∷ field "algorithm" Number8 ∷ field "labels" Number8 ∷ field "original-ttl" Seconds ∷ field "expiration"
@@ -142,7 +142,7 @@ record_types =
     -- RFC 9460 section 9
     ∷ row 65 "HTTPS" (field "priority" Number16 ∷ field "target" PlainName ∷ field "parameters" ServiceParameters ∷ [])
     -- RFC 9859 section 2.1
-    ∷ row 66 "DSYNC" (field "type" RecordType ∷ field "scheme" Scheme ∷ field "port" Number16 ∷ field "target" PlainName ∷ [])
+    ∷ row 66 "DSYNC" (field "rrtype" RecordType ∷ field "scheme" SyncScheme ∷ field "port" Number16 ∷ field "target" PlainName ∷ [])
     -- RFC 9886 section 5.1
     ∷ row 67 "HHIT" (field "data" Base64 ∷ [])
     -- RFC 9886 section 5.2
@@ -174,7 +174,7 @@ record_types =
     -- the template of the IANA registry
     ∷ row 258 "AVC" (field "txt-data" Strings ∷ [])
     -- the draft that the IANA registry names
-    ∷ row 259 "DOA" (field "enterprise" Number32 ∷ field "type" Number32 ∷ field "location" Number8 ∷ field "media-type" CharacterString ∷ field "data" Base64 ∷ [])
+    ∷ row 259 "DOA" (field "enterprise" Number32 ∷ field "type" Number32 ∷ field "location" Number8 ∷ field "media-type" CharacterString ∷ field "data" Base64OrHyphen ∷ [])
     -- RFC 8777 section 4.2
     ∷ row 260 "AMTRELAY" (field "precedence" Number8 ∷ field "relay" Relay ∷ [])
     -- RFC 9606 section 4

@@ -14,7 +14,7 @@ pub enum Kind {
     /// A number of 64 bits.
     Number64,
     /// A scheme of notifications, of 8 bits: NOTIFY for 1, else a number (RFC 9859 section 2.2).
-    Scheme,
+    SyncScheme,
     /// A number of seconds, of 32 bits.
     Seconds,
     /// A time: seconds since 1970 of 32 bits, printed as date and time (RFC 4034 section 3.2).
@@ -62,6 +62,8 @@ pub enum Kind {
     Hexadecimal,
     /// Octets up to the end, printed in base64.
     Base64,
+    /// Octets up to the end, printed in base64, or as `-` if there are none.
+    Base64OrHyphen,
     /// The record types at a name, in blocks up to the end (RFC 4034 section 4.1.2).
     TypeBitMap,
     /// The record types at a name, a bit for each from 0 on, up to the end (RFC 2535 section 5.2).

@@ -28,7 +28,7 @@ impl Kind {
         ensures { result ≡ shape_of self }
     {
         match self {
-            Kind::Number8 | Kind::Scheme => Shape::Octets(1),
+            Kind::Number8 | Kind::SyncScheme => Shape::Octets(1),
             Kind::Number16 | Kind::RecordType => Shape::Octets(2),
             Kind::Number32 | Kind::Seconds | Kind::Time | Kind::Ipv4 => Shape::Octets(4),
             Kind::Number48 | Kind::Eui48 => Shape::Octets(6),

@@ -88,7 +88,7 @@ pub(crate) const TYPES_FROM_1: &[Row] = &[
         "RT",
         &[("preference", Number16), ("intermediate-host", PointedName)],
     ),
-    // RFC 1706 section 6
+    // RFC 1348
     (23, "NSAP-PTR", &[("owner", PlainName)]),
 ];
 
@@ -399,8 +399,8 @@ pub(crate) const TYPES_FROM_48: &[Row] = &[
         66,
         "DSYNC",
         &[
-            ("type", RecordType),
-            ("scheme", Scheme),
+            ("rrtype", RecordType),
+            ("scheme", SyncScheme),
             ("port", Number16),
             ("target", PlainName),
         ],
@@ -490,7 +490,7 @@ pub(crate) const TYPES_FROM_99: &[Row] = &[
             ("type", Number32),
             ("location", Number8),
             ("media-type", CharacterString),
-            ("data", Base64),
+            ("data", Base64OrHyphen),
         ],
     ),
     // RFC 8777 section 4.2

@@ -53,7 +53,7 @@ fn octets_value(kind: Kind, octets: &[u8]) -> Value<'_>
         | Kind::Number32
         | Kind::Number48
         | Kind::Number64
-        | Kind::Scheme
+        | Kind::SyncScheme
         | Kind::Seconds
         | Kind::Time => Value::Number(number_of(octets)),
         Kind::RecordType => Value::RecordType(rtype_of(octets)),

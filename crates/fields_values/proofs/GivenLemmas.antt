@@ -125,7 +125,7 @@ all_octets_taken kinds.Number16 xs v octets sized bytes shown = number_taken kin
 all_octets_taken kinds.Number32 xs v octets sized bytes shown = number_taken kinds.Number32 4 xs v sized bytes shown
 all_octets_taken kinds.Number48 xs v octets sized bytes shown = number_taken kinds.Number48 6 xs v sized bytes shown
 all_octets_taken kinds.Number64 xs v octets sized bytes shown = number_taken kinds.Number64 8 xs v sized bytes shown
-all_octets_taken kinds.Scheme xs v octets sized bytes shown = number_taken kinds.Scheme 1 xs v sized bytes shown
+all_octets_taken kinds.SyncScheme xs v octets sized bytes shown = number_taken kinds.SyncScheme 1 xs v sized bytes shown
 all_octets_taken kinds.Seconds xs v octets sized bytes shown = number_taken kinds.Seconds 4 xs v sized bytes shown
 all_octets_taken kinds.Time xs v octets sized bytes shown = number_taken kinds.Time 4 xs v sized bytes shown
 all_octets_taken kinds.Ipv4 xs v octets sized bytes shown = ipv4_taken xs v sized shown
@@ -148,6 +148,8 @@ all_octets_taken kinds.Hexadecimal xs v octets sized bytes shown =
     octets_taken kinds.Hexadecimal (value_form kinds.Hexadecimal) xs v (λ given same. (xs, refl, (subst (λ (ys : List ℕ). accepts kinds.Hexadecimal ys ≡ true) same sized, same))) shown
 all_octets_taken kinds.Base64 xs v octets sized bytes shown =
     octets_taken kinds.Base64 (value_form kinds.Base64) xs v (λ given same. (xs, refl, (subst (λ (ys : List ℕ). accepts kinds.Base64 ys ≡ true) same sized, same))) shown
+all_octets_taken kinds.Base64OrHyphen xs v octets sized bytes shown =
+    octets_taken kinds.Base64OrHyphen (value_form kinds.Base64OrHyphen) xs v (λ given same. (xs, refl, (subst (λ (ys : List ℕ). accepts kinds.Base64OrHyphen ys ≡ true) same sized, same))) shown
 all_octets_taken kinds.TypeBitMap xs v octets sized bytes shown =
     octets_taken kinds.TypeBitMap (value_form kinds.TypeBitMap) xs v (λ given same. (xs, refl, (subst (λ (ys : List ℕ). accepts kinds.TypeBitMap ys ≡ true) same sized, same))) shown
 all_octets_taken kinds.SmallTypeBitMap xs v octets sized bytes shown =
@@ -212,7 +214,7 @@ name_form kinds.Number16 names = absurd (cc names)
 name_form kinds.Number32 names = absurd (cc names)
 name_form kinds.Number48 names = absurd (cc names)
 name_form kinds.Number64 names = absurd (cc names)
-name_form kinds.Scheme names = absurd (cc names)
+name_form kinds.SyncScheme names = absurd (cc names)
 name_form kinds.Seconds names = absurd (cc names)
 name_form kinds.Time names = absurd (cc names)
 name_form kinds.Ipv4 names = absurd (cc names)
@@ -230,6 +232,7 @@ name_form kinds.Strings names = absurd (cc names)
 name_form kinds.Text names = absurd (cc names)
 name_form kinds.Hexadecimal names = absurd (cc names)
 name_form kinds.Base64 names = absurd (cc names)
+name_form kinds.Base64OrHyphen names = absurd (cc names)
 name_form kinds.TypeBitMap names = absurd (cc names)
 name_form kinds.SmallTypeBitMap names = absurd (cc names)
 name_form kinds.ServiceParameters names = absurd (cc names)

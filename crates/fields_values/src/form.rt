@@ -40,7 +40,7 @@ pub(crate) fn value_form(kind: Kind) -> Form
     ensures { result ≡ value_form kind }
 {
     match kind {
-        Kind::Number8 | Kind::Scheme => Form::Number(1),
+        Kind::Number8 | Kind::SyncScheme => Form::Number(1),
         Kind::Number16 => Form::Number(2),
         Kind::Number32 | Kind::Seconds | Kind::Time => Form::Number(4),
         Kind::Number48 => Form::Number(6),

@@ -21,8 +21,8 @@ pub returns-in-Number64 : goal.returns-in-Number64
 returns-in-Number64 c = as_kind c.args.kind kinds.Number64 c.args.word.now c.args.octets.now.items c.push_number-in-Number64.new.octets.items
     c.push_number-in-Number64.result c.in-Number64.is c.push_number-in-Number64.ensures
 
-pub returns-in-Scheme : goal.returns-in-Scheme
-returns-in-Scheme c = as_kind c.args.kind kinds.Scheme c.args.word.now c.args.octets.now.items c.push_scheme.new.octets.items c.push_scheme.result c.in-Scheme.is c.push_scheme.ensures
+pub returns-in-SyncScheme : goal.returns-in-SyncScheme
+returns-in-SyncScheme c = as_kind c.args.kind kinds.SyncScheme c.args.word.now c.args.octets.now.items c.push_scheme.new.octets.items c.push_scheme.result c.in-SyncScheme.is c.push_scheme.ensures
 
 pub returns-in-Time : goal.returns-in-Time
 returns-in-Time c = as_kind c.args.kind kinds.Time c.args.word.now c.args.octets.now.items c.push_time.new.octets.items c.push_time.result c.in-Time.is c.push_time.ensures

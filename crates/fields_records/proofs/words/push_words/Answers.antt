@@ -12,6 +12,10 @@ returns-in-Hexadecimal c = as_kinds c.args.kind kinds.Hexadecimal c.args.words.n
 pub returns-in-Base64 : goal.returns-in-Base64
 returns-in-Base64 c = as_kinds c.args.kind kinds.Base64 c.args.words.now c.args.octets.now.items c.push_base64.new.octets.items c.push_base64.result c.in-Base64.is c.push_base64.ensures
 
+pub returns-in-Base64OrHyphen : goal.returns-in-Base64OrHyphen
+returns-in-Base64OrHyphen c = as_kinds c.args.kind kinds.Base64OrHyphen c.args.words.now c.args.octets.now.items c.push_base64_or_hyphen.new.octets.items
+    c.push_base64_or_hyphen.result c.in-Base64OrHyphen.is c.push_base64_or_hyphen.ensures
+
 pub returns-in-Location : goal.returns-in-Location
 returns-in-Location c = as_kinds c.args.kind kinds.Location c.args.words.now c.args.octets.now.items c.push_location.new.octets.items c.push_location.result c.in-Location.is c.push_location.ensures
 
