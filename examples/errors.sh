@@ -35,6 +35,9 @@ disk='No space left on device'
 question=03777777076578616d706c6503636f6d00
 asked=076578616d706c6503636f6d00
 
+# Two addresses of www.example.com; the second owner points to the first one's pointer.
+irregular=123481800001000200000000${question}00010001c00c0001000100000e100004c0000201c0210001000100000e100004c0000202
+
 # A look-up of www.example.com with the type $1, A or AAAA, and a message with the flags $2, the answer count $3 and the authority
 # count $4 after its question, and the records $5 (RFC 1035 section 4.1).
 resolving() {
@@ -89,6 +92,7 @@ refuses() {
 
 refuses addresses_no_digits example_addresses 'Invalid character' <<<0001zz
 refuses addresses_short_message example_addresses 'short message' <<<0001
+refuses addresses_irregular example_addresses "isn't regular" <<<"$irregular"
 full addresses_full_disk 1 "$disk" example_addresses <crates/example_addresses/stdin
 refuses answer_no_digits example_answer 'Invalid character' <<<0001zz
 refuses answer_short_query example_answer 'fewer than 12 octets' <<<0001
@@ -102,6 +106,7 @@ full answer_full_disk 1 "$disk" example_answer <crates/example_answer/stdin
 refuses response_no_digits example_response 'Odd number of digits' <<<000
 refuses response_short_message example_response 'short message' <<<0001
 refuses response_no_question example_response 'no question' <<<123401000000000000000000
+refuses response_irregular example_response "isn't regular" <<<"${irregular/8180/0100}"
 full response_full_disk 1 "$disk" example_response <crates/example_response/stdin
 refuses rewrite_one_line example_rewrite 'two lines are wanted' <<<600
 refuses rewrite_no_number example_rewrite 'invalid digit' < <(printf 'x\n00\n')
@@ -157,6 +162,8 @@ run resolve_truncated 0 "$(asks "$question") over TCP" '' example_resolve < <(re
 net=076578616d706c65036e657400
 run resolve_referral 0 "$(asks "$question") to the servers of example.com." '' example_resolve \
     < <(resolving A 8000 0000 0001 c010000200010002a3000006036e7331c010)
+run resolve_alias_and_referral 0 "$(asks "0377777703737562$asked") to the servers of sub.example.com." '' example_resolve \
+    < <(resolving A 8000 0001 0001 c00c000500010000012c000a0377777703737562c010c0310002000100000e100006036e7331c031)
 run resolve_alias_alone 0 "$(asks "03776562$net")" '' example_resolve < <(resolving A 8400 0001 0000 "c00c000500010000012c001103776562$net")
 run resolve_dname 0 "$(asks "03777777$net")" '' example_resolve < <(resolving A 8400 0001 0000 "c010002700010000012c000d$net")
 refuses resolve_too_many_queries example_resolve 'too many queries' < <(
@@ -165,6 +172,7 @@ refuses resolve_too_many_queries example_resolve 'too many queries' < <(
 )
 refuses resolve_alias_of_itself example_resolve 'ask another server: alias loop' < <(resolving A 8180 0001 0000 c00c0005000100000e100002c00c)
 refuses resolve_unreadable example_resolve 'ask another server: ' < <(resolving A 8180 0001)
+refuses resolve_irregular example_resolve "the reply isn't regular" < <(printf 'www.example.com\n%s\n' "$irregular")
 full resolve_full_disk 1 "$disk" example_resolve <crates/example_resolve/stdin
 full resolve_query_full_disk 1 "$disk" example_resolve <<<www.example.com
 

@@ -2,8 +2,8 @@
 //!
 //!     example_addresses < DIGITS
 //!
-//! It reads the message from standard input as hexadecimal digits. The contract of
-//! `print_addresses` says what it prints.
+//! It reads the message from standard input as hexadecimal digits, and refuses one that isn't
+//! regular: its names may be dear to read. The contract of `print_addresses` says what it prints.
 #![tactic(auto)]
 
 ghost use Rattle.std.specs.Io.KnownBytes.{Appends};
@@ -11,8 +11,9 @@ ghost use Rattle.std.specs.Prelude.{OnOk};
 ghost use Rattle.dns_message.specs.Messages.{message_octets};
 ghost use Rattle.example_addresses.specs.Addresses.{addresses_text};
 
-use anyhow::Result;
+use anyhow::{Result, ensure};
 use dns_message::data::A;
+use dns_message::edit::is_regular;
 use dns_message::message::Message;
 use std::io;
 use std::io::Write;
@@ -20,6 +21,7 @@ use std::io::Write;
 fn main(rt: HostRuntime) -> Result<()> {
     let digits = io::read_to_string(rt.alloc(), rt.stdin())?;
     let message = Message::from_octets(hex::decode(rt.alloc(), digits.trim_ascii())?)?;
+    ensure!(is_regular(&message), "the message isn't regular");
     print_addresses(&mut rt.stdout(), &message)?;
     Ok(())
 }

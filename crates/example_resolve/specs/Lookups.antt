@@ -44,7 +44,8 @@ Tells old (Answered name answers ttl) next = Finds (members name 1 old.rtype ans
 Tells old (NoData name (Some soa) ttl) next = next ≡ nexts.NoData
 Tells old (NoData name None ttl) next = MatchBool (names_equal name (name_labels old.name)) (next ≡ nexts.NoData) (Restarts old name next)
 Tells old (NoName name soa ttl) next = next ≡ nexts.NoName
-Tells old (Referred name cut) next = Asks old (name_labels old.name) cut false next
+-- the name at the end of the chain of aliases, at the servers of the zone to which it is delegated
+Tells old (Referred name cut) next = Asks old name cut false next
 Tells old (Aliased name ttl) next = Restarts old name next
 -- the name that the DNAME record leads to; YXDOMAIN (6) if that is too long
 Tells old (Redirected name owner target ttl) next =

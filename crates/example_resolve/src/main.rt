@@ -8,7 +8,8 @@
 //!
 //! The program prints the addresses, one a line, if the replies give them. Else it prints the next
 //! query in hexadecimal digits, and `over TCP` or `to the servers of` a zone if that has to be used
-//! or asked. If there are no addresses, it exits with status 1 and a reason on standard error.
+//! or asked. If there are no addresses, it exits with status 1 and a reason on standard error. A
+//! reply that isn't regular is refused, unless it was truncated: its names may be dear to read.
 //!
 //! The contract of `resolving::query` says what a query is, and that of `resolving::Lookup::judge`
 //! what each reply tells to do.
@@ -19,6 +20,7 @@ mod resolving;
 use crate::resolving::{Lookup, Next, query};
 use anyhow::{Result, bail, ensure};
 use dns_message::code::Rtype;
+use dns_message::edit::is_regular;
 use dns_message::fields::{DataText, FieldData};
 use dns_message::message::Message;
 use dns_message::reply::Rrset;
@@ -38,6 +40,10 @@ fn main(rt: HostRuntime) -> Result<()> {
     for line in lines {
         let sent = query(ID, &lookup.name, lookup.rtype);
         let received = Message::from_octets(hex::decode(rt.alloc(), line.trim_ascii())?)?;
+        ensure!(
+            received.header().tc() || is_regular(&received),
+            "ask another server: the reply isn't regular"
+        );
         match lookup.judge(rt.alloc(), &sent, &received)? {
             Next::Found(set) => return print_set(&rt, set),
             Next::Ask(later) => lookup = later,

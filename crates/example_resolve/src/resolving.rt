@@ -101,9 +101,7 @@ impl Lookup {
             Reply::Answer(answer) => Next::Found(self.set_of(answer)),
             Reply::NoData(denial) => self.after_denial(alloc, denial),
             Reply::NoName(_denial) => Next::NoName,
-            Reply::Referral(referral) => {
-                self.ask(alloc, self.name.as_parsed(), referral.cut(), false)
-            }
+            Reply::Referral(referral) => self.ask(alloc, referral.name(), referral.cut(), false),
             Reply::Alias(alias) => self.restart(alloc, alias.name()),
             Reply::Dname(redirection) => self.redirect(alloc, redirection),
             Reply::Truncated => {

@@ -2,8 +2,9 @@
 //!
 //!     example_response < DIGITS
 //!
-//! It reads the query from standard input and prints the response, both as hexadecimal digits. The
-//! contract of `response` says which response.
+//! It reads the query from standard input and prints the response, both as hexadecimal digits. A
+//! query that isn't regular is refused: its names may be dear to read. The contract of `response`
+//! says which response.
 #![tactic(auto)]
 
 ghost use Rattle.std.specs.Prelude.{◌≡◌, ◌↔◌, ◌⊎◌, IfErr, IfOk, IsTrue, map};
@@ -15,6 +16,7 @@ ghost use Rattle.example_response.specs.Response.{IsReason, IsResponse, own_opt}
 use dns_message::builder::{MessageBuilder, OptBuilder, PushError};
 use dns_message::code::Rcode;
 use dns_message::data::A;
+use dns_message::edit::is_regular;
 use dns_message::header::Header;
 use dns_message::message::Message;
 use dns_message::record::ComposeRecord;
@@ -24,6 +26,7 @@ use std::alloc::Global;
 fn main(rt: HostRuntime) -> anyhow::Result<()> {
     let digits = std::io::read_to_string(rt.alloc(), rt.stdin())?;
     let query = Message::from_octets(hex::decode(rt.alloc(), digits.trim_ascii())?)?;
+    anyhow::ensure!(is_regular(&query), "the query isn't regular");
     let question = query.sole_question()?;
     let answers = [1, 2].map(|host| (question.qname(), 3600u32, A::from_octets(192, 0, 2, host)));
     let response = response(rt.alloc(), &query, &answers)?;
