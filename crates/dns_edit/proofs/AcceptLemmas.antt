@@ -47,8 +47,8 @@ pub names_low : (b : List ℕ) (rtype start : ℕ) → start ≤ names_start b r
 names_low b rtype start =
     low_cond (nat_eq rtype 35) start (string_end b (string_end b (string_end b (start + 4)))) (start + octets_before rtype) (omega arith) (omega arith)
 
--- the names at the labels of these names use no octet of the fields
-abbrev AllApart : List ℕ → List ℕ → List ℕ → Type 0
+-- The names at the labels of these names use no octet of the fields.
+abbrev pub AllApart : List ℕ → List ℕ → List ℕ → Type 0
 AllApart b fields names = (t : ℕ) → LabelOfAny b names t → NameApart b fields t
 
 module _ {b : List ℕ} where
@@ -87,7 +87,8 @@ module _ {b : List ℕ} where
         let this : NameApart b fields p = NameApart.label h (apart_in fields p q p (p + 1 + n) (omega arith) l a) rest.0 in
         (this, λ t y. elim (label_next h y) [ inl e ↦ subst (λ t. NameApart b fields t) (sym e) this | inr z ↦ rest.1 t z ])
 
-    name_apart : {names after : List ℕ} {p q : ℕ} → AcceptsName b names p q after → Apart fields p q → AllApart b fields names → NameApart b fields p × AllApart b fields after
+    -- An accepted name that is apart from the fields uses no octet of them.
+    pub name_apart : {names after : List ℕ} {p q : ℕ} → AcceptsName b names p q after → Apart fields p q → AllApart b fields names → NameApart b fields p × AllApart b fields after
     name_apart a apart all =
         let x = labels_apart a.ends apart (λ t y. all t (a.back t y).1) in
         (x.0, subst (λ (names : List ℕ). AllApart b fields names) (sym a.added) (λ t y. elim y [ inl own ↦ x.1 t own | inr before ↦ all t before ]))
@@ -102,14 +103,16 @@ module _ {b : List ℕ} where
         let rest = names_apart x (apart_in fields p r q r l (omega arith) a) first.1 in
         (Skipped.more (h.ends, first.0) rest.0, rest.1)
 
-    data_apart : {names after : List ℕ} {rtype start end : ℕ} → AcceptsData b names rtype start end after → Apart fields start end → AllApart b fields names
+    -- Nor do the names of RDATA that is apart from them.
+    pub data_apart : {names after : List ℕ} {rtype start end : ℕ} → AcceptsData b names rtype start end after → Apart fields start end → AllApart b fields names
         → DataApart b fields rtype start end × AllApart b fields after
     data_apart (AcceptsData.empty e) a all = (inl e, all)
     data_apart {rtype = rtype} {start = start} {end = end} (AcceptsData.all {stop = stop} ne x l) a all =
         let y = names_apart x (apart_in fields start end (names_start b rtype start) stop (names_low b rtype start) l a) all in
         (inr (stop, l, y.0), y.1)
 
-    questions_apart : {n p q : ℕ} {names after : List ℕ} → AllAccepted (AcceptsQuestion b) n names p q after → All (λ f. q ≤ f) fields → AllApart b fields names
+    -- Nor do the names of questions before them.
+    pub questions_apart : {n p q : ℕ} {names after : List ℕ} → AllAccepted (AcceptsQuestion b) n names p q after → All (λ f. q ≤ f) fields → AllApart b fields names
         → Skipped (QuestionApart b fields) n p q × AllApart b fields after
     questions_apart none later all = (Skipped.none, all)
     questions_apart {q = r} (more {p = p} {q = q} h x) later all =

@@ -1,5 +1,5 @@
 -- Records after octets that are overwritten.
-use Rattle.std.proofs.Common.{◌≡◌, ◌∙◌, ℕ, ◌+◌, ◌-◌, ◌≤◌, List, take, drop, length, arith, refl, sym, ap}
+use Rattle.std.proofs.Common.{◌≡◌, ◌∙◌, ℕ, ◌+◌, ◌-◌, ◌<◌, ◌≤◌, List, take, drop, length, arith, refl, sym, ap}
 use Rattle.std.specs.Prelude.{slice_get}
 use Rattle.std.specs.Int.{w16, w32, from_be_bytes}
 use Rattle.std.proofs.lemmas.Grind.{common_steps}
@@ -9,7 +9,7 @@ use Rattle.dns_octets.proofs.theory.Overwritten.{kept_after}
 use Rattle.dns_name.specs.Names.{head_at, NameContinues}
 use Rattle.dns_name.specs.Parsers.{number_at}
 use Rattle.dns_name.proofs.theory.HeadLemmas.{same_head}
-use Rattle.dns_wire.proofs.theory.Stability.{get_dropped}
+use Rattle.dns_wire.proofs.theory.Stability.{get_dropped, same_part}
 use Rattle.dns_item.specs.Items.{SkipsRecord}
 use Rattle.dns_read.specs.Reading.{Skipped}
 use Rattle.dns_read.specs.Reading.Skipped.{none, more}
@@ -81,6 +81,30 @@ module _ {b c : List ℕ} {q : ℕ} (same : SameFrom b c q) where
       let w = long_record b s in
       let low = w.0 in
       TtlFields.other (skips_same l s).0 (ap holds_ttl (sym (number_same16 s.name_end (omega arith))) ∙ h) (ttls_same (omega (arith, w.0, w.1)) rest)
+
+-- the same n octets from offset p on, in messages of the same length
+pub record SameOctets (b c : List ℕ) (p n : ℕ) : Type 0 where
+  pub long : length b ≡ length c
+  pub octets : (k : ℕ) → p ≤ k → k < p + n → slice_get b k ≡ slice_get c k
+
+module _ {b c : List ℕ} {p n : ℕ} (same : SameOctets b c p n) where
+  -- a 16-bit number in these octets is the same in both
+  pub octets_same16 : (k : ℕ) → p ≤ k → k + 2 ≤ p + n → number_at w16 b k ≡ number_at w16 c k
+  octets_same16 k low high =
+      let e : k + 2 - k ≡ 2 = omega arith in
+      let part = same_part b c 2 k (λ i l m. same.octets i (omega arith) (omega arith)) in
+      ap (λ n. from_be_bytes w16 (take n (drop k b))) e ∙ ap (from_be_bytes w16) part ∙ ap (λ n. from_be_bytes w16 (take n (drop k c))) (sym e)
+
+  -- and so is a 32-bit number
+  pub octets_same32 : (k : ℕ) → p ≤ k → k + 4 ≤ p + n → number_at w32 b k ≡ number_at w32 c k
+  octets_same32 k low high =
+      let e : k + 4 - k ≡ 4 = omega arith in
+      let part = same_part b c 4 k (λ i l m. same.octets i (omega arith) (omega arith)) in
+      ap (λ n. from_be_bytes w32 (take n (drop k b))) e ∙ ap (from_be_bytes w32) part ∙ ap (λ n. from_be_bytes w32 (take n (drop k c))) (sym e)
+
+-- Octets at or after an offset from which all are the same are the same.
+pub same_octets : {b c : List ℕ} {q : ℕ} → SameFrom b c q → (p n : ℕ) → q ≤ p → SameOctets b c p n
+same_octets same p n low = record { long = same.long; octets = λ k l m. get_same same k (omega arith) }
 
 -- Overwriting octets keeps the length.
 pub as_long : (b xs : List ℕ) (p : ℕ) → p + length xs ≤ length b → length b ≡ length (overwritten b p xs)

@@ -26,7 +26,7 @@ use Rattle.dns_read.specs.declared.section.Section.TheVariants.{Answer, Authorit
 use Rattle.dns_edit.specs.Alike.{SectionAlike, named_question, named_record}
 use Rattle.dns_edit.specs.Offsets.{RdataNameAt}
 use Rattle.dns_edit.specs.Ttls.{record_total}
-use Rattle.dns_edit.proofs.AgreeLemmas.{SameFrom, number_same16, number_same32}
+use Rattle.dns_edit.proofs.AgreeLemmas.{SameOctets, octets_same16, octets_same32}
 use Rattle.dns_edit.proofs.EntryLemmas.{skipped_by}
 use Rattle.dns_edit.proofs.ReadLemmas.{in_two}
 
@@ -111,17 +111,17 @@ module _ {f : List ℕ → List ℕ} {b c : List ℕ} where
     ends_alike w (NameContinues.pointer h) = NameContinues.pointer (alike_pointer w h).0
     ends_alike w (NameContinues.label h small fits x) = let y = alike_label w h in NameContinues.label y.0 small (omega arith) (ends_alike y.2 x)
 
--- A question is from p to q, its name reads alike, and the octets after the name are the same.
+-- A question is from p to q, its name reads alike, and the four octets after the name are the same.
 pub record QuestionAlike (f : List ℕ → List ℕ) (b c : List ℕ) (p q : ℕ) : Type 0 where
   pub skips : SkipsQuestion b p q
   pub name : NameAlike f b c p
-  pub after : SameFrom b c skips.name_end
+  pub after : SameOctets b c skips.name_end 4
 
--- A record is from p to q, its owner reads alike, and the octets after the owner are the same.
+-- A record is from p to q, its owner reads alike, and the ten octets after the owner are the same.
 pub record RecordAlike (f : List ℕ → List ℕ) (b c : List ℕ) (p q : ℕ) : Type 0 where
   pub skips : SkipsRecord b p q
   pub owner : NameAlike f b c p
-  pub after : SameFrom b c skips.name_end
+  pub after : SameOctets b c skips.name_end 10
 
 -- the question that is read in the other octets
 record QuestionOther (f : List ℕ → List ℕ) (c : List ℕ) (p q : ℕ) (x : QuestionItem) : Type 0 where
@@ -165,8 +165,8 @@ module _ {f : List ℕ → List ℕ} {b c : List ℕ} where
         reads = record {
           skips = question_skips h;
           name = y.is_at;
-          rtype = reads.rtype ∙ ap (number_at w16 b) e ∙ number_same16 h.after r (omega arith);
-          class = reads.class ∙ ap (λ r. number_at w16 b (r + 2)) e ∙ number_same16 h.after (r + 2) (omega arith);
+          rtype = reads.rtype ∙ ap (number_at w16 b) e ∙ octets_same16 h.after r (omega arith) (omega arith);
+          class = reads.class ∙ ap (λ r. number_at w16 b (r + 2)) e ∙ octets_same16 h.after (r + 2) (omega arith) (omega arith);
         };
         alike = λ i. Ok (record { name = y.alike i; rtype = x.rtype; class = x.class });
       }
@@ -203,7 +203,7 @@ module _ {f : List ℕ → List ℕ} {b c : List ℕ} where
       let s = h.skips in
       let long = h.after.long in
       let inside = s.within in
-      let n = number_same16 h.after (s.name_end + 8) (omega arith) in
+      let n = octets_same16 h.after (s.name_end + 8) (omega arith) (omega arith) in
       let e = s.end in
       record { name_end = s.name_end; name_ends = ends_alike long h.owner s.name_ends; end = omega arith; within = omega arith }
 
@@ -219,9 +219,9 @@ module _ {f : List ℕ → List ℕ} {b c : List ℕ} where
         reads = record {
           skips = record_skips h;
           owner = y.is_at;
-          rtype = reads.rtype ∙ ap (number_at w16 b) e ∙ number_same16 h.after r (omega arith);
-          class = reads.class ∙ ap (λ r. number_at w16 b (r + 2)) e ∙ number_same16 h.after (r + 2) (omega arith);
-          ttl = reads.ttl ∙ ap (λ r. number_at w32 b (r + 4)) e ∙ number_same32 h.after (r + 4) (omega arith);
+          rtype = reads.rtype ∙ ap (number_at w16 b) e ∙ octets_same16 h.after r (omega arith) (omega arith);
+          class = reads.class ∙ ap (λ r. number_at w16 b (r + 2)) e ∙ octets_same16 h.after (r + 2) (omega arith) (omega arith);
+          ttl = reads.ttl ∙ ap (λ r. number_at w32 b (r + 4)) e ∙ octets_same32 h.after (r + 4) (omega arith) (omega arith);
           rdata_start = reads.rdata_start ∙ ap (λ r. r + 10) e;
           rdata_end = reads.rdata_end;
         };

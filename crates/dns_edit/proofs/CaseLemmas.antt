@@ -30,7 +30,7 @@ use Rattle.dns_edit.specs.Alike.{CaseReadsAlike, CaseStaysRegular}
 use Rattle.dns_edit.specs.Case.{AsksFor}
 use Rattle.dns_edit.specs.Pointers.{AcceptsName, LabelOf, PointsTo}
 use Rattle.dns_edit.proofs.AcceptLemmas.{questions_rise}
-use Rattle.dns_edit.proofs.AgreeLemmas.{SameFrom, as_long, same_after}
+use Rattle.dns_edit.proofs.AgreeLemmas.{SameFrom, as_long, same_after, same_octets}
 use Rattle.dns_edit.proofs.AlikeLemmas.{AllAlike, NameAlike, QuestionAlike, ends_alike}
 use Rattle.dns_edit.proofs.CutLemmas.{entries_alike}
 use Rattle.dns_edit.specs.Ttls.{record_total}
@@ -239,7 +239,7 @@ module _ (b : List ℕ) (name : Labels) (is : IsName name) (asks : AsksFor b (un
       let own : AcceptsName c [] p h.name_end mid = record { ends = there; back = λ t y. absurd (h.name.back t (alike_points first.0 y)).1; added = h.name.added } in
       let accepted : AcceptsQuestion c [] p q mid = record { name_end = h.name_end; name = own; end = h.end; within = omega (arith, h.within, long) } in
       let others = questions_stay later next x stay in
-      let this : QuestionAlike lowered_label b c p q = record { skips = skips; name = first.0; after = later } in
+      let this : QuestionAlike lowered_label b c p q = record { skips = skips; name = first.0; after = same_octets later h.name_end 4 (omega arith) } in
       record {
         questions = Skipped.more this rest.0;
         labels = rest.1;

@@ -32,12 +32,37 @@ pub skipped_by : {Skips More : ℕ → ℕ → Type 0} → ((p q : ℕ) → More
 skipped_by f none = none
 skipped_by f (more h x) = more (f _ _ h) (skipped_by f x)
 
+module _ {Skips : ℕ → ℕ → Type 0} (rises : (p q : ℕ) → Skips p q → p ≤ q) where
+  -- Entries end after they begin, if each does.
+  pub skipped_rise : {n p q : ℕ} → Skipped Skips n p q → p ≤ q
+  skipped_rise none = omega arith
+  skipped_rise (more h x) = let first = rises _ _ h in let rest = skipped_rise x in omega arith
+
+  -- Entries that are skipped to an offset are others, if each before it is.
+  pub skipped_until : {Other : ℕ → ℕ → Type 0} (end : ℕ) → ((p q : ℕ) → q ≤ end → Skips p q → Other p q) → {n p q : ℕ} → q ≤ end → Skipped Skips n p q → Skipped Other n p q
+  skipped_until end f l none = none
+  skipped_until end f l (more {q = q} h x) = let rest = skipped_rise x in more (f _ q (omega arith) h) (skipped_until end f l x)
+
+-- Entries after others are skipped together.
+pub skipped_both : {Skips : ℕ → ℕ → Type 0} {m n p q r : ℕ} → Skipped Skips m p q → Skipped Skips n q r → Skipped Skips (m + n) p r
+skipped_both {Skips = Skips} {n = n} {p = p} {r = r} none y = subst (λ n. Skipped Skips n p r) (let e : n ≡ 0 + n = omega arith in e) y
+skipped_both {Skips = Skips} {n = n} {p = p} {r = r} (more {n = m} h x) y =
+    subst (λ n. Skipped Skips n p r) (let e : suc (m + n) ≡ suc m + n = omega arith in e) (more h (skipped_both x y))
+
+module _ {Skips More : ℕ → ℕ → Type 0} (skips : (p q : ℕ) → More p q → Skips p q) (one : (p q r : ℕ) → Skips p q → Skips p r → q ≡ r) where
+  -- What more is known of each entry is known of the entry after some of them.
+  pub skipped_nth : {n k p q r : ℕ} → Skipped More n p q → Skipped Skips k p r → k < n → (s : ℕ) × More r s
+  skipped_nth none y less = absurd (omega arith)
+  skipped_nth (more {q = q} h x) none less = (q, h)
+  skipped_nth {r = r} (more {p = p} {q = q} h x) (more {n = k} {q = q'} g y) less =
+      skipped_nth x (subst (λ q. Skipped Skips k q r) (one p q' q g (skips p q h)) y) (omega arith)
+
 -- a part of octets that are no octets of the fields
 pub apart_in : (fields : List ℕ) (lo hi lo' hi' : ℕ) → lo ≤ lo' → hi' ≤ hi → Apart fields lo hi → Apart fields lo' hi'
 apart_in fields lo hi lo' hi' l h a = λ k d less. elim (a k d less) [ inl x ↦ inl (omega arith) | inr x ↦ inr (omega arith) ]
 
--- octets before and after all fields
-apart_before : (fields : List ℕ) (p lo hi : ℕ) → p ≤ lo → All (λ f. f + 4 ≤ p) fields → Apart fields lo hi
+-- Fields that end before are apart from the octets after.
+pub apart_before : (fields : List ℕ) (p lo hi : ℕ) → p ≤ lo → All (λ f. f + 4 ≤ p) fields → Apart fields lo hi
 apart_before fields p lo hi l a = λ k d less. inl (let w = a k d less in omega arith)
 
 -- Fields that begin later are apart from the octets before.
@@ -48,7 +73,8 @@ apart_after fields p lo hi l a = λ k d less. inr (let w = a k d less in omega a
 pub all_later : (fields : List ℕ) (p q : ℕ) → q ≤ p → All (λ f. p ≤ f) fields → All (λ f. q ≤ f) fields
 all_later fields p q l a = λ k d less. let w = a k d less in omega arith
 
-all_sooner : (fields : List ℕ) (p q : ℕ) → p ≤ q → All (λ f. f + 4 ≤ p) fields → All (λ f. f + 4 ≤ q) fields
+-- Fields that end before an offset end before each offset after it.
+pub all_sooner : (fields : List ℕ) (p q : ℕ) → p ≤ q → All (λ f. f + 4 ≤ p) fields → All (λ f. f + 4 ≤ q) fields
 all_sooner fields p q l a = λ k d less. let w = a k d less in omega arith
 
 module _ (b : List ℕ) where

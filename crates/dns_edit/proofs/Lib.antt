@@ -21,3 +21,7 @@ mod RegularTtls
 mod CaseLemmas
 mod AskedLemmas
 mod OptLemmas
+mod CoverLemmas
+mod OptionLemmas
+mod ReplaceLemmas
+mod ReadBackLemmas

@@ -44,6 +44,7 @@ module _ {b : List ℕ} where
   name_excludes names p q next (errors.Parse e) h f = end_not_both b p q (fault_of e) h.ends f
   name_excludes names p q next errors.Pointer h r = r.4 (h.back r.1 r.3)
   name_excludes names p q next errors.NotLast h r = r
+  name_excludes names p q next errors.OptionLength h r = r
 
   question_once : Once (AcceptsQuestion b)
   question_once names p q r next last h k =

@@ -91,6 +91,16 @@ module _ {fields b c : List ℕ} (s : SameApart fields b c) where
       NameContinues.label (label_same s (apart_in fields p r p (p + 1 + n) (omega arith) w a) h) small (omega arith)
       (ends_same (apart_in fields p r (p + 1 + n) r (omega arith) (omega arith) a) x)
 
+  -- a record whose owner and RDLENGTH are apart from the fields has the same end in both, and so has its owner
+  abbrev pub skips_apart : {p q : ℕ} (t : SkipsRecord b p q) → Apart fields p t.name_end → Apart fields (t.name_end + 8) (t.name_end + 10) → SkipsRecord c p q
+  skips_apart t owner size =
+      let r = t.name_end in
+      let rdlen = number16_same (r + 8) (apart_in fields (r + 8) (r + 10) (r + 8) (r + 8 + 2) (omega arith) (omega arith) size) in
+      let long = s.long in
+      let end = t.end in
+      let inside = t.within in
+      record { name_end = r; name_ends = ends_same owner t.name_ends; end = omega arith; within = omega arith }
+
 -- the TTL of a field after the change
 held_value : (change : TtlChange) (b : List ℕ) {fields : List ℕ} (f : ℕ) → FitInOctets b → Held b fields f
     → number_at w32 (with_ttls change fields b) f ≡ changed change (number_at w32 b f)
@@ -131,11 +141,7 @@ module _ (change : TtlChange) (b fields : List ℕ) (bytes : FitInOctets b) (wit
       let low : p ≤ r = l.0 in
       let high : r + 10 ≤ q = l.1 in
       let owner = apart_in fields p (r + 4) p r (omega arith) (omega arith) step.owner in
-      let rdlen = number16_same same (r + 8) (apart_in fields (r + 8) q (r + 8) (r + 8 + 2) (omega arith) (omega arith) step.rdata) in
-      let long = same.long in
-      let end = step.skips.end in
-      let inside = step.skips.within in
-      record { name_end = r; name_ends = ends_same same owner step.skips.name_ends; end = omega arith; within = omega arith }
+      skips_apart same step.skips owner (apart_in fields (r + 8) q (r + 8) (r + 10) (omega arith) (omega arith) step.rdata)
 
   record_same : {m p q : ℕ} (x : RecordEntry) → Step b fields m p q → NameApart b fields p → ReadsRecord b p q x → ReadsRecord after p q (with_changed_ttl change x)
   unfolding skips_same

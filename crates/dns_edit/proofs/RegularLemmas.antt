@@ -23,7 +23,7 @@ use Rattle.dns_edit.specs.Pointers.{AcceptsName, LabelOf, LabelOfAny, PointsTo}
 use Rattle.dns_edit.specs.Rdata.{names_start}
 use Rattle.dns_edit.specs.Readings.{ReadsNameAlike}
 use Rattle.dns_edit.proofs.AcceptLemmas.{names_low, questions_rise}
-use Rattle.dns_edit.proofs.AgreeLemmas.{SameFrom, dropped, head_same, number_same16}
+use Rattle.dns_edit.proofs.AgreeLemmas.{SameFrom, dropped, head_same, number_same16, same_octets}
 use Rattle.dns_edit.proofs.AlikeLemmas.{AllAlike, NameAlike, QuestionAlike, RecordAlike, first_additionals}
 use Rattle.dns_edit.proofs.CutLemmas.{entries_alike}
 use Rattle.dns_edit.proofs.EntryLemmas.{long_record}
@@ -37,9 +37,6 @@ LabelsAlike f b c names = (t : ℕ) → LabelOfAny b names t → NameAlike f b c
 module _ {b c : List ℕ} {from : ℕ} (same : SameFrom b c from) where
   label_same : (p n : ℕ) → from ≤ p → label_at c p n ≡ label_at b p n
   label_same p n l = ap (take (p + 1 + n - (p + 1))) (sym (dropped same (p + 1) (omega arith)))
-
-  later : (p : ℕ) → from ≤ p → SameFrom b c p
-  later p l = record { long = same.long; octets = dropped same p l }
 
 module _ {f : List ℕ → List ℕ} {b c : List ℕ} where
   module _ {from : ℕ} (same : SameFrom b c from) where
@@ -85,7 +82,7 @@ module _ {f : List ℕ → List ℕ} {b c : List ℕ} where
         let next : from ≤ q = omega arith in
         let rest = questions_alike next x first.1 in
         let skips : SkipsQuestion b p q = record { name_end = h.name_end; name_ends = h.name.ends; end = h.end; within = h.within } in
-        let this : QuestionAlike f b c p q = record { skips = skips; name = first.0; after = later same h.name_end (omega arith) } in
+        let this : QuestionAlike f b c p q = record { skips = skips; name = first.0; after = same_octets same h.name_end 4 (omega arith) } in
         (Skipped.more this rest.0, rest.1)
 
     -- Records at or after the offset read alike.
@@ -99,7 +96,7 @@ module _ {f : List ℕ → List ℕ} {b c : List ℕ} where
         let first = name_alike l h.owner all in
         let rdata : from ≤ h.skips.name_end + 10 = omega arith in
         let second = data_alike rdata h.rdata first.1 in
-        let this : RecordAlike f b c p q = record { skips = h.skips; owner = first.0; after = later same h.skips.name_end (omega arith) } in
+        let this : RecordAlike f b c p q = record { skips = h.skips; owner = first.0; after = same_octets same h.skips.name_end 10 (omega arith) } in
         let next : from ≤ q = omega arith in
         let rest = records_alike next x second in
         (Skipped.more this rest.0, rest.1)
@@ -114,7 +111,8 @@ module _ {f : List ℕ → List ℕ} {b c : List ℕ} where
 
 -- the first four octets
 
-abbrev unchanged : List ℕ → List ℕ
+-- A label that stays.
+abbrev pub unchanged : List ℕ → List ℕ
 unchanged label = label
 
 map_same : {X : Type 0} (g : X → X) → ((x : X) → g x ≡ x) → (xs : List X) → map g xs ≡ xs
@@ -141,7 +139,8 @@ name_same {b = b} {c = c} {p = p} h = record {
   faults = h.faults;
 }
 
-alike_same : {b c : List ℕ} → EntriesAlike (map unchanged) b c → EntriesSame b c
+-- What reads alike with each label unchanged reads the same.
+pub alike_same : {b c : List ℕ} → EntriesAlike (map unchanged) b c → EntriesSame b c
 alike_same {b = b} {c = c} h =
     let n = question_count b in
     record {

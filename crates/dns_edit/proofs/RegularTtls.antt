@@ -2,11 +2,12 @@
 use Rattle.std.proofs.Common.{◌≡◌, ◌∙◌, ℕ, ◌+◌, ◌≤◌, inl, inr, List, [], All, arith, refl, subst, sym, ap, Bool, true, false, cond, nat_eq}
 use Rattle.std.specs.Prelude.{get_or, unwrap_or}
 use Rattle.std.proofs.lemmas.Option.{unwrap_or-slice_get}
+use Rattle.std.specs.Int.{w16}
 use Rattle.dns_name.specs.Names.{NameContinues}
+use Rattle.dns_name.specs.Parsers.{number_at}
 use Rattle.dns_name.proofs.theory.ExtentLaws.{ends_after}
 use Rattle.dns_name.proofs.theory.Names.{one_end}
 use Rattle.dns_code.specs.HeaderSection.{header_size}
-use Rattle.dns_item.specs.Items.{SkipsRecord}
 use Rattle.dns_edit.specs.Acceptance.{AcceptsData, AcceptsQuestion, AcceptsRecord, AllAccepted}
 use Rattle.dns_edit.specs.Acceptance.AllAccepted.{none, more}
 use Rattle.dns_edit.specs.Alike.{TtlsStayRegular}
@@ -16,7 +17,7 @@ use Rattle.dns_edit.specs.Ttls.{record_total}
 use Rattle.dns_edit.specs.Uses.{Apart}
 use Rattle.dns_edit.proofs.AcceptLemmas.{asked_end, names_low, names_rise, questions_rise}
 use Rattle.dns_edit.proofs.EntryLemmas.{Split, Step, apart_after, apart_in, fields_after, fields_within, long_record, skipped_by, split_all, split_step}
-use Rattle.dns_edit.proofs.ReadLemmas.{ends_same, number16_same}
+use Rattle.dns_edit.proofs.ReadLemmas.{ends_same, number16_same, skips_apart}
 use Rattle.dns_edit.proofs.RegularStays.{LabelsStay}
 use Rattle.dns_edit.proofs.StayLemmas.{SameApart, label_same, pointer_same, root_same, with_ttls_same}
 use Rattle.dns_edit.proofs.WalkLemmas.{label_next, no_label_at_pointer, no_label_at_root, no_pointer_at_root, pointer_here, pointer_next}
@@ -84,7 +85,8 @@ module _ {fields b c : List ℕ} (same : SameApart fields b c) where
       first_same (nat_eq rtype 35) (string_end b (string_end b (string_end b (start + 4)))) (string_end c (string_end c (string_end c (start + 4))))
       (start + octets_before rtype) end l (strings_same start end a)
 
-  data_stays : {names after : List ℕ} {rtype start end : ℕ} → AcceptsData b names rtype start end after → Apart fields start end → LabelsStay b c names
+  -- RDATA that is apart from the fields stays accepted.
+  pub data_stays : {names after : List ℕ} {rtype start end : ℕ} → AcceptsData b names rtype start end after → Apart fields start end → LabelsStay b c names
       → AcceptsData c names rtype start end after × LabelsStay b c after
   data_stays (AcceptsData.empty e) a stay = (AcceptsData.empty e, stay)
   data_stays {names = names} {after = after} {rtype = rtype} {start = start} {end = end} (AcceptsData.all {stop = stop} ne x l) a stay =
@@ -94,7 +96,8 @@ module _ {fields b c : List ℕ} (same : SameApart fields b c) where
       let begin = start_same rtype start end a (omega arith) in
       (AcceptsData.all ne (subst (λ p. AllAccepted (AcceptsName c) (name_count rtype) names p stop after) begin y.0) l, y.1)
 
-  questions_stay : {n p q : ℕ} {names after : List ℕ} → AllAccepted (AcceptsQuestion b) n names p q after → All (λ f. q ≤ f) fields → LabelsStay b c names
+  -- Questions before the fields stay accepted.
+  pub questions_stay : {n p q : ℕ} {names after : List ℕ} → AllAccepted (AcceptsQuestion b) n names p q after → All (λ f. q ≤ f) fields → LabelsStay b c names
       → AllAccepted (AcceptsQuestion c) n names p q after × LabelsStay b c after
   questions_stay none later stay = (none, stay)
   questions_stay {q = r} (more {p = p} {q = q} h x) later stay =
@@ -107,34 +110,41 @@ module _ {fields b c : List ℕ} (same : SameApart fields b c) where
       let this : AcceptsQuestion c _ p q _ = record { name_end = h.name_end; name = first.0; end = h.end; within = omega arith } in
       (more this rest.0, rest.1)
 
+  -- A record stays accepted if its owner, type, class and RDLENGTH are apart from the fields, and its RDATA stays accepted.
+  pub record_stays : {names after : List ℕ} {p q : ℕ} (h : AcceptsRecord b names p q after) → Apart fields p (h.skips.name_end + 4)
+      → Apart fields (h.skips.name_end + 8) (h.skips.name_end + 10) → LabelsStay b c names
+      → (LabelsStay b c h.mid → AcceptsData c h.mid (number_at w16 b h.skips.name_end) (h.skips.name_end + 10) q after × LabelsStay b c after)
+      → AcceptsRecord c names p q after × LabelsStay b c after
+  record_stays {after = after} {p = p} {q = q} h owner size stay rdata =
+      let r = h.skips.name_end in
+      let l = long_record b h.skips in
+      let low : p ≤ r = l.0 in
+      let name : Apart fields p r = apart_in fields p (r + 4) p r (omega arith) (omega arith) owner in
+      let first = name_stays h.owner name stay in
+      let second = rdata first.1 in
+      let type_same = number16_same same r (apart_in fields p (r + 4) r (r + 2) (omega arith) (omega arith) owner) in
+      let this : AcceptsRecord c _ p q after = record {
+        skips = skips_apart same h.skips name size;
+        mid = h.mid;
+        owner = first.0;
+        rdata = subst (λ rtype. AcceptsData c h.mid rtype (r + 10) q after) type_same second.0;
+      } in
+      (this, second.1)
+
   records_stay : {n p q : ℕ} {names after : List ℕ} → AllAccepted (AcceptsRecord b) n names p q after → Split b fields n p → LabelsStay b c names
       → AllAccepted (AcceptsRecord c) n names p q after
   records_stay none x stay = none
-  records_stay (more {n = m} {p = p} {q = q} {mid = mid} h rest) x stay =
+  records_stay (more {n = m} {p = p} {q = q} h rest) x stay =
       let step : Step b fields m p q = split_step b x refl h.skips in
       let r = h.skips.name_end in
       let e : step.skips.name_end ≡ r = one_end b p _ _ step.skips.name_ends h.skips.name_ends in
       let l = long_record b h.skips in
-      let low : p ≤ r = l.0 in
       let high : r + 10 ≤ q = l.1 in
       let owner : Apart fields p (r + 4) = subst (λ r. Apart fields p (r + 4)) e step.owner in
       let rdata : Apart fields (r + 8) q = subst (λ r. Apart fields (r + 8) q) e step.rdata in
-      let name : Apart fields p r = apart_in fields p (r + 4) p r (omega arith) (omega arith) owner in
-      let first = name_stays h.owner name stay in
-      let second = data_stays h.rdata (apart_in fields (r + 8) q (r + 10) q (omega arith) (omega arith) rdata) first.1 in
-      let type_same = number16_same same r (apart_in fields p (r + 4) r (r + 2) (omega arith) (omega arith) owner) in
-      let rdlen = number16_same same (r + 8) (apart_in fields (r + 8) q (r + 8) (r + 8 + 2) (omega arith) (omega arith) rdata) in
-      let long = same.long in
-      let end = h.skips.end in
-      let inside = h.skips.within in
-      let skips : SkipsRecord c p q = record { name_end = r; name_ends = ends_same same name h.skips.name_ends; end = omega arith; within = omega arith } in
-      let this : AcceptsRecord c _ p q mid = record {
-        skips = record { name_end = r; name_ends = ends_same same name h.skips.name_ends; end = skips.end; within = skips.within };
-        mid = h.mid;
-        owner = first.0;
-        rdata = subst (λ rtype. AcceptsData c h.mid rtype (r + 10) q mid) type_same second.0;
-      } in
-      more this (records_stay rest step.next second.1)
+      let size = apart_in fields (r + 8) q (r + 8) (r + 10) (omega arith) (omega arith) rdata in
+      let this = record_stays h owner size stay (data_stays h.rdata (apart_in fields (r + 8) q (r + 10) q (omega arith) (omega arith) rdata)) in
+      more this.0 (records_stay rest step.next this.1)
 
 -- If the TTLs of a regular message change, it stays regular.
 pub ttls_stay_regular : TtlsStayRegular

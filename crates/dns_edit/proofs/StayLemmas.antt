@@ -118,7 +118,8 @@ reads_alike s p w = record {
 
 -- octets that are overwritten
 
-outside : (b xs : List ℕ) (p e k : ℕ) → p + length xs ≡ e → e ≤ length b → (e ≤ k) ⊎ (k + 1 ≤ p) → slice_get b k ≡ slice_get (overwritten b p xs) k
+-- An octet that isn't overwritten is the same.
+pub outside : (b xs : List ℕ) (p e k : ℕ) → p + length xs ≡ e → e ≤ length b → (e ≤ k) ⊎ (k + 1 ≤ p) → slice_get b k ≡ slice_get (overwritten b p xs) k
 outside b xs p e k is within (inl l) =
     let j : e + (k - e) ≡ k = omega arith in
     ap (slice_get b) (sym j) ∙ sym (get_dropped b e (k - e)) ∙ ap (λ (ys : List ℕ). slice_get ys (k - e)) (sym (kept_after b xs p e is within))

@@ -14,3 +14,4 @@ pub mod Ends
 pub mod Case
 pub mod Alike
 pub mod Opt
+pub mod Options

@@ -12,7 +12,9 @@ use Rattle.dns_read.specs.Sections.{additional_count, AdditionalsStart, Addition
 use Rattle.dns_edit.specs.Acceptance.{IsRegular}
 use Rattle.dns_edit.specs.Alike.{EntriesSame}
 use Rattle.dns_edit.specs.declared.error.EditError.{EditError}
-use Rattle.dns_edit.specs.declared.error.EditError.TheVariants.{Parse, Pointer, NotLast}
+use Rattle.dns_edit.specs.declared.error.EditError.TheVariants.{Parse, Pointer, NotLast, OptionLength}
+use Rattle.dns_edit.specs.declared.span.Span.{Span}
+use Rattle.dns_edit.specs.Spans.{Spans}
 
 -- The record from p to q is an OPT record (41).
 abbrev pub OptAt : List ℕ → ℕ → ℕ → Type 0
@@ -22,10 +24,10 @@ OptAt b p q = (s : SkipsRecord b p q) × (number_at w16 b s.name_end ≡ 41)
 abbrev pub OtherAt : List ℕ → ℕ → ℕ → Type 0
 OtherAt b p q = (s : SkipsRecord b p q) × (number_at w16 b s.name_end ≢ 41)
 
--- Of n records from offset p on, the result is how many are before the first OPT record, or None without one, or why one before it can't be skipped.
-abbrev pub FindsOpt : List ℕ → ℕ → ℕ → Result (Option ℕ) ParseError → Type 0
+-- Of n records from offset p on, the result is the first OPT record and how many are before it, or None without one, or why one before it can't be skipped.
+abbrev pub FindsOpt : List ℕ → ℕ → ℕ → Result (Option (ℕ × Span)) ParseError → Type 0
 FindsOpt b p n (Ok None) = (q : ℕ) × Skipped (OtherAt b) n p q
-FindsOpt b p n (Ok (Some k)) = (q r : ℕ) × (k < n) × Skipped (OtherAt b) k p q × OptAt b q r
+FindsOpt b p n (Ok (Some x)) = (q : ℕ) × (x.0 < n) × Skipped (OtherAt b) x.0 p q × Spans b q x.1 × (x.1.rtype ≡ 41)
 FindsOpt b p n (Err e) = StopsSkipping (OtherAt b) (RecordSkipFaultAt b) n p (fault_of e)
 
 -- All additional records can be skipped, and none is an OPT record.
@@ -41,10 +43,14 @@ abbrev pub OptFault : List ℕ → ParseError → Type 0
 OptFault b e =
     AdditionalsFault b (fault_of e) ⊎ ((p : ℕ) × AdditionalsStart b p × StopsSkipping (OtherAt b) (RecordSkipFaultAt b) (additional_count b) p (fault_of e))
 
--- The result is how many additional records are before the first OPT record, or None without one, or why one before it can't be skipped.
-abbrev pub FindsFirstOpt : List ℕ → Result (Option ℕ) ParseError → Type 0
+-- The first OPT record of the additional section, and the number of records before it.
+abbrev pub IsFirstOpt : List ℕ → ℕ × Span → Type 0
+IsFirstOpt b x = (p q : ℕ) × AdditionalsStart b p × (x.0 < additional_count b) × Skipped (OtherAt b) x.0 p q × Spans b q x.1 × (x.1.rtype ≡ 41)
+
+-- The result is this record, or None without one, or why an entry before it can't be skipped.
+abbrev pub FindsFirstOpt : List ℕ → Result (Option (ℕ × Span)) ParseError → Type 0
 FindsFirstOpt b (Ok None) = LacksOpt b
-FindsFirstOpt b (Ok (Some k)) = (k < additional_count b) × OptAfter b k
+FindsFirstOpt b (Ok (Some x)) = IsFirstOpt b x
 FindsFirstOpt b (Err e) = OptFault b e
 
 -- The first OPT record is the last record.
@@ -61,6 +67,7 @@ pub record LosesLast (b c : List ℕ) : Type 0 where
 abbrev pub RefusesOpt : List ℕ → EditError → Type 0
 RefusesOpt b (Parse e) = OptFault b e
 RefusesOpt b Pointer = ⊥
+RefusesOpt b OptionLength = ⊥
 RefusesOpt b NotLast = (k : ℕ) × (k + 1 < additional_count b) × OptAfter b k
 
 -- The message `c` is `b` less its last record, the OPT record; or they are the same, as there is none or it isn't removed.

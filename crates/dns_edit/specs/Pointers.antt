@@ -37,3 +37,4 @@ abbrev pub RefusesName : List ℕ → List ℕ → ℕ → EditError → Type 0
 RefusesName b names p (errors.Parse e) = SkipFaultAt b p (fault_of e)
 RefusesName b names p errors.Pointer = (q t : ℕ) × NameEndsAt b p q × PointsTo b p t × (IsLabelBefore b names p t → ⊥)
 RefusesName b names p errors.NotLast = ⊥
+RefusesName b names p errors.OptionLength = ⊥

@@ -1,4 +1,4 @@
-ghost use Rattle.std.specs.Prelude.{◌≡◌, ◌≤◌, ℕ, List, [], IfErr, IfOk, OnErr, OnOk, cond, length};
+ghost use Rattle.std.specs.Prelude.{◌≡◌, ◌≤◌, ℕ, List, [], IfErr, IfOk, OnErr, OnOk, length};
 ghost use Rattle.dns_code.specs.HeaderSection.{header_size};
 ghost use Rattle.dns_item.specs.Items.{SkipsRecord};
 ghost use Rattle.dns_name.specs.Names.{fault_of};
@@ -6,16 +6,17 @@ ghost use Rattle.dns_read.specs.Message.{message_octets};
 ghost use Rattle.dns_read.specs.Reading.{Skipped};
 ghost use Rattle.dns_read.specs.Sections.{question_count};
 ghost use Rattle.dns_edit.specs.Acceptance.{AcceptsFrom, AcceptsTtls, RefusesTtls};
-ghost use Rattle.dns_edit.specs.Edits.{ChangesTtls, IsLeastTtl, RecordsFault, least_with};
+ghost use Rattle.dns_edit.specs.Edits.{ChangesTtls, IsLeastTtl, RecordsFault};
 ghost use Rattle.dns_edit.specs.Marks.{MarksLabels};
 ghost use Rattle.dns_edit.specs.Readings.{FitInOctets, ReadsAlike};
-ghost use Rattle.dns_edit.specs.Ttls.{TtlFields, WritesTtl, holds_ttl, record_total, with_ttls};
+ghost use Rattle.dns_edit.specs.Ttls.{TtlFields, WritesTtl, record_total, with_ttls};
 ghost use Rattle.dns_edit.specs.declared.change.TtlChange.TheVariants.{Age, Cap};
 
 use crate::change::{TtlChange, has_ttl};
 use crate::entries::{check_questions, check_records};
 use crate::error::EditError;
 use crate::span::span_at;
+use crate::walk::walk_records;
 use dns_code::{HeaderCounts, HeaderSection, Ttl};
 use dns_name::Head;
 use dns_octets::{Octets, OctetsMut, ParseError};
@@ -32,16 +33,7 @@ pub fn min_ttl<Octs: Octets>(message: &Message<Octs>) -> Result<Option<Ttl>, Par
     ensures least { IfOk result (IsLeastTtl (message_octets message.now)) }
     ensures fault { IfErr result (λ e. RecordsFault (message_octets message.now) (fault_of e)) }
 {
-    let octets = message.as_slice();
-    let start = message.answer()?.pos();
-    let mut pos = start;
-    let mut least = None;
-    for _record in 0..record_count(octets) {
-        let span = span_at(octets, pos)?;
-        least = lesser(least, span.rtype, span.ttl);
-        pos = span.end;
-    }
-    Ok(ttl_of(least))
+    walk_records(message).map(|walked| ttl_of(walked.1))
 }
 
 fn ttl_of(seconds: Option<u32>) -> Option<Ttl>
@@ -50,19 +42,6 @@ fn ttl_of(seconds: Option<u32>) -> Option<Ttl>
     match seconds {
         None => None,
         Some(seconds) => Some(Ttl::from_secs(seconds)),
-    }
-}
-
-/// The least of the TTLs so far and that of a record of this type, if it has one.
-fn lesser(least: Option<u32>, rtype: u16, ttl: u32) -> Option<u32>
-    ensures { result ≡ cond (holds_ttl rtype) (least_with ttl least) least }
-{
-    if !has_ttl(rtype) {
-        return least;
-    }
-    match least {
-        None => Some(ttl),
-        Some(least) => Some(ttl.min(least)),
     }
 }
 

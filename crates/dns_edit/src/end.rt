@@ -4,8 +4,7 @@ ghost use Rattle.dns_read.specs.Message.{message_octets};
 ghost use Rattle.dns_edit.specs.Edits.{RecordsFault};
 ghost use Rattle.dns_edit.specs.Ends.{RecordsEndAt};
 
-use crate::edit::record_count;
-use crate::span::span_at;
+use crate::walk::walk_records;
 use dns_octets::{Octets, ParseError};
 use dns_read::Message;
 
@@ -18,12 +17,5 @@ pub fn records_end<Octs: Octets>(message: &Message<Octs>) -> Result<usize, Parse
     ensures within { IfOk result (λ end. end ≤ length (message_octets message.now)) }
     ensures fault { IfErr result (λ e. RecordsFault (message_octets message.now) (fault_of e)) }
 {
-    let octets = message.as_slice();
-    let start = message.answer()?.pos();
-    let mut pos = start;
-    for _record in 0..record_count(octets) {
-        let span = span_at(octets, pos)?;
-        pos = span.end;
-    }
-    Ok(pos)
+    walk_records(message).map(|walked| walked.0)
 }

@@ -14,6 +14,9 @@ pub enum EditError {
     /// A record follows the OPT record, as TSIG does (RFC 8945 section 5.1).
     #[error("record after the OPT record")]
     NotLast,
+    /// The option has data of another length.
+    #[error("option of another length")]
+    OptionLength,
 }
 
 impl From<ParseError> for EditError {

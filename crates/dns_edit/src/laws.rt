@@ -7,6 +7,7 @@ ghost use Rattle.dns_edit.specs.Case.{AsksForNames};
 ghost use Rattle.dns_edit.specs.Fields.{NamesAreFields, NamesAreOfFields};
 ghost use Rattle.dns_edit.specs.Following.{NamesFollowFew};
 ghost use Rattle.dns_edit.specs.Opt.{RemovedReadsAlike, RemovedStaysRegular};
+ghost use Rattle.dns_edit.specs.Options.{ReplacedReadsAlike, ReplacedReadsBack, ReplacedStaysRegular};
 ghost use Rattle.dns_edit.specs.Readings.{ChangedReadsAlike, NamesReadAlike, RdataReadsAlike};
 
 use crate::change::TtlChange;
@@ -47,6 +48,18 @@ pub fn removed_reads_alike()
     ensures { RemovedReadsAlike }
 {}
 
+/// After [`crate::replace_option`] the questions and records of a regular message read as before,
+/// and so do names in RDATA as above.
+pub fn replaced_reads_alike()
+    ensures { ReplacedReadsAlike }
+{}
+
+/// After [`crate::replace_option`] the OPT record is where it was, and its options read as before,
+/// but for the data of the first option with the code.
+pub fn option_reads_back()
+    ensures { ReplacedReadsBack }
+{}
+
 /// [`crate::set_question_case`] succeeds exactly if the message has a question, and its name has no
 /// pointer and is equal to the given one, ignoring ASCII case.
 pub fn asks_for_names()
@@ -54,13 +67,14 @@ pub fn asks_for_names()
 {}
 
 /// A regular message stays regular after [`crate::set_id`] and [`crate::set_rcode`], after
-/// [`crate::set_question_case`], [`crate::change_ttls`] and [`crate::remove_opt`]. So these can come
-/// in any order.
+/// [`crate::set_question_case`], [`crate::change_ttls`], [`crate::remove_opt`] and
+/// [`crate::replace_option`]. So these can come in any order.
 pub fn stays_regular()
     ensures header { HeaderStaysRegular }
     ensures case { CaseStaysRegular }
     ensures ttls { TtlsStayRegular }
     ensures opt { RemovedStaysRegular }
+    ensures option { ReplacedStaysRegular }
 {}
 
 /// No message is both accepted and refused. So [`crate::change_ttls`] succeeds exactly where the
@@ -75,8 +89,8 @@ pub fn names_follow_few()
     ensures { NamesFollowFew }
 {}
 
-/// The names in RDATA of each record type of `fields_table` are those among its fields. No other type
-/// has names in RDATA.
+/// The names in RDATA of each record type of `fields_table` are those among its fields, but of NAPTR
+/// only their number. This crate knows of names in RDATA of no other type.
 #[tactic(auto, unfolding(fields_table::specs::RecordTypes::record_types))]
 pub fn names_are_fields()
     ensures types { NamesAreFields }

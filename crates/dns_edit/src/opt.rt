@@ -3,7 +3,7 @@ ghost use Rattle.dns_read.specs.Message.{message_octets};
 ghost use Rattle.dns_edit.specs.Opt.{FindsFirstOpt, FindsOpt, RemovesOpt};
 
 use crate::error::EditError;
-use crate::span::span_at;
+use crate::span::{Span, span_at};
 use dns_octets::{Octets, OctetsMut, ParseError};
 use dns_read::Message;
 
@@ -11,7 +11,9 @@ use dns_read::Message;
 /// record. Returns whether there was one.
 ///
 /// A proxy does so for a client that doesn't know EDNS. ARCOUNT falls by one, and no other octet
-/// changes: the octets of the record are then after [`crate::records_end`].
+/// changes: the octets of the record are then after [`crate::records_end`], and aren't to be sent.
+/// The upper eight bits of the rcode go with the record (RFC 6891 section 6.1.3): BADVERS, 16, is
+/// then read as 0.
 ///
 /// Returns `NotLast` if a record follows the first OPT record, and `Parse` if an entry before it
 /// can't be skipped. The message then stays as it is.
@@ -22,7 +24,7 @@ pub fn remove_opt<Octs: OctetsMut>(message: &mut Message<Octs>) -> Result<bool, 
     match find_opt(message) {
         Err(error) => Err(EditError::Parse(error)),
         Ok(None) => Ok(false),
-        Ok(Some(before)) => {
+        Ok(Some((before, _opt))) => {
             if before + 1 < count {
                 return Err(EditError::NotLast);
             }
@@ -32,16 +34,19 @@ pub fn remove_opt<Octs: OctetsMut>(message: &mut Message<Octs>) -> Result<bool, 
     }
 }
 
-/// The number of additional records before the first OPT record.
-fn find_opt<Octs: Octets>(message: &Message<Octs>) -> Result<Option<u16>, ParseError>
+/// The first additional OPT record, and the number of additional records before it.
+pub(crate) fn find_opt<Octs: Octets>(
+    message: &Message<Octs>,
+) -> Result<Option<(u16, Span)>, ParseError>
     ensures { FindsFirstOpt (message_octets message.now) result }
 {
     let start = message.additional()?.pos();
-    records_before_opt(message.as_slice(), start, message.header_counts().arcount())
+    first_opt_of(message.as_slice(), start, message.header_counts().arcount())
 }
 
-/// The number of records before the first OPT record, of `count` records from offset `start` on.
-fn records_before_opt(octets: &[u8], start: usize, count: u16) -> Result<Option<u16>, ParseError>
+/// The first OPT record of `count` records from offset `start` on, and the number of those before
+/// it.
+fn first_opt_of(octets: &[u8], start: usize, count: u16) -> Result<Option<(u16, Span)>, ParseError>
     requires { start ≤ length octets.now }
     ensures { FindsOpt octets.now start count result }
 {
@@ -49,7 +54,7 @@ fn records_before_opt(octets: &[u8], start: usize, count: u16) -> Result<Option<
     for before in 0..count {
         let span = span_at(octets, pos)?;
         if span.rtype == 41 {
-            return Ok(Some(before));
+            return Ok(Some((before, span)));
         }
         pos = span.end;
     }

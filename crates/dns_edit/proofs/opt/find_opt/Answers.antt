@@ -15,8 +15,8 @@ pub returns : goal.returns
 returns g c =
     let b = message_octets c.args.message.now in
     let p = c.pos-start.result in
-    let r = c.records_before_opt.result in
+    let r = c.first_opt_of.result in
     let start : AdditionalsStart b p = subst (AdditionalsStart b) (sym c.pos-start.ensures) c.in_ok-additional.ensures.starts.start in
     let count : c.arcount.result ≡ additional_count b = c.arcount.ensures ∙ c.header_counts.ensures.arcount in
-    let there : FindsOpt b p c.arcount.result r = subst (λ (b : List ℕ). FindsOpt b p c.arcount.result r) c.as_slice.ensures.octets c.records_before_opt.ensures in
+    let there : FindsOpt b p c.arcount.result r = subst (λ (b : List ℕ). FindsOpt b p c.arcount.result r) c.as_slice.ensures.octets c.first_opt_of.ensures in
     first_opt b p r start (subst (λ n. FindsOpt b p n r) count there)

@@ -13,19 +13,19 @@ returns-in-Ok-None g c = let found = rw c.in-Ok-None.field-0-is at c.in-Ok-None.
 pub overflow_add-before : goal.overflow_add-before
 overflow_add-before g c =
     let found = rw c.in-Ok-Some.field-0-is at c.in-Ok-Some.ensures in
-    omega (arith, found.0, c.arcount-count.ensures, c.header_counts.ensures.arcount)
+    omega (arith, found.3, c.arcount-count.ensures, c.header_counts.ensures.arcount)
 
 pub returns-then-before-count : goal.returns-then-before-count
 returns-then-before-count g c =
     let b = message_octets c.args.message.now in
     let found = rw c.in-Ok-Some.field-0-is at c.in-Ok-Some.ensures in
     let is : c.arcount-count.result ≡ additional_count b = c.arcount-count.ensures ∙ c.header_counts.ensures.arcount in
-    (not_last b c.in-Ok-Some.before c.arcount-count.result is c.if-before-count.true found, refl)
+    (not_last b (c.in-Ok-Some.before, c.in-Ok-Some._opt) c.arcount-count.result is c.if-before-count.true found, refl)
 
 pub remove_last_additional-requires : goal.remove_last_additional-requires
 remove_last_additional-requires g c =
     let found = rw c.in-Ok-Some.field-0-is at c.in-Ok-Some.ensures in
-    omega (arith, found.0)
+    omega (arith, found.3)
 
 pub returns-else-before-count : goal.returns-else-before-count
 returns-else-before-count g c =
@@ -33,4 +33,4 @@ returns-else-before-count g c =
     let found = rw c.in-Ok-Some.field-0-is at c.in-Ok-Some.ensures in
     let is : c.arcount-count.result ≡ additional_count b = c.arcount-count.ensures ∙ c.header_counts.ensures.arcount in
     let last = c.remove_last_additional.ensures in
-    removed b (message_octets c.remove_last_additional.new.self) c.in-Ok-Some.before c.arcount-count.result is c.if-before-count.false found last.count last.before last.after
+    removed b (message_octets c.remove_last_additional.new.self) (c.in-Ok-Some.before, c.in-Ok-Some._opt) c.arcount-count.result is c.if-before-count.false found last.count last.before last.after

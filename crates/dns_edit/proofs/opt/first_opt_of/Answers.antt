@@ -1,12 +1,11 @@
-use Rattle.std.proofs.Common.{◌≡◌, ◌∙◌, ◌<◌, arith, subst, sym}
+use Rattle.std.proofs.Common.{◌≡◌, ◌<◌, arith, subst}
 use Rattle.std.proofs.lemmas.Result.{err_from_is_err_and}
 use Rattle.dns_read.specs.Reading.{Skipped}
 use Rattle.dns_read.specs.Reading.Skipped.{none}
 use Rattle.dns_edit.specs.Opt.{OtherAt}
 use Rattle.dns_edit.proofs.EntryLemmas.{stopped}
 use Rattle.dns_edit.proofs.OptLemmas.{other_next}
-use Rattle.dns_edit.proofs.SpanLemmas.{skips_of}
-use Rattle.dns_edit.proofs.opt.records_before_opt.Goals as goal
+use Rattle.dns_edit.proofs.opt.first_opt_of.Goals as goal
 
 pub loop-before-init : goal.loop-before-init
 loop-before-init c = (c.requires, none)
@@ -25,7 +24,7 @@ returns-in_err-span c =
 pub returns-then-span-eq41 : goal.returns-then-span-eq41
 returns-then-span-eq41 c =
     let s = c.in_ok-span.ensures in
-    (c.loop-before.pos, c.in_ok-span.span.end, omega arith, c.loop-before.invariant.1, (skips_of s, sym s.rtype ∙ c.if-span-eq41.true))
+    (c.loop-before.pos, omega arith, c.loop-before.invariant.1, s, c.if-span-eq41.true)
 
 pub returns : goal.returns
 returns c =

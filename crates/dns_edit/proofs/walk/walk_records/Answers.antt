@@ -1,4 +1,4 @@
-use Rattle.std.proofs.Common.{rules, inl, inr, ◌<◌, ◌≡◌, ◌∙◌, List, ℕ, arith, subst, sym, map}
+use Rattle.std.proofs.Common.{rules, inl, inr, ◌<◌, ◌≤◌, ◌≡◌, ◌∙◌, List, ℕ, arith, length, subst, sym, map}
 use Rattle.std.specs.Int.{w32}
 use Rattle.dns_name.specs.Parsers.{number_at}
 use Rattle.dns_read.specs.Message.{message_octets}
@@ -9,10 +9,13 @@ use Rattle.dns_edit.proofs.MinLemmas.{least_none, least_step, least_all, skipped
 use Rattle.std.proofs.lemmas.Result.{err_from_is_err_and}
 use Rattle.dns_name.specs.Names.{fault_of}
 use Rattle.dns_item.specs.Items.{SkipsRecord, RecordSkipFaultAt}
-use Rattle.dns_read.specs.Reading.{StopsSkipping}
+use Rattle.dns_read.specs.Reading.{Skipped, StopsSkipping}
 use Rattle.dns_read.specs.Reading.Skipped.{none}
 use Rattle.dns_edit.proofs.EntryLemmas.{stopped}
-use Rattle.dns_edit.proofs.edit.min_ttl.Goals as goal
+use Rattle.dns_edit.proofs.walk.walk_records.Goals as goal
+
+pub loop-record-init : goal.loop-record-init
+loop-record-init g c = (search rules, least_none _ _, none)
 
 pub loop-record-preserved : goal.loop-record-preserved
 loop-record-preserved g c =
@@ -21,6 +24,19 @@ loop-record-preserved g c =
       least_step _ _ _ _ _ _ c.in_ok-span.span c.loop-record.invariant.1 s c.lesser-least.ensures,
       skipped_span _ _ _ _ c.in_ok-span.span c.loop-record.invariant.2 s,
     )
+
+pub returns-clause-end : goal.returns-clause-end
+returns-clause-end g c =
+    let b = message_octets c.args.message.now in
+    let same : c.as_slice-octets.result.now ≡ b = c.as_slice-octets.ensures.octets in
+    let n : c.loop-record._record ≡ c.record_count-record-end.result = omega arith in
+    let total : c.loop-record._record ≡ record_total c.as_slice-octets.result.now = n ∙ c.record_count-record-end.ensures in
+    let P : List ℕ → Type 0 = λ (b : List ℕ). Skipped (SkipsRecord b) (record_total b) c.pos-start.result c.loop-record.pos in
+    let Q : ℕ → Type 0 = λ n. Skipped (SkipsRecord c.as_slice-octets.result.now) n c.pos-start.result c.loop-record.pos in
+    (c.pos-start.result, subst (AnswersStart b) (sym c.pos-start.ensures) c.in_ok-answer.ensures.starts.start, subst P same (subst Q total c.loop-record.invariant.2))
+
+pub returns-clause-within : goal.returns-clause-within
+returns-clause-within g c = subst (λ (b : List ℕ). c.loop-record.pos ≤ length b) c.as_slice-octets.ensures.octets c.loop-record.invariant.0
 
 pub returns-clause-least : goal.returns-clause-least
 returns-clause-least g c =
@@ -31,10 +47,7 @@ returns-clause-least g c =
     let x = least_all _ _ _ _ _ _ total c.loop-record.invariant.1 in
     let P : List ℕ → Type 0 = λ (b : List ℕ). TtlFields b (record_total b) c.pos-start.result x.0 × (c.loop-record.least ≡ least (map (number_at w32 b) x.0)) in
     let y = subst P same (x.1, x.2) in
-    (c.pos-start.result, x.0, subst (AnswersStart b) (sym c.pos-start.ensures) c.in_ok-answer.ensures.starts.start, y.0, c.ttl_of.ensures ∙ y.1)
-
-pub loop-record-init : goal.loop-record-init
-loop-record-init g c = (search rules, least_none _ _, none)
+    (c.pos-start.result, x.0, subst (AnswersStart b) (sym c.pos-start.ensures) c.in_ok-answer.ensures.starts.start, y.0, y.1)
 
 pub returns-in_err-answer-clause-fault : goal.returns-in_err-answer-clause-fault
 returns-in_err-answer-clause-fault g c =
