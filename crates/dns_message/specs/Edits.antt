@@ -6,6 +6,7 @@ pub use Rattle.dns_edit.specs.Uses.{Apart, NameApart}
 pub use Rattle.dns_edit.specs.Case.{AsksFor, AsksForName}
 pub use Rattle.dns_edit.specs.Ends.{RecordsEndAt}
 pub use Rattle.dns_edit.specs.Opt.{OptAt, OtherAt, OptAfter, LacksOpt, EndsWithOpt, LosesLast, OptFault, RefusesOpt, RemovesOpt, FewerAdditionals}
+pub use Rattle.dns_edit.specs.Options.{OptRdata, SkipsOption, CutOption, OtherOption, OptionIn, NoOptionIn, CutOptionIn, OptionAt, LacksOption, OptionFault, RefusesOption, ReplacesOption, with_option, OptionsReplaced}
 pub use Rattle.dns_edit.specs.Rdata.{octets_before, names_start, name_count, string_end, DataApart}
 pub use Rattle.dns_edit.specs.Fields.{names_among, fixed_octets, shapes_of, has_its_names}
 -- what is read
@@ -22,5 +23,6 @@ pub use Rattle.dns_edit.specs.Alike.{HeaderReadsAlike, HeaderStaysRegular, CaseR
 pub use Rattle.dns_edit.specs.Following.{NamesFollowFew}
 pub use Rattle.dns_edit.specs.Case.{AsksForNames}
 pub use Rattle.dns_edit.specs.Opt.{RemovedReadsAlike, RemovedStaysRegular}
+pub use Rattle.dns_edit.specs.Options.{ReplacedReadsAlike, ReplacedReadsBack, ReplacedStaysRegular}
 pub use Rattle.dns_edit.specs.Acceptance.{NeverBoth}
 pub use Rattle.dns_edit.specs.Fields.{NamesAreFields, NamesAreOfFields}

@@ -87,7 +87,7 @@ pub mod message {
 pub mod edit {
     pub use dns_edit::{
         EditError, OtherName, TtlChange, age_ttls, cap_ttls, change_ttls, is_regular, laws,
-        min_ttl, records_end, remove_opt, set_id, set_question_case, set_rcode,
+        min_ttl, records_end, remove_opt, replace_option, set_id, set_question_case, set_rcode,
     };
 }
 

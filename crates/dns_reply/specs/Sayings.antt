@@ -1,6 +1,7 @@
 -- What a reply says of the first question, in a zone that its server is asked about. RFC 1034 sections 4.3.2 and 5.3.3, RFC 2308 section 2, RFC 6604 section 3.
 --
--- `b` is the octets of the reply. Only records whose owners are within the zone say anything: the server speaks for no other names.
+-- `b` is the octets of the reply. Only records whose owners are within the zone say anything, as the server speaks for no other names; any NS record can make it lame, and any malformed
+-- record unreadable.
 use Rattle.std.specs.Prelude.{◌≡◌, ◌⊎◌, ◌<◌, ◌≤◌, ◌==◌, ℕ, false, true, List, take, min, if◌then◌else◌, Option, Some, None}
 use Rattle.dns_name.specs.Names.{Fault, Labels}
 use Rattle.dns_code.specs.Header.{HeaderFields, fields_in}

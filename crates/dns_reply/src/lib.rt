@@ -3,7 +3,7 @@
 //! `reply_to` first decides whether a message is a reply to a query at all, and then what it says:
 //! the records, that there are none or no such name, where to ask on, or why it says nothing. For
 //! each message there is exactly one such case. Only records whose owners are within the zone that
-//! the server was asked about count.
+//! the server was asked about count, but for those that make a reply unusable.
 #![tactic(auto)]
 
 mod chain;

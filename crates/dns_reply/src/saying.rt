@@ -29,7 +29,10 @@ use dns_read::{Message, RecordSection};
 /// whatever the letter case of its question.
 ///
 /// `zone` is the name of the zone that the server was asked about: the root for a server that
-/// resolves, else the zone of the server. No record whose owner isn't within it counts.
+/// resolves, else the zone of the server. No record whose owner isn't within it counts, but any NS
+/// record of the authority section can make the reply `Lame`, and any malformed one `Unreadable`.
+///
+/// Ask `is_regular` of the module `edit` first: a message that isn't regular can take seconds.
 pub fn reply_to<'a, Asked: Octets, Received: Octets, N: ToName>(
     query: &Message<Asked>,
     received: &'a Message<Received>,
