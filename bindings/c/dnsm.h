@@ -15,6 +15,7 @@
  *     13. Writing a message by one call
  *     14. Writing a message item by item
  *     15. Responses, and items of other messages
+ *     16. Replies, and what a cache asks of them
  *
  * and each begins with an example. There `message` are the `message_len` octets of a message, and `record` is its first record, as
  * dnsm_next wrote it. Each call is in an example.
@@ -823,6 +824,90 @@ dnsm_status dnsm_begin_response(dnsm_draft *draft, uint8_t *out, size_t out_len,
  * dnsm_put. On an error the message stays as it was, but octets of the buffer after it may have changed. */
 dnsm_status dnsm_put_from(dnsm_draft *draft, uint8_t *out, size_t out_len, const uint8_t *message, size_t message_len,
                           const dnsm_item *item);
+
+/* 16. Replies, and what a cache asks of them
+ *
+ *     uint8_t query[DNSM_MADE], root[1] = {0}, regular;
+ *     size_t len, end;
+ *     uint32_t ttl;
+ *     dnsm_saying saying;
+ *     dnsm_query(4660, true, "example.org", 11, DNSM_TYPE_MX, DNSM_CLASS_IN, query, sizeof query, &len);
+ *     if (dnsm_is_regular(message, message_len, &regular) == DNSM_OK && regular &&
+ *         dnsm_reply(query, len, message, message_len, root, 1, &saying) == DNSM_OK && saying.kind == DNSM_REPLY_ANSWER)
+ *         printf("an answer for %lu seconds\n", (unsigned long)saying.ttl);
+ *     if (dnsm_min_ttl(message, message_len, &ttl) == DNSM_OK && dnsm_records_end(message, message_len, &end) == DNSM_OK)
+ *         printf("TTL %lu, up to offset %zu\n", (unsigned long)ttl, end);
+ */
+
+/* What a reply says (RFC 1034 section 5.3.3). "The name" is that at the end of the chain of aliases, CNAME records, that begins at
+ * the question's name. */
+enum {
+    DNSM_REPLY_ANSWER = 0,     /* the name owns records that the question asks for; they are in the answer section */
+    DNSM_REPLY_NO_DATA = 1,    /* the name owns no such records (RFC 2308 section 2.2) */
+    DNSM_REPLY_NO_NAME = 2,    /* the name doesn't exist (RFC 2308 section 2.1) */
+    DNSM_REPLY_REFERRAL = 3,   /* NS records of the authority section delegate the name to a zone below */
+    DNSM_REPLY_ALIAS = 4,      /* the name is outside the zone: other servers have to be asked for it */
+    DNSM_REPLY_DNAME = 5,      /* a DNAME record redirects the name, and there is no CNAME record for that (RFC 6672 section 3.1) */
+    DNSM_REPLY_TRUNCATED = 6,  /* TC is set: the query has to be sent again over TCP */
+    DNSM_REPLY_FAILED = 7,     /* the rcode is neither NOERROR nor NXDOMAIN, or an error where no records were asked for */
+    DNSM_REPLY_DONE = 8,       /* NOERROR, where no records were asked for: the opcode isn't QUERY, or there is no question */
+    DNSM_REPLY_UNREADABLE = 9, /* a record can't be read. This reply and those below are of no use: ask another server */
+    DNSM_REPLY_MANY_OPTS = 10, /* there is more than one OPT record */
+    DNSM_REPLY_LOOP = 11,      /* the chain of aliases has more than 20 names */
+    DNSM_REPLY_LAME = 12       /* NS records, but of no zone below the one that was asked */
+};
+
+/* What a reply says, and of which name. Numbers and lengths that don't belong to its kind are 0. Names are uncompressed octets, for
+ * dnsm_name_equal with a record's owner; a length of 0 is no name. */
+typedef struct dnsm_saying {
+    uint32_t ttl;       /* for how many seconds it may be cached. Of DNSM_REPLY_ANSWER it is the least TTL of its records and the
+                         * aliases, of _NO_DATA and _NO_NAME by the SOA record (RFC 2308 section 5), without which it shouldn't be:
+                         * their aliases have TTLs of their own. Of _ALIAS it is the least TTL of the aliases, or 4294967295 without
+                         * one, as the question's own name isn't within the zone. A TTL with its highest bit set is a large number */
+    uint16_t rcode;     /* of DNSM_REPLY_FAILED, of twelve bits as that of dnsm_find_opt */
+    uint8_t kind;       /* DNSM_REPLY_ANSWER, or one of those after it */
+    uint8_t name_len;
+    uint8_t owner_len;
+    uint8_t target_len;
+    uint8_t name[255];  /* the name, of the kinds up to DNSM_REPLY_DNAME */
+    uint8_t owner[255]; /* that of the records that say so: the SOA record if there is one, the NS records, or the DNAME record */
+    uint8_t target[255]; /* of DNSM_REPLY_DNAME: ask for the name with these octets in place of the owner's, which are its last */
+} dnsm_saying;
+
+/* Sets `*saying` to what a received message says of the first question of a query, if it is a reply to that: QR is set, and ID,
+ * opcode and questions are those of the query, but for ASCII case. A reply that reports an error, or to an UPDATE, may have no
+ * question. `zone` is the name of the zone that the server was asked about, as uncompressed octets: the root for a server that
+ * resolves, and after DNSM_REPLY_REFERRAL the owner. Only records whose owners are within it count, but any NS record in the
+ * authority section can make it DNSM_REPLY_LAME, and any malformed record DNSM_REPLY_UNREADABLE.
+ *
+ * Ask dnsm_is_regular first: a message that isn't regular can take seconds. Takes 7 KB of stack.
+ *
+ * Errors, the first that applies: DNSM_SHORT_INPUT if the query or the message has fewer than 12 octets; DNSM_BAD_TEXT if `zone`
+ * isn't exactly one uncompressed name; DNSM_NO_RESPONSE; DNSM_OTHER_QUERY. Then `*saying` isn't written. A message that is
+ * no reply may be forged: go on waiting for one. */
+dnsm_status dnsm_reply(const uint8_t *query, size_t query_len, const uint8_t *received, size_t received_len, const uint8_t *zone,
+                       size_t zone_len, dnsm_saying *saying);
+
+/* Sets `*regular` to 1 if each question and record can be skipped, the names in its RDATA end within it, and each compression
+ * pointer leads to a label of an earlier name (RFC 1035 section 4.1.4), else to 0. To read a question's name, an owner or a name in
+ * RDATA of such a message, at most 128 pointers are followed, else some 8,000. Takes 2 KB of stack.
+ *
+ * Errors: DNSM_SHORT_INPUT if the message has fewer than 12 octets. Then `*regular` isn't written. */
+dnsm_status dnsm_is_regular(const uint8_t *message, size_t message_len, uint8_t *regular);
+
+/* Sets `*ttl` to the least TTL of the records of the three sections, in seconds. The records of OPT, TSIG, TKEY and SIG have none.
+ *
+ * Returns DNSM_OK with a TTL, or DNSM_END if no record has one. Without a TTL, `*ttl` isn't written.
+ *
+ * Errors: DNSM_SHORT_INPUT, DNSM_BAD_LABEL or DNSM_LONG_NAME of the first question or record that can't be skipped. Pointers aren't
+ * followed. */
+dnsm_status dnsm_min_ttl(const uint8_t *message, size_t message_len, uint32_t *ttl);
+
+/* Sets `*end` to the offset after the last record; without records, after the last question, or 12. The octets from there on are no
+ * part of the message.
+ *
+ * Errors: those of dnsm_min_ttl. Then `*end` isn't written. */
+dnsm_status dnsm_records_end(const uint8_t *message, size_t message_len, size_t *end);
 
 #ifdef __cplusplus
 }

@@ -343,3 +343,78 @@ func TestNumbersFromTexts(t *testing.T) {
 		t.Error(err)
 	}
 }
+
+func parsed(t *testing.T, octets []byte) *Message {
+	t.Helper()
+	message, err := Parse(octets)
+	if err != nil {
+		t.Fatal(err)
+	}
+	return message
+}
+
+// RFC 2308 sections 2.1, 2.2 and 5: the lesser of the SOA record's TTL and its MINIMUM, 600. RFC 6672 section 2.2.
+func TestRepliesSayOneThing(t *testing.T) {
+	name, zone, other := octetsOf(t, "a.example"), octetsOf(t, "example"), octetsOf(t, "b.other")
+	address, soa := []byte{192, 0, 2, 1}, []byte("\x02ns\x00\x01h\x00"+strings.Repeat("\x00", 18)+"\x02\x58")
+	query, err := Query(9, true, "a.example", TypeA)
+	if err != nil {
+		t.Fatal(err)
+	}
+	for _, each := range []struct {
+		flags  uint16
+		record NewItem
+		wanted Reply
+	}{
+		{0, NewItem{Answer, "a.example", nil, TypeA, ClassIN, 300, address}, Reply{Kind: ReplyAnswer, TTL: 300, Name: name}},
+		{0, NewItem{Authority, "example", nil, TypeSOA, ClassIN, 900, soa}, Reply{Kind: ReplyNoData, TTL: 600, Name: name, Owner: zone}},
+		{3, NewItem{Authority, "example", nil, TypeSOA, ClassIN, 100, soa}, Reply{Kind: ReplyNoName, TTL: 100, Name: name, Owner: zone}},
+		{0, NewItem{Answer, "example", nil, TypeDNAME, ClassIN, 50, other},
+			Reply{Kind: ReplyDNAME, TTL: 50, Name: name, Owner: zone, Target: other}},
+		{2, NewItem{Answer, "a.example", nil, TypeA, ClassIN, 300, address}, Reply{Kind: ReplyFailed, Rcode: RcodeSERVFAIL}},
+	} {
+		octets, err := Build(9, QR|each.flags, []NewItem{{Section: Question, Name: "a.example", Type: TypeA, Class: ClassIN}, each.record})
+		if err != nil {
+			t.Fatal(err)
+		}
+		if reply, err := parsed(t, octets).ReplyTo(query, zone); err != nil || !reflect.DeepEqual(*reply, each.wanted) {
+			t.Error(reply, err)
+		}
+	}
+	for _, each := range []struct {
+		received, query, zone []byte
+		wanted                error
+	}{
+		{[]byte(mailResponse), query, nil, BadText},
+		{query, query, zone, NoResponse},
+		{[]byte(mailResponse), query, zone, OtherQuery},
+		{[]byte(mailResponse), query[:11], zone, ShortInput},
+	} {
+		if reply, err := parsed(t, each.received).ReplyTo(each.query, each.zone); reply != nil || !errors.Is(err, each.wanted) {
+			t.Error(reply, err)
+		}
+	}
+}
+
+func TestACacheAsksOfAllRecords(t *testing.T) {
+	octets := []byte(mailResponse)
+	message, cut := parsed(t, octets), parsed(t, octets[:len(octets)-1])
+	if ttl, found, err := message.MinTTL(); ttl != 7 || !found || err != nil || !message.IsRegular() {
+		t.Error(ttl, found, err)
+	}
+	if end, err := parsed(t, append([]byte(mailResponse), 'x')).RecordsEnd(); err != nil || end != len(octets) {
+		t.Error(end, err)
+	}
+	if ttl, found, err := cut.MinTTL(); ttl != 0 || found || !errors.Is(err, ShortInput) || cut.IsRegular() {
+		t.Error(ttl, found, err)
+	}
+	if end, err := cut.RecordsEnd(); !errors.Is(err, ShortInput) {
+		t.Error(end, err)
+	}
+	if ttl, found, err := parsed(t, octets[:12:12]).MinTTL(); found || !errors.Is(err, ShortInput) {
+		t.Error(ttl, found, err)
+	}
+	if ttl, found, err := parsed(t, make([]byte, 12)).MinTTL(); found || err != nil {
+		t.Error(ttl, found, err)
+	}
+}

@@ -24,6 +24,7 @@ PYTHON = {
     "dnsm_status": ctypes.c_uint32,
     "[u16; 4]": ctypes.c_uint16 * 4,
     "[u16; 64]": ctypes.c_uint16 * 64,
+    "[u8; 255]": ctypes.c_uint8 * 255,
     "*const c_char": ctypes.c_char_p,
     "*const u8": ctypes.c_char_p,
 }
@@ -37,6 +38,7 @@ STRUCTS = {
     "dnsm_draft": _calls.Draft,
     "dnsm_put_item": _calls.PutItem,
     "dnsm_data_field": _calls.DataField,
+    "dnsm_saying": _calls.Saying,
 }
 # In Python a buffer for octets has the same type as one for text. The other pointers to an octet lead to a number.
 PYTHON_POINTERS = {
@@ -54,6 +56,7 @@ NO_ENUM = {"DNSM_NAME_TEXT", "DNSM_NAME_OCTETS", "DNSM_NAME_KEY", "DNSM_MADE", "
 ENUMS = {
     "": (dnsm.Status, dnsm.Section, dnsm.Flag),
     "FIELD_": (dnsm.FieldKind,),
+    "REPLY_": (dnsm.ReplyKind,),
     "TYPE_": (dnsm.Type,),
     "CLASS_": (dnsm.Class,),
     "OPCODE_": (dnsm.Opcode,),

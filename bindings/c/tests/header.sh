@@ -16,7 +16,7 @@ trap 'rm -rf "$folder"' EXIT
 rust_as_c() {
   sed -E "s/\balloc: Global,//; s/'a //g; s/<'_>//g
     s/([a-z_]+): &\[u8\]/const uint8_t *\1, size_t \1_len/g; s/([a-z_]+): &mut \[u8\]/uint8_t *\1, size_t \1_len/g
-    s/([a-z_]+): &\[u8; 4\]/const uint8_t \1[4]/g; s/([a-z_]+): \[u16; ([0-9]+)\]/uint16_t \1[\2]/g
+    s/([a-z_]+): &\[u8; 4\]/const uint8_t \1[4]/g; s/([a-z_]+): \[u(8|16); ([0-9]+)\]/uint\2_t \1[\3]/g
     s/([a-z_]+): &\[([A-Z][a-z]+)([A-Z][a-z]+)\]/const dnsm_\L\2_\3\E *\1, size_t \1_len/g
     s/([a-z_]+): &mut ([A-Z][a-z]+)([A-Z][a-z]+)/dnsm_\L\2_\3\E *\1/g; s/([a-z_]+): &mut ([A-Z][a-z]+)/dnsm_\L\2\E *\1/g
     s/([a-z_]+): &([A-Z][a-z]+)([A-Z][a-z]+)/const dnsm_\L\2_\3\E *\1/g; s/([a-z_]+): &([A-Z][a-z]+)/const dnsm_\L\2\E *\1/g
@@ -91,6 +91,10 @@ TABLES
 sed -nE 's/^Shows b field \(([A-Za-z0-9]+) .*field\.kind ≡ ([0-9]+).*/DNSM_FIELD_\U\1\E \2/p' "$crates/dnsm_read/specs/FieldValues.antt" |
   sed 's/RECORDTYPE/TYPE/' >"$folder/kinds"
 [ -s "$folder/kinds" ] && diff "$folder/kinds" <(enumerated FIELD)
+
+# what replies say
+sed -nE 's/^const ([A-Z_]+): u8 = ([0-9]+);$/DNSM_REPLY_\1 \2/p' "$crates/dnsm_replies/src/saying.rt" >"$folder/sayings"
+[ -s "$folder/sayings" ] && diff "$folder/sayings" <(enumerated REPLY)
 
 # the length that is always enough for a call, as its clause `short` has it
 bound_of() {

@@ -261,6 +261,117 @@ static void answers(void)
     }
 }
 
+/* A record of class IN for a reply, named by the octets of its owner. */
+#define RECORD(section, type, ttl, owner, data) \
+    {TEXT(owner), (const uint8_t *)data, sizeof data - 1, ttl, type, DNSM_CLASS_IN, section}
+#define SOA "\2ns\0\1h\0\0\0\0\1\0\0\0\2\0\0\0\3\0\0\0\4\0\0\2\x58"
+#define ADDRESS(ttl, owner) RECORD(DNSM_ANSWER, DNSM_TYPE_A, ttl, owner, "\300\0\2\1")
+#define ALIAS(ttl, owner, target) RECORD(DNSM_ANSWER, DNSM_TYPE_CNAME, ttl, owner, target)
+#define OPT RECORD(DNSM_ADDITIONAL, DNSM_TYPE_OPT, 0, ".", "")
+
+static bool is_name(const uint8_t *name, size_t name_len, const char *text)
+{
+    char read[DNSM_NAME_TEXT];
+    if (!text || name_len == 0)
+        return !text && name_len == 0;
+    return dnsm_name_text(name, name_len, 0, read, sizeof read, &len) == DNSM_OK && strcmp(read, text) == 0;
+}
+
+/* What replies to a query for a.example, type A, say, of servers that were asked about the zone example: RFC 1034 sections 3.6.2, 4.3.2
+ * and 5.3.3, RFC 2181 section 5.2, RFC 2308 sections 2.1, 2.2 and 5 with a MINIMUM of 600, RFC 6672 section 3.1. */
+static void replies(void)
+{
+    static const struct {
+        uint16_t flags;
+        dnsm_new_item records[2];
+        size_t count;
+        uint8_t kind;
+        uint32_t ttl;
+        const char *name, *owner, *target;
+    } each[] = {
+        {0, {ADDRESS(300, "a.example"), ADDRESS(60, "A.example")}, 2, DNSM_REPLY_ANSWER, 60, "a.example.", NULL, NULL},
+        {0, {ALIAS(60, "a.example", "\1b\7example\0"), ADDRESS(300, "b.example")}, 2, DNSM_REPLY_ANSWER, 60, "b.example.", NULL, NULL},
+        {0, {ADDRESS(300, "b.example")}, 1, DNSM_REPLY_NO_DATA, 0, "a.example.", NULL, NULL},
+        {0, {RECORD(DNSM_AUTHORITY, DNSM_TYPE_SOA, 900, "example", SOA)}, 1, DNSM_REPLY_NO_DATA, 600, "a.example.", "example.", NULL},
+        {3, {RECORD(DNSM_AUTHORITY, DNSM_TYPE_SOA, 100, "example", SOA)}, 1, DNSM_REPLY_NO_NAME, 100, "a.example.", "example.", NULL},
+        {0, {RECORD(DNSM_AUTHORITY, DNSM_TYPE_NS, 7, "a.example", "\2ns\0")}, 1, DNSM_REPLY_REFERRAL, 0, "a.example.", "a.example.",
+         NULL},
+        {0, {ALIAS(60, "a.example", "\5other\0")}, 1, DNSM_REPLY_ALIAS, 60, "other.", NULL, NULL},
+        {0, {RECORD(DNSM_ANSWER, DNSM_TYPE_DNAME, 50, "example", "\5other\0")}, 1, DNSM_REPLY_DNAME, 50, "a.example.", "example.",
+         "other."},
+        {DNSM_TC, {ADDRESS(300, "a.example")}, 1, DNSM_REPLY_TRUNCATED, 0, NULL, NULL, NULL},
+        {2, {ADDRESS(300, "a.example")}, 1, DNSM_REPLY_FAILED, 0, NULL, NULL, NULL},
+        {0, {OPT, OPT}, 2, DNSM_REPLY_MANY_OPTS, 0, NULL, NULL, NULL},
+        {0, {ALIAS(60, "a.example", "\1a\7example\0")}, 1, DNSM_REPLY_LOOP, 0, NULL, NULL, NULL},
+        {0, {RECORD(DNSM_AUTHORITY, DNSM_TYPE_NS, 7, "example", "\2ns\0")}, 1, DNSM_REPLY_LAME, 0, NULL, NULL, NULL},
+    };
+    dnsm_saying saying;
+    uint8_t asked[DNSM_MADE];
+    size_t asked_len, made;
+    assert(dnsm_query(9, true, TEXT("a.example"), DNSM_TYPE_A, DNSM_CLASS_IN, asked, sizeof asked, &asked_len) == DNSM_OK);
+    for (size_t i = 0; i < sizeof each / sizeof *each; i++) {
+        dnsm_new_item items[3] = {{TEXT("a.example"), NULL, 0, 0, DNSM_TYPE_A, DNSM_CLASS_IN, DNSM_QUESTION}};
+        memcpy(items + 1, each[i].records, sizeof each[i].records);
+        assert(dnsm_build(9, (uint16_t)(DNSM_QR | each[i].flags), items, 1 + each[i].count, out, sizeof out, &made) == DNSM_OK);
+        assert(dnsm_reply(asked, asked_len, out, made, OCTETS("\7example\0"), &saying) == DNSM_OK && saying.kind == each[i].kind);
+        assert(saying.ttl == each[i].ttl && saying.rcode == (each[i].kind == DNSM_REPLY_FAILED ? 2 : 0));
+        assert(is_name(saying.name, saying.name_len, each[i].name) && is_name(saying.owner, saying.owner_len, each[i].owner));
+        assert(is_name(saying.target, saying.target_len, each[i].target));
+        if (each[i].kind != DNSM_REPLY_TRUNCATED)
+            assert(dnsm_reply(asked, asked_len, out, made - 1, OCTETS("\0"), &saying) == DNSM_OK &&
+                   saying.kind == DNSM_REPLY_UNREADABLE);
+    }
+    /* RFC 2136 section 3.8: the response to an UPDATE may have no sections. */
+    assert(dnsm_reply(OCTETS("\0\1\x28\0\0\1\0\0\0\0\0\0\0\0\6\0\1"), OCTETS("\0\1\xa8\0\0\0\0\0\0\0\0\0"), OCTETS("\0"), &saying) ==
+           DNSM_OK);
+    assert(saying.kind == DNSM_REPLY_DONE && saying.name_len == 0);
+}
+
+/* Messages that are no replies, and octets that are no zone. */
+static void no_replies(void)
+{
+    uint8_t other[RESPONSE];
+    dnsm_saying saying = {.ttl = 7, .kind = 99};
+    assert(dnsm_reply(query, 11, response, RESPONSE, OCTETS("\0"), &saying) == DNSM_SHORT_INPUT);
+    assert(dnsm_reply(query, QUERY, response, 11, OCTETS("\0"), &saying) == DNSM_SHORT_INPUT);
+    assert(dnsm_reply(query, QUERY, response, RESPONSE, NULL, 0, &saying) == DNSM_BAD_TEXT);
+    assert(dnsm_reply(query, QUERY, response, RESPONSE, OCTETS("\0\0"), &saying) == DNSM_BAD_TEXT);
+    assert(dnsm_reply(query, QUERY, query, QUERY, OCTETS("\0"), &saying) == DNSM_NO_RESPONSE);
+    for (size_t at = 0; at < 29; at++) { /* the ID, the opcode, the number of questions, the question */
+        memcpy(other, response, RESPONSE);
+        other[at] ^= at == 2 ? 8 : 16;
+        const bool is_compared = at < 3 || at == 4 || at == 5 || at >= 12;
+        if (is_compared)
+            assert(dnsm_reply(query, QUERY, other, RESPONSE, OCTETS("\0"), &saying) == DNSM_OTHER_QUERY);
+    }
+    assert(saying.ttl == 7 && saying.kind == 99);
+}
+
+/* What a cache asks of all records. RFC 1035 section 4.1.4: a pointer leads to a name that occurred earlier. */
+static void cached(void)
+{
+    uint8_t regular = 7, longer[RESPONSE + 1] = {0};
+    uint32_t ttl = 7;
+    size_t end = 7;
+    assert(dnsm_is_regular(response, 11, &regular) == DNSM_SHORT_INPUT && regular == 7);
+    assert(dnsm_is_regular(response, RESPONSE, &regular) == DNSM_OK && regular == 1);
+    assert(dnsm_is_regular(response, RESPONSE - 1, &regular) == DNSM_OK && regular == 0);
+    memcpy(longer, response, RESPONSE);
+    longer[30] = 13; /* the owner of MX: within the label `example` */
+    assert(dnsm_is_regular(longer, RESPONSE, &regular) == DNSM_OK && regular == 0);
+    assert(dnsm_min_ttl(response, 11, &ttl) == DNSM_SHORT_INPUT && ttl == 7);
+    assert(dnsm_min_ttl(query, QUERY, &ttl) == DNSM_END && ttl == 7);
+    assert(dnsm_min_ttl(response, RESPONSE - 1, &ttl) == DNSM_SHORT_INPUT && ttl == 7);
+    longer[56] = longer[77] = 1; /* the TTLs of SRV and MINFO become great: that of MX is the least */
+    assert(dnsm_min_ttl(longer, RESPONSE, &ttl) == DNSM_OK && ttl == 3600);
+    assert(dnsm_min_ttl(response, RESPONSE, &ttl) == DNSM_OK && ttl == 7);
+    assert(dnsm_records_end(longer, sizeof longer, &end) == DNSM_OK && end == RESPONSE);
+    assert(dnsm_records_end(query, QUERY, &end) == DNSM_OK && end == QUERY);
+    assert(dnsm_records_end(response, 12, &end) == DNSM_SHORT_INPUT && end == QUERY);
+    longer[12] = 0x40;
+    assert(dnsm_records_end(longer, sizeof longer, &end) == DNSM_BAD_LABEL && end == QUERY);
+}
+
 /* The response to the query, with items of the other response. */
 static void responses(void)
 {
@@ -324,6 +435,9 @@ int main(void)
     from_text();
     opts();
     answers();
+    replies();
+    no_replies();
+    cached();
     responses();
     refused();
     puts("ok");

@@ -26,7 +26,7 @@ from ._errors import (
     TooLong,
 )
 from ._items import Field, Question, Record
-from ._message import FoundOpt, Message
+from ._message import FoundOpt, Message, Reply
 from ._names import (
     compare_names,
     name_end,
@@ -46,6 +46,7 @@ from ._numbers import (
     Opcode,
     OptionCode,
     Rcode,
+    ReplyKind,
     Section,
     Type,
     class_from_text,
@@ -90,6 +91,8 @@ __all__ = [
     "Question",
     "Rcode",
     "Record",
+    "Reply",
+    "ReplyKind",
     "Section",
     "Status",
     "TooLong",

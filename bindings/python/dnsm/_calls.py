@@ -90,6 +90,20 @@ class PutItem(ctypes.Structure):
     _fields_ = NewItem._fields_
 
 
+class Saying(ctypes.Structure):
+    _fields_ = [
+        ("ttl", c_uint32),
+        ("rcode", c_uint16),
+        ("kind", c_uint8),
+        ("name_len", c_uint8),
+        ("owner_len", c_uint8),
+        ("target_len", c_uint8),
+        ("name", c_uint8 * 255),
+        ("owner", c_uint8 * 255),
+        ("target", c_uint8 * 255),
+    ]
+
+
 _OCTETS = [c_char_p, c_size_t]
 _BUFFER = [POINTER(c_char), c_size_t]
 _OUT = [*_BUFFER, POINTER(c_size_t)]
@@ -142,6 +156,10 @@ _CALLS = {
     "dnsm_begin_response": [POINTER(Draft), *_BUFFER, *_OCTETS, c_uint16],
     "dnsm_put_from": [POINTER(Draft), *_BUFFER, *_OCTETS, POINTER(Item)],
     "dnsm_finish": [POINTER(Draft), *_OUT],
+    "dnsm_reply": [*_OCTETS, *_OCTETS, *_OCTETS, POINTER(Saying)],
+    "dnsm_is_regular": [*_OCTETS, POINTER(c_uint8)],
+    "dnsm_min_ttl": [*_OCTETS, POINTER(c_uint32)],
+    "dnsm_records_end": [*_OCTETS, POINTER(c_size_t)],
     "dnsm_version": [],
 }
 

@@ -1,6 +1,6 @@
 """Messages that are read."""
 
-from ctypes import byref, c_uint16
+from ctypes import byref, c_size_t, c_uint8, c_uint16, c_uint32
 from itertools import chain, islice
 from typing import Iterator, NamedTuple, Optional, Tuple, Union
 
@@ -9,7 +9,8 @@ from ._calls import Octets
 from ._edns import Edns, read_edns
 from ._errors import Error, Status
 from ._items import Question, Record
-from ._numbers import Flag, Section, Type
+from ._names import Name, name_octets, name_to_text
+from ._numbers import Flag, ReplyKind, Section, Type
 
 
 class FoundOpt(NamedTuple):
@@ -18,6 +19,24 @@ class FoundOpt(NamedTuple):
     record: Record
     edns: Edns
     rcode: int
+
+
+class Reply(NamedTuple):
+    """What a reply says, and of which name.
+
+    `ttl` is for how many seconds it may be cached: of `ANSWER` the least TTL of its records and the aliases; of `NO_DATA` and `NO_NAME` by
+    the SOA record (RFC 2308 section 5), without which they shouldn't be: the aliases have TTLs of their own; of `ALIAS` the least TTL of
+    the aliases, or 4294967295 without one. `rcode` is that of `FAILED`, of twelve bits. `name` is there for the kinds up to `DNAME`.
+    `owner` is that of the records that say so: the SOA record of `NO_DATA` and `NO_NAME` if there is one, the NS records of `REFERRAL`, or
+    the DNAME record of `DNAME`; then `target` is its target. Without them the numbers are 0, and the names None.
+    """
+
+    kind: ReplyKind
+    ttl: int
+    rcode: int
+    name: Optional[str]
+    owner: Optional[str]
+    target: Optional[str]
 
 
 class Message:
@@ -126,6 +145,46 @@ class Message:
         query = _calls.octets_of(query)
         status = _calls.library.dnsm_answers(query, len(query), self._octets, len(self._octets))
         return status not in (Status.NO_RESPONSE, Status.OTHER_QUERY) and _calls.check(status)
+
+    def reply_to(self, query: Octets, zone: Name = ".") -> Optional[Reply]:
+        """What this says of the first question of a query, or None if it is no reply to that, by QR, ID, opcode and questions.
+
+        `zone` is the zone that the server was asked about: the root for a server that resolves. Only records whose owners are within it
+        count, but any NS record of the authority section can make it `LAME`. Ask `is_regular` first: another message can take seconds.
+        Raises `MalformedMessage` if the query has fewer than 12 octets, and what other calls raise if the zone is no name.
+        """
+        query, zone, saying = _calls.octets_of(query), name_octets(zone), _calls.Saying()
+        octets, call = self._octets, _calls.library.dnsm_reply
+        status = call(query, len(query), octets, len(octets), zone, len(zone), byref(saying))
+        if status in (Status.NO_RESPONSE, Status.OTHER_QUERY):
+            return None
+        _calls.check(status)
+        pairs = ((saying.name, saying.name_len), (saying.owner, saying.owner_len), (saying.target, saying.target_len))
+        name, owner, target = (name_to_text(bytes(buffer[:length])) if length else None for buffer, length in pairs)
+        return Reply(ReplyKind(saying.kind), saying.ttl, saying.rcode, name, owner, target)
+
+    def is_regular(self) -> bool:
+        """Whether all items can be skipped, and each pointer of a name leads to a label of an earlier name (RFC 1035 section 4.1.4).
+
+        To read a name of such a message, at most 128 pointers are followed, else some 8,000.
+        """
+        regular = c_uint8()
+        _calls.check(_calls.library.dnsm_is_regular(self._octets, len(self._octets), byref(regular)))
+        return regular.value == 1
+
+    def min_ttl(self) -> Optional[int]:
+        """The least TTL of the records, in seconds, or None if no record has one, as OPT, TSIG, TKEY and SIG haven't.
+
+        Raises `MalformedMessage` if an item can't be skipped; pointers aren't followed.
+        """
+        ttl = c_uint32()
+        return ttl.value if _calls.check(_calls.library.dnsm_min_ttl(self._octets, len(self._octets), byref(ttl))) else None
+
+    def records_end(self) -> int:
+        """The offset after the last item. Raises what `min_ttl` raises."""
+        end = c_size_t()
+        _calls.check(_calls.library.dnsm_records_end(self._octets, len(self._octets), byref(end)))
+        return end.value
 
     def find_opt(self) -> Optional[FoundOpt]:
         """The only OPT record of the message, anywhere in the additional section, or None.

@@ -18,6 +18,9 @@ from dnsm import (
     NotAnswerable,
     Option,
     OptionCode,
+    Rcode,
+    Reply,
+    ReplyKind,
     Section,
     Status,
     Type,
@@ -256,6 +259,46 @@ class Opts(unittest.TestCase):
         self.assertRaises(MalformedMessage, Message(two).find_opt)
         self.assertRaises(MalformedMessage, Message(BAD_VERSION[:12] + b"\1a" + OPT).find_opt)
         self.assertRaises(MalformedMessage, Message(BAD_VERSION[:-1]).find_opt)
+
+
+class Replies(unittest.TestCase):
+    """RFC 2308 sections 2.1, 2.2 and 5: the lesser of the SOA record's TTL and its MINIMUM, 600. RFC 6672 section 2.2."""
+
+    def setUp(self) -> None:
+        self.query = query("a.example", Type.A, id=9)
+
+    def said(self, rcode: int, section: str, *record: object) -> Reply:
+        octets = build(9, Flag.QR, questions=[("a.example", Type.A)], rcode=rcode, **{section: [NewRecord(*record)]})
+        return Message(octets).reply_to(self.query, "example")
+
+    def test_each(self) -> None:
+        address, soa = bytes([192, 0, 2, 1]), b"\2ns\0\1h\0" + bytes(18) + bytes([2, 88])
+        a, example = "a.example.", "example."
+        found = self.said(0, "answer", a, Type.A, address, 300)
+        self.assertEqual(found, Reply(ReplyKind.ANSWER, 300, 0, a, None, None))
+        none = self.said(0, "authority", example, Type.SOA, soa, 900)
+        self.assertEqual(none, Reply(ReplyKind.NO_DATA, 600, 0, a, example, None))
+        none = self.said(Rcode.NXDOMAIN, "authority", example, Type.SOA, soa, 100)
+        self.assertEqual(none, Reply(ReplyKind.NO_NAME, 100, 0, a, example, None))
+        redirected = self.said(0, "answer", example, Type.DNAME, name_from_text("b.other"), 50)
+        self.assertEqual(redirected, Reply(ReplyKind.DNAME, 50, 0, a, example, "b.other."))
+        failed = self.said(Rcode.SERVFAIL, "answer", a, Type.A, address, 300)
+        self.assertEqual(failed, Reply(ReplyKind.FAILED, 0, 2, None, None, None))
+
+    def test_none(self) -> None:
+        self.assertIsNone(Message(self.query).reply_to(self.query))
+        self.assertIsNone(Message(RESPONSE).reply_to(self.query))
+        self.assertRaises(MalformedMessage, Message(RESPONSE).reply_to, self.query[:11])
+        self.assertRaises(NameTextError, Message(RESPONSE).reply_to, self.query, b"")
+
+    def test_cached(self) -> None:
+        message, cut = Message(RESPONSE), Message(RESPONSE[:-1])
+        self.assertEqual((message.is_regular(), message.min_ttl(), message.records_end()), (True, 7, len(RESPONSE)))
+        self.assertEqual(Message(RESPONSE + b"x").records_end(), len(RESPONSE))
+        self.assertFalse(cut.is_regular())
+        self.assertRaises(MalformedMessage, cut.min_ttl)
+        self.assertRaises(MalformedMessage, cut.records_end)
+        self.assertIsNone(Message(self.query).min_ttl())
 
 
 class Versions(unittest.TestCase):

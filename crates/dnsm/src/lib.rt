@@ -4,8 +4,8 @@
 //! function returns for all arguments, and reports errors as numbers. Only `dnsm_build`,
 //! `dnsm_data_from_text` and `dnsm_record_from_text` allocate.
 //!
-//! Each export calls a function of `dnsm_status`, `dnsm_read`, `dnsm_text`, `dnsm_zone`, `dnsm_put` or
-//! `dnsm_make`.
+//! Each export calls a function of `dnsm_status`, `dnsm_read`, `dnsm_replies`, `dnsm_text`,
+//! `dnsm_zone`, `dnsm_put` or `dnsm_make`.
 #![tactic(auto)]
 
 mod comparing;
@@ -16,6 +16,7 @@ mod names;
 mod numbers;
 mod rdata;
 mod reading;
+mod replies;
 mod texts;
 mod version;
 mod zone;

@@ -248,6 +248,20 @@ pub const DNSM_FIELD_STRING: u8 = 5;
 pub const DNSM_FIELD_SIZED: u8 = 6;
 pub const DNSM_FIELD_OCTETS: u8 = 7;
 
+pub const DNSM_REPLY_ANSWER: u8 = 0;
+pub const DNSM_REPLY_NO_DATA: u8 = 1;
+pub const DNSM_REPLY_NO_NAME: u8 = 2;
+pub const DNSM_REPLY_REFERRAL: u8 = 3;
+pub const DNSM_REPLY_ALIAS: u8 = 4;
+pub const DNSM_REPLY_DNAME: u8 = 5;
+pub const DNSM_REPLY_TRUNCATED: u8 = 6;
+pub const DNSM_REPLY_FAILED: u8 = 7;
+pub const DNSM_REPLY_DONE: u8 = 8;
+pub const DNSM_REPLY_UNREADABLE: u8 = 9;
+pub const DNSM_REPLY_MANY_OPTS: u8 = 10;
+pub const DNSM_REPLY_LOOP: u8 = 11;
+pub const DNSM_REPLY_LAME: u8 = 12;
+
 #[repr(C)]
 #[derive(Debug, Default, Clone, Copy)]
 pub struct dnsm_header {
@@ -344,6 +358,20 @@ pub struct dnsm_put_item {
     pub type_: u16,
     pub class_: u16,
     pub section: u8,
+}
+
+#[repr(C)]
+#[derive(Debug, Clone, Copy)]
+pub struct dnsm_saying {
+    pub ttl: u32,
+    pub rcode: u16,
+    pub kind: u8,
+    pub name_len: u8,
+    pub owner_len: u8,
+    pub target_len: u8,
+    pub name: [u8; 255],
+    pub owner: [u8; 255],
+    pub target: [u8; 255],
 }
 
 extern "C" {
@@ -583,4 +611,16 @@ extern "C" {
         item: *const dnsm_item,
     ) -> dnsm_status;
     pub fn dnsm_finish(draft: *const dnsm_draft, out: *mut u8, out_len: usize, len: *mut usize) -> dnsm_status;
+    pub fn dnsm_reply(
+        query: *const u8,
+        query_len: usize,
+        received: *const u8,
+        received_len: usize,
+        zone: *const u8,
+        zone_len: usize,
+        saying: *mut dnsm_saying,
+    ) -> dnsm_status;
+    pub fn dnsm_is_regular(message: *const u8, message_len: usize, regular: *mut u8) -> dnsm_status;
+    pub fn dnsm_min_ttl(message: *const u8, message_len: usize, ttl: *mut u32) -> dnsm_status;
+    pub fn dnsm_records_end(message: *const u8, message_len: usize, end: *mut usize) -> dnsm_status;
 }

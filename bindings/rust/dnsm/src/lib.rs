@@ -21,6 +21,7 @@ mod message;
 mod number;
 mod opt;
 mod out;
+mod reply;
 mod write;
 
 /// The programs of the page.
@@ -35,4 +36,5 @@ pub use message::{DataText, Field, Fields, Header, Item, Items, Message, Name};
 pub use number::{library_version, Class, ExtendedErrorCode, Opcode, OptionCode, Rcode, Rtype, Section};
 pub use number::{AA, AD, CD, QR, RA, RD, TC};
 pub use opt::{EdnsOption, Opt, Options};
+pub use reply::{Reply, ReplyKind};
 pub use write::{build, data_from_text, name_from_text, query, query_opt, record_from_text, respond_a, TextRecord};

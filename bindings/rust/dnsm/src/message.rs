@@ -1,5 +1,5 @@
 //! Messages that are read.
-use crate::{out, Class, Error, Opt, Rtype, Section};
+use crate::{out, Class, Error, Opt, Reply, Rtype, Section};
 use dnsm_sys::*;
 use std::cmp::Ordering;
 use std::fmt;
@@ -61,6 +61,56 @@ impl<'a> Message<'a> {
     pub fn check_answers(&self, query: &[u8]) -> Result<(), Error> {
         // SAFETY: the pointers and the lengths are those of both octets.
         Error::check(unsafe { dnsm_answers(query.as_ptr(), query.len(), self.octets.as_ptr(), self.octets.len()) })
+    }
+
+    /// What this says of the first question of a query, if it is a reply to that. `zone` is the name of the zone that the server was
+    /// asked about, as octets: the root, one zero octet, for a server that resolves. Only records whose owners are within it count, but
+    /// any NS record of the authority section can make it [`ReplyKind::Lame`](crate::ReplyKind::Lame).
+    ///
+    /// Ask [`is_regular`](Self::is_regular) first: another message can take seconds.
+    ///
+    /// # Errors
+    ///
+    /// `ShortInput` if the query has fewer than 12 octets, `BadText` if the octets aren't exactly one name, and `NoResponse` or
+    /// `OtherQuery` if it is no such reply.
+    pub fn reply_to(&self, query: &[u8], zone: &[u8]) -> Result<Reply, Error> {
+        Reply::read(query, self.octets, zone)
+    }
+
+    /// Whether all items can be skipped, and each compression pointer leads to a label of an earlier name (RFC 1035 section 4.1.4). To
+    /// read a name of such a message, at most 128 pointers are followed, else some 8,000.
+    pub fn is_regular(&self) -> bool {
+        let mut regular = 0;
+        // SAFETY: the pointer and the length are those of the octets, and the reference is to a live value.
+        let status = unsafe { dnsm_is_regular(self.octets.as_ptr(), self.octets.len(), &mut regular) };
+        status == DNSM_OK && regular != 0
+    }
+
+    /// The least TTL of the records, in seconds. None if no record has one, as OPT, TSIG, TKEY and SIG haven't.
+    ///
+    /// # Errors
+    ///
+    /// The error of the first item that can't be skipped. Pointers aren't followed.
+    pub fn min_ttl(&self) -> Result<Option<u32>, Error> {
+        let mut ttl = 0;
+        // SAFETY: the pointer and the length are those of the octets, and the reference is to a live value.
+        match unsafe { dnsm_min_ttl(self.octets.as_ptr(), self.octets.len(), &mut ttl) } {
+            DNSM_OK => Ok(Some(ttl)),
+            DNSM_END => Ok(None),
+            status => Err(Error::from_status(status)),
+        }
+    }
+
+    /// The offset after the last item.
+    ///
+    /// # Errors
+    ///
+    /// Those of [`min_ttl`](Self::min_ttl).
+    pub fn records_end(&self) -> Result<usize, Error> {
+        let mut end = 0;
+        // SAFETY: the pointer and the length are those of the octets, and the reference is to a live value.
+        Error::check(unsafe { dnsm_records_end(self.octets.as_ptr(), self.octets.len(), &mut end) })?;
+        Ok(end)
     }
 
     /// All questions and records, in order, up to the first that can't be read, and then its error.

@@ -1,7 +1,7 @@
 //! What servers and forwarders use.
 use dnsm::{
     build, data_from_text, library_version, name_from_text, query, record_from_text, Builder, Class, Error, Field, Item, Message,
-    Name, NewItem, Opcode, OptionCode, Rcode, Rtype, Section, QR, RD,
+    Name, NewItem, Opcode, OptionCode, Rcode, ReplyKind, Rtype, Section, QR, RD,
 };
 use std::cmp::Ordering;
 use std::collections::HashSet;
@@ -217,4 +217,49 @@ fn numbers_have_texts() {
     assert_eq!((Rcode::NXDOMAIN.to_string(), Rcode(4095).to_string()), ("NXDomain".to_string(), "RCODE4095".to_string()));
     assert_eq!((OptionCode(3).to_string(), OptionCode(4).to_string()), ("NSID".to_string(), "OPTION4".to_string()));
     assert_eq!(library_version().0, 2);
+}
+
+/// RFC 2308 sections 2.1, 2.2 and 5: the lesser of the SOA record's TTL and its MINIMUM, 600. RFC 6672 section 2.2.
+#[test]
+fn replies_say_one_thing() {
+    let (zone, soa) = (name_from_text("example").unwrap(), [&b"\x02ns\0\x01h\0"[..], &[0; 18], &[2, 88]].concat());
+    let asked = query(9, true, "a.example", Rtype::A, Class::IN).unwrap();
+    let replied = |flags, section, owner, rtype, ttl, data: &[u8]| {
+        let question = NewItem::question("a.example", Rtype::A, Class::IN);
+        build(9, QR | flags, &[question, NewItem::record(section, owner, rtype, ttl, data)]).unwrap()
+    };
+    let said = |octets: &[u8]| {
+        let reply = Message::new(octets).unwrap().reply_to(&asked, &zone).unwrap();
+        let text = |name: Option<Name<'_>>| name.map_or(String::new(), |name| name.to_string());
+        let names = [reply.name(), reply.owner(), reply.target()].map(text).join(" ");
+        (reply.kind(), reply.ttl(), reply.rcode().0, names)
+    };
+    let (answer, authority, other) = (Section::Answer, Section::Authority, name_from_text("b.other").unwrap());
+    let found = replied(0, answer, "a.example", Rtype::A, 300, &[192, 0, 2, 1]);
+    assert_eq!(said(&found), (ReplyKind::Answer, 300, 0, "a.example.  ".to_string()));
+    let none = replied(0, authority, "example", Rtype::SOA, 900, &soa);
+    assert_eq!(said(&none), (ReplyKind::NoData, 600, 0, "a.example. example. ".to_string()));
+    let none = replied(3, authority, "example", Rtype::SOA, 100, &soa);
+    assert_eq!(said(&none), (ReplyKind::NoName, 100, 0, "a.example. example. ".to_string()));
+    let redirected = replied(0, answer, "example", Rtype::DNAME, 50, &other);
+    assert_eq!(said(&redirected), (ReplyKind::Dname, 50, 0, "a.example. example. b.other.".to_string()));
+    let failed = replied(2, answer, "a.example", Rtype::A, 300, &[192, 0, 2, 1]);
+    assert_eq!(said(&failed), (ReplyKind::Failed, 0, 2, "  ".to_string()));
+    assert_eq!(said(&found[..found.len() - 1]), (ReplyKind::Unreadable, 0, 0, "  ".to_string()));
+    let refused = |received: &[u8], query: &[u8], zone: &[u8]| Message::new(received).unwrap().reply_to(query, zone).err();
+    assert_eq!(refused(&found, &asked, b""), Some(Error::BadText));
+    assert_eq!(refused(&asked, &asked, &zone), Some(Error::NoResponse));
+    assert_eq!(refused(RESPONSE, &asked, &zone), Some(Error::OtherQuery));
+    assert_eq!(refused(RESPONSE, &asked[..11], &zone), Some(Error::ShortInput));
+}
+
+#[test]
+fn a_cache_asks_of_all_records() {
+    let message = Message::new(RESPONSE).unwrap();
+    assert_eq!((message.is_regular(), message.min_ttl(), message.records_end()), (true, Ok(Some(7)), Ok(RESPONSE.len())));
+    let longer = [RESPONSE, b"x"].concat();
+    assert_eq!(Message::new(&longer).unwrap().records_end(), Ok(RESPONSE.len()));
+    let cut = Message::new(&RESPONSE[..RESPONSE.len() - 1]).unwrap();
+    assert_eq!((cut.is_regular(), cut.min_ttl(), cut.records_end()), (false, Err(Error::ShortInput), Err(Error::ShortInput)));
+    assert_eq!(Message::new(&build(1, 0, &[]).unwrap()).unwrap().min_ttl(), Ok(None));
 }

@@ -1,0 +1,13 @@
+//! Replies: what one says of a query, whether a message is regular, its least TTL, and where it
+//! ends.
+//!
+//! No function requires anything of what it gets. Nothing is allocated. `dnsm` exports these functions
+//! to C.
+#![tactic(auto)]
+
+pub mod laws;
+pub mod reply;
+mod saying;
+pub mod whole;
+
+pub use saying::Saying;
