@@ -4,10 +4,10 @@
 //!     dnsmsg build TARGET < SCRIPT
 //!     dnsmsg show < DIGITS
 //!
-//! `dns_message::tool` does the work. It is proved to be safe and to terminate on every input.
+//! `dnsmsg_tool::tool` does the work. It is proved to be safe and to terminate on every input.
 #![tactic(auto)]
 
-use dns_message::tool;
+use dnsmsg_tool::tool;
 use std::io::{BufWriter, ErrorKind};
 use std::process::ExitCode;
 use std::{env, io};

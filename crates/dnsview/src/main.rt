@@ -6,9 +6,6 @@
 //! `dnsview_tool::tool` does the work. It is proved to be safe and to terminate on every input.
 #![tactic(auto)]
 
-#[cfg(test)]
-mod tests;
-
 use dnsview_tool::{USAGE, file_of, print_failure, print_unopened, tool};
 use std::fs::File;
 use std::io::{BufWriter, ErrorKind, Read};

@@ -4,7 +4,7 @@ ghost use Rattle.std.specs.Char.{is_ascii_hexdigit, is_ascii_whitespace};
 ghost use Rattle.std.specs.Io.KnownBytes.{Appends};
 ghost use Rattle.dnsview_tool.specs.Failures.{IsFailureText, IsPrintingFailure, IsReportingFailure, PrintsBefore, ReportsFailure};
 ghost use Rattle.dnsview_tool.specs.Printed.{Prints};
-ghost use Rattle.dnsview_tool.specs.Requests.{asked};
+ghost use Rattle.dnsview_tool.specs.Requests.{asked, wrong_word};
 ghost use Rattle.dnsview_tool.specs.Viewing.{is_digits, json_line, json_object, lines_text, named_text, wrong_text, CanEnd, Gives, IsOdd, IsPrinted, IsViewed, PrintsForm, Reports};
 
 use crate::failure::{Failure, print_failure};
@@ -163,10 +163,19 @@ fn print_wrong<E: Write>(args: &[String], errors: &mut E) -> io::Result<()>
     ensures { OnOk result (Appends (E.contents errors.old) (E.contents errors.new)
         (wrong_text args.now)) }
 {
-    if let Some(word) = wrong_word(args) {
-        print_named(word, errors)?;
-    }
+    print_wrong_word(args, errors)?;
     errors.write_all(USAGE.as_bytes())
+}
+
+/// Prints the line that names the wrong argument, if there is one.
+fn print_wrong_word<E: Write>(args: &[String], errors: &mut E) -> io::Result<()>
+    ensures { OnOk result (Appends (E.contents errors.old) (E.contents errors.new)
+        (named_text (wrong_word args.now))) }
+{
+    match wrong_word(args) {
+        Some(word) => print_named(word, errors),
+        None => Ok(()),
+    }
 }
 
 /// Prints a line that names an argument.

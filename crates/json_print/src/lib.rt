@@ -14,8 +14,6 @@ pub mod laws;
 mod member;
 mod printed;
 mod string;
-#[cfg(test)]
-mod tests;
 
 pub use item::write_comma_if;
 pub use member::{

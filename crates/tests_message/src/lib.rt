@@ -1,11 +1,12 @@
-//! Tests over `dns_message` alone: the examples of the pages and modules, input and output of the
-//! program `dnsmsg` that fail, and calls that allocate. What `dnsmsg` prints, and lists of calls that
-//! end with the same octets, are in the cases of `cases_runs`.
+//! Tests over `dns_message`: the examples of the pages and modules, input and output of programs
+//! that fail, and calls that allocate. What `dnsmsg` prints, and lists of calls that end with the
+//! same octets, are in the cases of `cases_runs`.
 //!
 //! Nothing is exported. `callers`, `tour` and `typed` have proved callers, `ptr`, `fields`, `made`
-//! and `own` the examples of three modules. `input_output` tests `dnsmsg`, `script` a list of calls,
-//! `memory` calls that allocate, and `options` values that are printed. `asserts` has what many
-//! tests use. The rows of a table have names, which failures print.
+//! and `own` the examples of three modules. `input_output` tests `dnsmsg`, `view` `dnsview`,
+//! `script` a list of calls, `memory` calls that allocate, `options` values that are printed, and
+//! `json` an object of `json_print`. `asserts` has what many tests use. The rows of a table have
+//! names, which failures print.
 #![tactic(auto)]
 
 #[cfg(test)]
@@ -16,6 +17,8 @@ mod callers;
 mod fields;
 #[cfg(test)]
 mod input_output;
+#[cfg(test)]
+mod json;
 #[cfg(test)]
 mod made;
 #[cfg(test)]
@@ -32,3 +35,5 @@ mod script;
 mod tour;
 #[cfg(test)]
 mod typed;
+#[cfg(test)]
+mod view;

@@ -1,4 +1,5 @@
-//! What is printed to standard error if something fails: printable ASCII, whatever the reason is.
+//! What `dnsview` prints to standard error if something fails: printable ASCII, whatever the reason
+//! is.
 use dnsview_tool::{print_unopened, tool};
 use std::alloc::Global;
 use std::io;

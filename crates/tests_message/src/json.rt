@@ -1,12 +1,12 @@
-//! An object as RFC 8259 has it. The expected text is that of Python's `json.dumps`, without
+//! A JSON object as RFC 8259 has it. The expected text is that of Python's `json.dumps`, without
 //! spaces.
 ghost use Rattle.std.specs.Prelude.{◌++◌, None};
 
-use crate::{
+use dns_print::TextWriter;
+use json_print::{
     PrintText, begin_object, write_boolean_member, write_comma_if, write_member_name,
     write_number_member, write_string, write_string_member,
 };
-use dns_print::TextWriter;
 use std::fmt;
 
 /// Two texts, printed one after the other.
