@@ -4,7 +4,8 @@
  *     transport tcp PORT < DIGITS       the same over TCP (RFC 1035 section 4.2.2)
  *     transport stream PORT < DIGITS    sends it over TCP, and copies all that the server sends, until it says nothing for two seconds
  *
- * Standard input has the query in hexadecimal digits. Ends with status 1 if the server doesn't respond within ten seconds. */
+ * Standard input has the query in hexadecimal digits. Ends with status 1 if the server doesn't respond: for `udp` and `tcp` within ten
+ * seconds. */
 #define _GNU_SOURCE
 #include <arpa/inet.h>
 #include <stdint.h>
@@ -87,13 +88,17 @@ int main(int count, char **words)
         len = (size_t)response[0] << 8 | response[1];
         read_whole(server, response, len);
         print_digits(response, len);
-    } else {
+    } else if (!strcmp(words[1], "stream")) {
         int server = connected(SOCK_STREAM, words[2], 2);
+        size_t sent = 0;
         ssize_t got;
         send_frame(server, query, len);
-        while ((got = recv(server, response, MOST, 0)) > 0)
+        for (; (got = recv(server, response, MOST, 0)) > 0; sent += (size_t)got)
             if (fwrite(response, 1, (size_t)got, stdout) != (size_t)got)
                 stop("can't write");
-    }
+        if (sent == 0)
+            stop("no response");
+    } else
+        stop("usage: transport udp|tcp|stream PORT");
     return 0;
 }

@@ -1,14 +1,16 @@
 //! Messages that calls change in place, as text.
 use crate::message::Call;
 use crate::run::Run;
+use cases_files::octets_of;
 use dns_edit::{
-    EditError, TtlChange, age_ttls, cap_ttls, change_ttls, set_id, set_question_case, set_rcode,
+    EditError, TtlChange, age_ttls, cap_ttls, change_ttls, replace_option, set_id,
+    set_question_case, set_rcode,
 };
-use dns_iana::Rcode;
+use dns_iana::{OptionCode, Rcode};
 use dns_item::Ttl;
 use dns_name::Name;
 use dns_read::Message;
-use std::alloc::Global;
+use std::alloc::{AllocError, Global};
 use std::io;
 
 /// A number, of seconds or an ID or an rcode, and after `=` the message that is changed by it, or why it can't be.
@@ -22,8 +24,7 @@ pub(crate) fn changed_shown(
     let Ok(value) = number.parse::<u32>() else {
         return Ok(String::from_str(alloc, "bad number")?);
     };
-    let Ok(mut message) = Message::from_octets(Vec::from_slice(alloc, run.message.as_slice())?)
-    else {
+    let Some(mut message) = message_of(alloc, run)? else {
         return Ok(String::from_str(alloc, "short message")?);
     };
     match change(&mut message, call, value) {
@@ -33,6 +34,12 @@ pub(crate) fn changed_shown(
         }
         Err(error) => Ok(format!(in alloc; "{number} = {error}")?),
     }
+}
+
+/// A copy of the message of a case, if it has 12 octets.
+fn message_of(alloc: Global, run: &Run<'_>) -> Result<Option<Message<Vec<u8>>>, AllocError> {
+    let octets = Vec::from_slice(alloc, run.message.as_slice())?;
+    Ok(Message::from_octets(octets).ok())
 }
 
 /// Changes a message by a call.
@@ -74,8 +81,7 @@ pub(crate) fn cased_shown(alloc: Global, run: &Run<'_>, text: &str) -> io::Resul
     let Ok(name) = Name::vec_from_str(alloc, words) else {
         return Ok(String::from_str(alloc, "bad name")?);
     };
-    let Ok(mut message) = Message::from_octets(Vec::from_slice(alloc, run.message.as_slice())?)
-    else {
+    let Some(mut message) = message_of(alloc, run)? else {
         return Ok(String::from_str(alloc, "short message")?);
     };
     match set_question_case(&mut message, &name) {
@@ -83,6 +89,27 @@ pub(crate) fn cased_shown(alloc: Global, run: &Run<'_>, text: &str) -> io::Resul
             let digits = hex::encode(alloc, message.as_slice())?;
             Ok(format!(in alloc; "{words} = {digits}")?)
         }
+        Err(error) => Ok(format!(in alloc; "{words} = {error}")?),
+    }
+}
+
+/// An option's code and data, and after `=` the message whose option has this data, or `none`
+/// without such an option, or why it isn't replaced.
+pub(crate) fn replaced_shown(alloc: Global, run: &Run<'_>, text: &str) -> io::Result<String> {
+    let (words, _) = text.split_once(" = ").unwrap_or((text, ""));
+    let (number, digits) = words.split_once(' ').unwrap_or((words, ""));
+    let (Ok(code), Some(octets)) = (number.parse::<u16>(), octets_of(alloc, digits)?) else {
+        return Ok(String::from_str(alloc, "bad option")?);
+    };
+    let Some(mut message) = message_of(alloc, run)? else {
+        return Ok(String::from_str(alloc, "short message")?);
+    };
+    match replace_option(&mut message, OptionCode::from_int(code), octets.as_slice()) {
+        Ok(true) => {
+            let digits = hex::encode(alloc, message.as_slice())?;
+            Ok(format!(in alloc; "{words} = {digits}")?)
+        }
+        Ok(false) => Ok(format!(in alloc; "{words} = none")?),
         Err(error) => Ok(format!(in alloc; "{words} = {error}")?),
     }
 }

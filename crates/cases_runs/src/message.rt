@@ -1,7 +1,37 @@
-//! What calls of the library return for a message, or for arguments.
+//! What calls of the library return for a message, or for arguments, by these lines of a case:
+//!
+//! - `message DIGITS`, `other DIGITS`: the octets of the message, and of a second one.
+//! - `sole TYPE`: `Message::sole_question`: its type's number, or the error.
+//! - `is-answer yes`, `same-questions yes`: whether the message answers the second one, and asks
+//!   the same; else `no`.
+//! - `rcode NUMBER`: `Message::opt_rcode`. `canonical NAME`: `Message::canonical_name`, or `none`.
+//! - `age SECONDS = DIGITS`, `cap SECONDS = DIGITS`, `change-cap SECONDS = DIGITS`: the message
+//!   after `age_ttls`, `cap_ttls`, or `change_ttls` with this cap; or the error.
+//! - `id NUMBER = DIGITS`, `header-rcode NUMBER = DIGITS`: after `set_id`, `set_rcode`.
+//!   `question-case NAME = DIGITS`: after `set_question_case`; or the error. `replace-option CODE
+//!   DIGITS = DIGITS`: after `replace_option` with this data; `none` without such an option, or the
+//!   error.
+//! - `regular yes`: `is_regular`; else `no`. `end NUMBER`: `records_end`, or the error.
+//! - `least SECONDS`: `min_ttl`; `none` if there is no record, or the error.
+//! - `questions`, `answer`, `authority`, `additional TEXT`: where the section starts, unless first;
+//!   what its cursor yields; where that ends, and the next section starts. `items TEXT`: what
+//!   `iter` yields.
+//! - `limited TEXT`: what `limit_to` yields of A, `limit_to_in` of A, and `limit_to` of CNAME, in
+//!   the answer section.
+//! - `has-address yes`, `last-address ADDRESS`: `contains_answer` and `get_last_additional` of A.
+//! - `many-opts yes`: `has_many_opts`.
+//! - `remove-last 0 = DIGITS`: the message after `remove_last_additional`.
+//! - `axfr ZONE = TEXT`, `ixfr SERIAL ZONE = TEXT`: the steps of the messages as a response to a
+//!   query with ID 1234, and how it ends.
+//! - `reply ZONE = TEXT`, `reply-exact ZONE = TEXT`: what the message says of the second one's
+//!   question, by `reply_to` or `reply_to_exact`.
+//! - `redirected NAME OWNER TARGET = NAME`: `substitute`, or `none`.
+//! - `opt LINE`: what `Message::opt` returns for the message of the input; no `LINE`: none.
+//! - `file WORDS = NAME`: the file that these arguments of `dnsview` ask for.
+//! - `rows DIGITS = one`: one row shows these octets; else `more`.
 ghost use Rattle.std.specs.Prelude.{◌<◌, IfOk, IsTrue, length};
 
-use crate::edits::{cased_shown, changed_shown};
+use crate::edits::{cased_shown, changed_shown, replaced_shown};
 use crate::opt::opt_line;
 use crate::replies::{redirected_shown, reply_shown};
 use crate::returned::write_call;
@@ -31,6 +61,7 @@ pub(crate) enum Call {
     Id,
     HeaderRcode,
     QuestionCase,
+    ReplaceOption,
     RemoveLast,
     Regular,
     End,
@@ -50,44 +81,52 @@ pub(crate) enum Call {
     Redirected,
 }
 
+/// The calls, each after its key.
+const CALLS: &[(&str, Call)] = &[
+    ("opt", Call::Opt),
+    ("file", Call::File),
+    ("rows", Call::Rows),
+    ("rcode", Call::Rcode),
+    ("canonical", Call::Canonical),
+    ("sole", Call::Sole),
+    ("least", Call::Least),
+    ("is-answer", Call::IsAnswer),
+    ("same-questions", Call::SameQuestions),
+    ("age", Call::Age),
+    ("cap", Call::Cap),
+    ("change-cap", Call::ChangeCap),
+    ("id", Call::Id),
+    ("header-rcode", Call::HeaderRcode),
+    ("question-case", Call::QuestionCase),
+    ("replace-option", Call::ReplaceOption),
+    ("regular", Call::Regular),
+    ("end", Call::End),
+    ("remove-last", Call::RemoveLast),
+    ("last-address", Call::LastAddress),
+    ("has-address", Call::HasAddress),
+    ("many-opts", Call::ManyOpts),
+    ("questions", Call::Questions),
+    ("answer", Call::Answer),
+    ("authority", Call::Authority),
+    ("additional", Call::Additional),
+    ("items", Call::Items),
+    ("limited", Call::Limited),
+    ("axfr", Call::Axfr),
+    ("ixfr", Call::Ixfr),
+    ("reply", Call::Reply),
+    ("reply-exact", Call::ReplyExact),
+    ("redirected", Call::Redirected),
+];
+
 impl Call {
     /// The call that a key names, if it is one.
     pub(crate) fn of_key(key: &str) -> Option<Call> {
-        match key {
-            "opt" => Some(Call::Opt),
-            "file" => Some(Call::File),
-            "rows" => Some(Call::Rows),
-            "rcode" => Some(Call::Rcode),
-            "canonical" => Some(Call::Canonical),
-            "sole" => Some(Call::Sole),
-            "least" => Some(Call::Least),
-            "is-answer" => Some(Call::IsAnswer),
-            "same-questions" => Some(Call::SameQuestions),
-            "age" => Some(Call::Age),
-            "cap" => Some(Call::Cap),
-            "change-cap" => Some(Call::ChangeCap),
-            "id" => Some(Call::Id),
-            "header-rcode" => Some(Call::HeaderRcode),
-            "question-case" => Some(Call::QuestionCase),
-            "regular" => Some(Call::Regular),
-            "end" => Some(Call::End),
-            "remove-last" => Some(Call::RemoveLast),
-            "last-address" => Some(Call::LastAddress),
-            "has-address" => Some(Call::HasAddress),
-            "many-opts" => Some(Call::ManyOpts),
-            "questions" => Some(Call::Questions),
-            "answer" => Some(Call::Answer),
-            "authority" => Some(Call::Authority),
-            "additional" => Some(Call::Additional),
-            "items" => Some(Call::Items),
-            "limited" => Some(Call::Limited),
-            "axfr" => Some(Call::Axfr),
-            "ixfr" => Some(Call::Ixfr),
-            "reply" => Some(Call::Reply),
-            "reply-exact" => Some(Call::ReplyExact),
-            "redirected" => Some(Call::Redirected),
-            _ => None,
+        for call in CALLS {
+            if call.0 == key {
+                return Some(call.1);
+            }
         }
+        None
     }
 }
 
@@ -109,6 +148,7 @@ pub(crate) fn check_call<W: Write + Drop>(
         Call::Reply | Call::ReplyExact => reply_shown(alloc, run, call, text)?,
         Call::Redirected => redirected_shown(alloc, text)?,
         Call::QuestionCase => cased_shown(alloc, run, text)?,
+        Call::ReplaceOption => replaced_shown(alloc, run, text)?,
         Call::Age | Call::Cap | Call::ChangeCap | Call::Id | Call::HeaderRcode | Call::RemoveLast =>
             changed_shown(alloc, run, call, text)?,
         Call::Axfr | Call::Ixfr => transfer_shown(alloc, run, call, text)?,
