@@ -165,6 +165,8 @@ run resolve_referral 0 "$(asks "$question") to the servers of example.com." '' e
 run resolve_alias_and_referral 0 "$(asks "0377777703737562$asked") to the servers of sub.example.com." '' example_resolve \
     < <(resolving A 8000 0001 0001 c00c000500010000012c000a0377777703737562c010c0310002000100000e100006036e7331c031)
 run resolve_alias_alone 0 "$(asks "03776562$net")" '' example_resolve < <(resolving A 8400 0001 0000 "c00c000500010000012c001103776562$net")
+run resolve_alias_beside_servers 0 "$(asks "03776562$net")" '' example_resolve \
+    < <(resolving A 8400 0001 0001 "c00c000500010000012c001103776562${net}c010000200010002a3000006036e7331c010")
 run resolve_dname 0 "$(asks "03777777$net")" '' example_resolve < <(resolving A 8400 0001 0000 "c010002700010000012c000d$net")
 refuses resolve_too_many_queries example_resolve 'too many queries' < <(
     resolving A 8380 0000

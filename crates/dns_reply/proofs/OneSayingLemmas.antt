@@ -1,7 +1,8 @@
 -- A reply says one thing.
 use Rattle.std.proofs.Common.{◌≡◌, ◌∙◌, ◌⊎◌, ◌<◌, inl, inr, ℕ, Bool, true, false, List, ap, sym, subst, refl, arith}
-use Rattle.std.specs.Prelude.{◌&&◌, min, Option, Some, None}
+use Rattle.std.specs.Prelude.{◌&&◌, min, not, Option, Some, None}
 use Rattle.dns_name.specs.Names.{Fault, Labels}
+use Rattle.dns_name.specs.NameOrders.{names_equal}
 use Rattle.dns_item.specs.Items.{RecordItem}
 use Rattle.dns_item.specs.Questions.{QuestionItem}
 use Rattle.dns_read.specs.Limited.{limited}
@@ -43,7 +44,7 @@ missing here gone = absurd (let e = sym here ∙ gone in cc)
 two_ways : {A : Type 0} {b : Bool} → b ≡ true → b ≡ false → A
 two_ways passes fails = absurd (let e = sym passes ∙ fails in cc)
 
-module _ (authorities : Records) (rcode qclass : ℕ) (zone name : Labels) where
+module _ (authorities : Records) (rcode qclass : ℕ) (zone name : Labels) (aliased : Bool) where
   -- if NS records delegate the name, there are NS records
   has_delegation : (ns : RecordItem) → ns_for qclass zone authorities name ≡ Some ns → has_ns qclass authorities ≡ true
   has_delegation ns e =
@@ -52,32 +53,36 @@ module _ (authorities : Records) (rcode qclass : ℕ) (zone name : Labels) where
       any_found (λ (x : RecordItem). asks_for_class qclass x.class) (values (limited ns_layout authorities)) ns found.among fits
 
   -- a name that owns nothing: one thing is said
-  none_alike : (x y : Said) → SaysNone authorities rcode qclass zone name x → SaysNone authorities rcode qclass zone name y → x ≡ y
+  none_alike : (x y : Said) → SaysNone authorities rcode qclass zone name aliased x → SaysNone authorities rcode qclass zone name aliased y → x ≡ y
   none_alike x y (no_name soa e s) (no_name other f t) = ap (λ (o : Option RecordItem). NoName name o (negative_ttl o)) (sym s ∙ t)
   none_alike x y (no_name soa e t) (no_data other f s) = zero_or_three rcode f e
   none_alike x y (no_name soa e t) (no_authority f s n) = zero_or_three rcode f e
   none_alike x y (no_name soa e t) (referral ns f s n) = zero_or_three rcode f e
-  none_alike x y (no_name soa e t) (lame f s n d) = zero_or_three rcode f e
+  none_alike x y (no_name soa e t) (lame f s n d a) = zero_or_three rcode f e
   none_alike x y (no_data soa f s) (no_name other e t) = zero_or_three rcode f e
   none_alike x y (no_data soa f s) (no_data other g t) = ap (λ (o : Option RecordItem). NoData name o (negative_ttl o)) (sym s ∙ t)
   none_alike x y (no_data soa f s) (no_authority g t n) = missing s t
   none_alike x y (no_data soa f s) (referral ns g t n) = missing s t
-  none_alike x y (no_data soa f s) (lame g t n d) = missing s t
+  none_alike x y (no_data soa f s) (lame g t n d a) = missing s t
   none_alike x y (no_authority f s n) (no_name other e t) = zero_or_three rcode f e
   none_alike x y (no_authority f s n) (no_data soa g t) = missing t s
   none_alike x y (no_authority f s n) (no_authority g t m) = refl
-  none_alike x y (no_authority f s n) (referral ns g t d) = two_ways (has_delegation ns d) n
-  none_alike x y (no_authority f s n) (lame g t m d) = two_ways m n
+  none_alike x y (no_authority f s (inl n)) (referral ns g t d) = two_ways (has_delegation ns d) n
+  none_alike x y (no_authority f s (inr w)) (referral ns g t d) = missing d w.1
+  none_alike x y (no_authority f s (inl n)) (lame g t m d a) = two_ways m n
+  none_alike x y (no_authority f s (inr w)) (lame g t m d a) = two_ways w.0 a
   none_alike x y (referral ns f s d) (no_name other e t) = zero_or_three rcode f e
   none_alike x y (referral ns f s d) (no_data soa g t) = missing t s
-  none_alike x y (referral ns f s d) (no_authority g t n) = two_ways (has_delegation ns d) n
+  none_alike x y (referral ns f s d) (no_authority g t (inl n)) = two_ways (has_delegation ns d) n
+  none_alike x y (referral ns f s d) (no_authority g t (inr w)) = missing d w.1
   none_alike x y (referral ns f s d) (referral other g t k) = let same : ns ≡ other = (let e = sym d ∙ k in cc) in ap (λ (r : RecordItem). Referred name r.owner) same
-  none_alike x y (referral ns f s d) (lame g t n k) = missing d k
-  none_alike x y (lame f s n d) (no_name other e t) = zero_or_three rcode f e
-  none_alike x y (lame f s n d) (no_data soa g t) = missing t s
-  none_alike x y (lame f s n d) (no_authority g t m) = two_ways n m
-  none_alike x y (lame f s n d) (referral ns g t k) = missing k d
-  none_alike x y (lame f s n d) (lame g t m k) = refl
+  none_alike x y (referral ns f s d) (lame g t n k a) = missing d k
+  none_alike x y (lame f s n d a) (no_name other e t) = zero_or_three rcode f e
+  none_alike x y (lame f s n d a) (no_data soa g t) = missing t s
+  none_alike x y (lame f s n d a) (no_authority g t (inl m)) = two_ways n m
+  none_alike x y (lame f s n d a) (no_authority g t (inr w)) = two_ways w.0 a
+  none_alike x y (lame f s n d a) (referral ns g t k) = missing k d
+  none_alike x y (lame f s n d a) (lame g t m k c) = refl
 
 module _ (answers authorities : Records) (rcode : ℕ) (zone : Labels) (q : QuestionItem) where
   -- what is said of a DNAME record, if it has a target
@@ -100,7 +105,7 @@ module _ (answers authorities : Records) (rcode : ℕ) (zone : Labels) (q : Ques
   at_alike name ttl x y (dname r target h d t) (none k g n) = missing d g
   at_alike name ttl x y (none h d n) (answer e o) = two_ways o (h e)
   at_alike name ttl x y (none h d n) (dname s other k g u) = missing g d
-  at_alike name ttl x y (none h d n) (none k g m) = none_alike authorities rcode q.class zone name x y n m
+  at_alike name ttl x y (none h d n) (none k g m) = none_alike authorities rcode q.class zone name (not (names_equal name q.name)) x y n m
 
   -- what is said of the end of a chain that leads out of the zone
   abbrev alias_said : Option (Labels × ℕ) → Said

@@ -49,17 +49,17 @@ module _ (authorities : Records) (rcode qclass : ℕ) (zone name : Labels) (insi
   any_soa_within None e = tt
   any_soa_within (Some soa) e = soa_within soa e
 
-  none_within : (x : Said) → SaysNone authorities rcode qclass zone name x → SaysWithin zone x
-  none_within x (no_name soa e s) = (inside, any_soa_within soa s)
-  none_within x (no_data soa e s) = (inside, soa_within soa s)
-  none_within x (no_authority e s n) = (inside, tt)
-  none_within x (referral ns e s d) =
+  none_within : (aliased : Bool) (x : Said) → SaysNone authorities rcode qclass zone name aliased x → SaysWithin zone x
+  none_within aliased x (no_name soa e s) = (inside, any_soa_within soa s)
+  none_within aliased x (no_data soa e s) = (inside, soa_within soa s)
+  none_within aliased x (no_authority e s n) = (inside, tt)
+  none_within aliased x (referral ns e s d) =
       let found = found_passes (is_owned_by_cut qclass zone name) (values (limited ns_layout authorities)) ns d in (
         inside,
         second_of_three (is_within name ns.owner) (is_below ns.owner zone) (asks_for_class qclass ns.class) found.passes,
         first_of_three (is_within name ns.owner) (is_below ns.owner zone) (asks_for_class qclass ns.class) found.passes,
       )
-  none_within x (lame e s n d) = tt
+  none_within aliased x (lame e s n d a) = tt
 
 module _ (answers authorities : Records) (rcode : ℕ) (zone : Labels) (q : QuestionItem) where
   at_within : (name : Labels) (ttl : ℕ) (x : Said) → is_within name zone ≡ true → SaysAt answers authorities rcode zone q name ttl x → SaysWithin zone x
@@ -70,7 +70,7 @@ module _ (answers authorities : Records) (rcode : ℕ) (zone : Labels) (q : Ques
         second_of_three (is_below name r.owner) (is_within r.owner zone) (asks_for_class q.class r.class) found.passes,
         first_of_three (is_below name r.owner) (is_within r.owner zone) (asks_for_class q.class r.class) found.passes,
       )
-  at_within name ttl x inside (none h d n) = none_within authorities rcode q.class zone name inside x n
+  at_within name ttl x inside (none h d n) = none_within authorities rcode q.class zone name inside _ x n
 
   of_within : (x : Said) → SaysOf answers authorities rcode zone q x → SaysWithin zone x
   of_within x (loop c) = tt
@@ -150,12 +150,12 @@ module _ (answers authorities : Records) (rcode : ℕ) (zone : Labels) (q : Ques
   abbrev Is : Type 0
   Is = (section ≡ answers) × IsAnswerTo zone q answers name
 
-  none_answer : (name' : Labels) (x : Said) → SaysNone authorities rcode q.class zone name' x → x ≡ Answered name section ttl → Is
-  none_answer name' x (no_name soa e s) is = absurd (let f = is in cc)
-  none_answer name' x (no_data soa e s) is = absurd (let f = is in cc)
-  none_answer name' x (no_authority e s n) is = absurd (let f = is in cc)
-  none_answer name' x (referral ns e s d) is = absurd (let f = is in cc)
-  none_answer name' x (lame e s n d) is = absurd (let f = is in cc)
+  none_answer : (name' : Labels) (aliased : Bool) (x : Said) → SaysNone authorities rcode q.class zone name' aliased x → x ≡ Answered name section ttl → Is
+  none_answer name' aliased x (no_name soa e s) is = absurd (let f = is in cc)
+  none_answer name' aliased x (no_data soa e s) is = absurd (let f = is in cc)
+  none_answer name' aliased x (no_authority e s n) is = absurd (let f = is in cc)
+  none_answer name' aliased x (referral ns e s d) is = absurd (let f = is in cc)
+  none_answer name' aliased x (lame e s n d a) is = absurd (let f = is in cc)
 
   at_answer : (name' : Labels) (least : ℕ) (x : Said) → LeadsTo zone q.class answers q.name name' → is_within name' zone ≡ true → SaysAt answers authorities rcode zone q name' least x
       → x ≡ Answered name section ttl → Is
@@ -164,7 +164,7 @@ module _ (answers authorities : Records) (rcode : ℕ) (zone : Labels) (q : Ques
       let read : section ≡ answers = (let f = is in cc) in
       (read, subst (λ (n : Labels). IsAnswerTo zone q answers n) same (is_answer zone q answers name' led inside o))
   at_answer name' least x led inside (dname r target h d t) is = absurd (let f = is in cc)
-  at_answer name' least x led inside (none h d n) is = none_answer name' x n is
+  at_answer name' least x led inside (none h d n) is = none_answer name' _ x n is
 
   of_answer : (x : Said) → SaysOf answers authorities rcode zone q x → x ≡ Answered name section ttl → Is
   of_answer x (loop c) is = absurd (let f = is in cc)
@@ -194,18 +194,18 @@ pub answers_are_answers : AnswersAreAnswers
 answers_are_answers b zone q name section ttl asks says = said_answer b zone q name section ttl asks (Answered name section ttl) says refl
 
 -- What is said by the authority section is said of this name.
-none_named : (authorities : Records) (rcode qclass : ℕ) (zone name n : Labels) (x : Said) → SaysNone authorities rcode qclass zone name x → name_said x ≡ Some n → name ≡ n
-none_named authorities rcode qclass zone name n x (no_name soa e s) is = let f = is in cc
-none_named authorities rcode qclass zone name n x (no_data soa e s) is = let f = is in cc
-none_named authorities rcode qclass zone name n x (no_authority e s m) is = let f = is in cc
-none_named authorities rcode qclass zone name n x (referral ns e s d) is = let f = is in cc
-none_named authorities rcode qclass zone name n x (lame e s m d) is = absurd (let f = is in cc)
+none_named : (authorities : Records) (rcode qclass : ℕ) (zone name n : Labels) (aliased : Bool) (x : Said) → SaysNone authorities rcode qclass zone name aliased x → name_said x ≡ Some n → name ≡ n
+none_named authorities rcode qclass zone name n aliased x (no_name soa e s) is = let f = is in cc
+none_named authorities rcode qclass zone name n aliased x (no_data soa e s) is = let f = is in cc
+none_named authorities rcode qclass zone name n aliased x (no_authority e s m) is = let f = is in cc
+none_named authorities rcode qclass zone name n aliased x (referral ns e s d) is = let f = is in cc
+none_named authorities rcode qclass zone name n aliased x (lame e s m d a) is = absurd (let f = is in cc)
 
 module _ (answers authorities : Records) (rcode : ℕ) (zone : Labels) (q : QuestionItem) (n : Labels) where
   at_named : (name : Labels) (ttl : ℕ) (x : Said) → SaysAt answers authorities rcode zone q name ttl x → name_said x ≡ Some n → name ≡ n
   at_named name ttl x (answer e o) is = let f = is in cc
   at_named name ttl x (dname r target h d t) is = let f = is in cc
-  at_named name ttl x (none h d m) is = none_named authorities rcode q.class zone name n x m is
+  at_named name ttl x (none h d m) is = none_named authorities rcode q.class zone name n _ x m is
 
   of_led : (x : Said) → SaysOf answers authorities rcode zone q x → name_said x ≡ Some n → LeadsTo zone q.class answers q.name n
   of_led x (loop c) is = absurd (let f = is in cc)

@@ -2,8 +2,9 @@
 --
 -- `b` is the octets of the reply. Only records whose owners are within the zone say anything, as the server speaks for no other names; any NS record can make it lame, and any malformed
 -- record unreadable.
-use Rattle.std.specs.Prelude.{◌≡◌, ◌⊎◌, ◌<◌, ◌≤◌, ◌==◌, ℕ, false, true, List, take, min, if◌then◌else◌, Option, Some, None}
+use Rattle.std.specs.Prelude.{◌≡◌, ◌⊎◌, ◌<◌, ◌≤◌, ◌==◌, ℕ, Bool, not, false, true, List, take, min, if◌then◌else◌, Option, Some, None}
 use Rattle.dns_name.specs.Names.{Fault, Labels}
+use Rattle.dns_name.specs.NameOrders.{names_equal}
 use Rattle.dns_code.specs.Header.{HeaderFields, fields_in}
 use Rattle.dns_item.specs.Items.{RecordItem}
 use Rattle.dns_item.specs.Questions.{QuestionItem}
@@ -37,22 +38,23 @@ IsNoError rcode = rcode ≡ 0
 abbrev pub IsNameError : ℕ → Type 0
 IsNameError rcode = rcode ≡ 3
 
--- What the authority section says of a name that owns no record asked for, in the classes of the question. The name is within the zone.
-pub data SaysNone (authorities : Records) (rcode qclass : ℕ) (zone name : Labels) : Said → Type 0 where
+-- What the authority section says of a name that owns no record asked for, in the classes of the question. The name is within the zone. `aliased` says whether it isn't the question's own.
+pub data SaysNone (authorities : Records) (rcode qclass : ℕ) (zone name : Labels) (aliased : Bool) : Said → Type 0 where
   -- RFC 2308 section 2.1, types 1 to 4: the RCODE is name error, whatever the authority section has
-  no_name : (soa : Option RecordItem) → IsNameError rcode → soa_for qclass zone authorities name ≡ soa → SaysNone authorities rcode qclass zone name (NoName name soa (negative_ttl soa))
+  no_name : (soa : Option RecordItem) → IsNameError rcode → soa_for qclass zone authorities name ≡ soa → SaysNone authorities rcode qclass zone name aliased (NoName name soa (negative_ttl soa))
   -- RFC 2308 section 2.2, types 1 and 2: an SOA record
   no_data : (soa : RecordItem) → IsNoError rcode → soa_for qclass zone authorities name ≡ Some soa
-      → SaysNone authorities rcode qclass zone name (NoData name (Some soa) (negative_ttl (Some soa)))
-  -- RFC 2308 section 2.2, type 3: no NS records, and no SOA record of a zone that the name is in
-  no_authority : IsNoError rcode → soa_for qclass zone authorities name ≡ None → has_ns qclass authorities ≡ false
-      → SaysNone authorities rcode qclass zone name (NoData name None (negative_ttl None))
+      → SaysNone authorities rcode qclass zone name aliased (NoData name (Some soa) (negative_ttl (Some soa)))
+  -- RFC 2308 section 2.2, type 3: no NS records, and no SOA record of a zone that the name is in. If an alias led to the name, NS records of no zone below it don't count: the server has
+  -- perhaps sent the alias alone (RFC 1034 section 5.3.3, step 4c).
+  no_authority : IsNoError rcode → soa_for qclass zone authorities name ≡ None → (has_ns qclass authorities ≡ false) ⊎ ((aliased ≡ true) × (ns_for qclass zone authorities name ≡ None))
+      → SaysNone authorities rcode qclass zone name aliased (NoData name None (negative_ttl None))
   -- RFC 1034 section 4.3.2, step 3b, and RFC 2308 section 2.2: NS records of a zone below, without an SOA record
   referral : (ns : RecordItem) → IsNoError rcode → soa_for qclass zone authorities name ≡ None → ns_for qclass zone authorities name ≡ Some ns
-      → SaysNone authorities rcode qclass zone name (Referred name ns.owner)
+      → SaysNone authorities rcode qclass zone name aliased (Referred name ns.owner)
   -- RFC 1034 section 5.3.3, step 4: NS records, but no better delegation
-  lame : IsNoError rcode → soa_for qclass zone authorities name ≡ None → has_ns qclass authorities ≡ true → ns_for qclass zone authorities name ≡ None
-      → SaysNone authorities rcode qclass zone name Lame
+  lame : IsNoError rcode → soa_for qclass zone authorities name ≡ None → has_ns qclass authorities ≡ true → ns_for qclass zone authorities name ≡ None → aliased ≡ false
+      → SaysNone authorities rcode qclass zone name aliased Lame
 
 -- What a reply says of the name at the end of the chain, which is within the zone. `ttl` is the least of the aliases that lead to it.
 pub data SaysAt (answers authorities : Records) (rcode : ℕ) (zone : Labels) (q : QuestionItem) (name : Labels) (ttl : ℕ) : Said → Type 0 where
@@ -63,7 +65,8 @@ pub data SaysAt (answers authorities : Records) (rcode : ℕ) (zone : Labels) (q
   dname : (x : RecordItem) (target : Labels) → (IsNoError rcode → owns_asked q answers name ≡ false) → dname_above q.class zone answers name ≡ Some x → target_in x.parts ≡ Some target
       → SaysAt answers authorities rcode zone q name ttl (Redirected name x.owner target (min ttl x.ttl))
   -- neither
-  none : {x : Said} → (IsNoError rcode → owns_asked q answers name ≡ false) → dname_above q.class zone answers name ≡ None → SaysNone authorities rcode q.class zone name x
+  none : {x : Said} → (IsNoError rcode → owns_asked q answers name ≡ false) → dname_above q.class zone answers name ≡ None
+      → SaysNone authorities rcode q.class zone name (not (names_equal name q.name)) x
       → SaysAt answers authorities rcode zone q name ttl x
 
 -- What a reply says of its question.

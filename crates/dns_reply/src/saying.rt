@@ -201,7 +201,10 @@ fn said_at<'a>(
             target: record.data().target(),
             ttl: ttl.min(record.ttl().as_secs()),
         }),
-        None => said_none(authorities, rcode, qclass, zone, name),
+        None => {
+            let aliased = name != *question.qname();
+            said_none(authorities, rcode, qclass, zone, name, aliased)
+        }
     }
 }
 
@@ -218,17 +221,19 @@ fn is_answered(
     rcode == OptRcode::NOERROR && owns_asked(answers, question, name)
 }
 
-/// What the authority section says of a name that owns no record asked for.
+/// What the authority section says of a name that owns no record asked for. `aliased` says whether it
+/// isn't the question's own.
 fn said_none<'a>(
     authorities: RecordSection<'a>,
     rcode: OptRcode,
     qclass: Class,
     zone: &ParsedName<'_>,
     name: ParsedName<'a>,
+    aliased: bool,
 ) -> Reply<'a>
     requires { (rcode ≡ 0) ⊎ (rcode ≡ 3) }
     ensures { SaysNone (records_left authorities.entry) rcode qclass (labels zone.now)
-        (labels name.entry) (said_of result) }
+        (labels name.entry) aliased (said_of result) }
 {
     let soa = first_found::<Soa<ParsedName<'a>>>(authorities, Owner::OfZone, qclass, zone, &name);
     if rcode == OptRcode::NXDOMAIN {
@@ -237,7 +242,7 @@ fn said_none<'a>(
     if soa.is_some() {
         return Reply::NoData(Denial { name, soa });
     }
-    said_by_servers(authorities, qclass, zone, name)
+    said_by_servers(authorities, qclass, zone, name, aliased)
 }
 
 /// What NS records say of a name that owns no record asked for, without an SOA record.
@@ -246,10 +251,11 @@ fn said_by_servers<'a>(
     qclass: Class,
     zone: &ParsedName<'_>,
     name: ParsedName<'a>,
+    aliased: bool,
 ) -> Reply<'a>
     requires { soa_for qclass (labels zone.now) (records_left authorities) (labels name) ≡ None }
     ensures { SaysNone (records_left authorities.entry) 0 qclass (labels zone.now)
-        (labels name.entry) (said_of result) }
+        (labels name.entry) aliased (said_of result) }
 {
     if !has_ns(authorities, qclass, zone, &name) {
         return Reply::NoData(Denial { name, soa: None });
@@ -259,7 +265,12 @@ fn said_by_servers<'a>(
             name,
             cut: *record.owner(),
         }),
-        None => Reply::Unusable(Unusable::Lame),
+        None => {
+            if aliased {
+                return Reply::NoData(Denial { name, soa: None });
+            }
+            Reply::Unusable(Unusable::Lame)
+        }
     }
 }
 

@@ -1,4 +1,4 @@
-use Rattle.std.proofs.Common.{refl, sym}
+use Rattle.std.proofs.Common.{inl, inr, refl, sym}
 use Rattle.std.specs.Prelude.{[], ◌∷◌}
 use Rattle.dns_data.specs.NameData.{nsdname_of}
 use Rattle.dns_item.specs.Record.{record_item}
@@ -8,12 +8,15 @@ use Rattle.dns_reply.specs.Sayings.SaysNone.{no_authority, referral, lame}
 use Rattle.dns_reply.proofs.saying.said_by_servers.Goals as goal
 
 pub returns-then-not-has_ns : goal.returns-then-not-has_ns
-returns-then-not-has_ns c = no_authority refl c.requires (sym c.if-not-has_ns.ensures)
+returns-then-not-has_ns c = no_authority refl c.requires (inl (sym c.if-not-has_ns.ensures))
 
 pub returns-in-Some : goal.returns-in-Some
 returns-in-Some c =
     let ns = record_item labels (λ _. 2) (λ ns. CompressibleName (labels (nsdname_of ns)) ∷ []) c.in-Some.record in
     rw c.owner.ensures (referral ns refl c.requires (sym c.in-Some.ensures))
 
-pub returns-in-None : goal.returns-in-None
-returns-in-None c = lame refl c.requires (sym c.if-not-has_ns.ensures) (sym c.in-None.ensures)
+pub returns-then-aliased : goal.returns-then-aliased
+returns-then-aliased c = no_authority refl c.requires (inr (c.if-aliased.true, sym c.in-None.ensures))
+
+pub returns-else-aliased : goal.returns-else-aliased
+returns-else-aliased c = lame refl c.requires (sym c.if-not-has_ns.ensures) (sym c.in-None.ensures) c.if-aliased.false
