@@ -858,7 +858,8 @@ enum {
 };
 
 /* What a reply says, and of which name. Numbers and lengths that don't belong to its kind are 0. Names are uncompressed octets, for
- * dnsm_name_equal with a record's owner; a length of 0 is no name. */
+ * dnsm_name_equal with a record's owner; a length of 0 is no name. DNSM_REPLY_NO_DATA without an owner, of another name than the
+ * question's, may come of a server that sends the alias alone: ask for the name. */
 typedef struct dnsm_saying {
     uint32_t ttl;       /* for how many seconds it may be cached. Of DNSM_REPLY_ANSWER it is the least TTL of its records and the
                          * aliases, of _NO_DATA and _NO_NAME by the SOA record (RFC 2308 section 5), without which it shouldn't be:

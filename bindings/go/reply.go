@@ -35,7 +35,8 @@ type Reply struct {
 	// Name is the name, of the kinds up to ReplyDNAME.
 	Name []byte
 	// Owner is the owner of the records that say so: the SOA record of ReplyNoData and ReplyNoName if there is one, the NS records of
-	// ReplyReferral, or the DNAME record of ReplyDNAME.
+	// ReplyReferral, or the DNAME record of ReplyDNAME. ReplyNoData without it, of another name than the question's, may come of a
+	// server that sends the alias alone: ask for Name.
 	Owner []byte
 	// Target is that of ReplyDNAME: the name to ask for has it in place of Owner, which is the end of Name.
 	Target []byte

@@ -29,6 +29,8 @@ class Reply(NamedTuple):
     the aliases, or 4294967295 without one. `rcode` is that of `FAILED`, of twelve bits. `name` is there for the kinds up to `DNAME`.
     `owner` is that of the records that say so: the SOA record of `NO_DATA` and `NO_NAME` if there is one, the NS records of `REFERRAL`, or
     the DNAME record of `DNAME`; then `target` is its target. Without them the numbers are 0, and the names None.
+
+    `NO_DATA` without an owner, of another name than the question's, may come of a server that sends the alias alone: ask for `name`.
     """
 
     kind: ReplyKind

@@ -99,7 +99,8 @@ impl Reply {
     }
 
     /// The owner of the records that say so: the SOA record of `NoData` and `NoName` if there is one, the NS records of `Referral`,
-    /// or the DNAME record of `Dname`.
+    /// or the DNAME record of `Dname`. `NoData` without it, of another name than the question's, may come of a server that sends the
+    /// alias alone: ask for the name.
     pub fn owner(&self) -> Option<Name<'_>> {
         name_in(&self.0.owner, self.0.owner_len)
     }
