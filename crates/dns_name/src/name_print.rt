@@ -11,7 +11,7 @@ use crate::name::Name;
 use crate::parsed_name::ParsedName;
 use crate::to_name::ToName;
 use dns_octets::Octets;
-use dns_print::{TextWriter, write_decimal};
+use dns_print::{OctetText, TextWriter, write_decimal, write_octets};
 use std::fmt;
 
 /// Prints an octet of a label in presentation format.
@@ -30,17 +30,28 @@ pub fn write_octet<W: TextWriter>(writer: &mut W, octet: u8) -> fmt::Result
     }
 }
 
+/// Octets of a label in presentation format.
+struct LabelText;
+
+impl OctetText for LabelText {
+    ghost text_of = { octet_text };
+
+    fn is_plain(octet: u8) -> bool {
+        matches!(octet, 0x21..=0x7e) && octet != b'.' && octet != b'\\'
+    }
+
+    fn write_octet<W: TextWriter>(writer: &mut W, octet: u8) -> fmt::Result {
+        write_octet(writer, octet)
+    }
+}
+
 /// Prints a label in presentation format.
-#[tactic(auto, using(dns_print::proofs::theory::Prints::prints, std::proofs::lemmas::Grind::common_steps))]
 pub fn write_label<W: TextWriter>(writer: &mut W, label: Label<'_>) -> fmt::Result
     ensures text { PrintsOnOk W.takes writer.old result (label_text (label_octets label.entry))
         writer.new }
     ensures err { OnErr result W.MayFail }
 {
-    for octet in label.as_slice() {
-        write_octet(writer, *octet)?;
-    }
-    Ok(())
+    write_octets::<LabelText, W>(writer, label.as_slice())
 }
 
 /// Prints the labels separated by dots, and nothing for the root label.

@@ -1,2 +1,3 @@
 -- Lemmas that other crates cite, so a change here affects them too.
+pub mod PlainRuns
 pub mod Prints

@@ -6,9 +6,11 @@
 #![tactic(auto)]
 
 mod octet;
+mod octets;
 mod value;
 mod writer;
 
 pub use octet::{write_decimal, write_hex, write_hex_digit, write_hex_octet};
+pub use octets::{OctetText, write_ascii, write_octets};
 pub use value::{write_ipv4, write_number, write_value};
 pub use writer::TextWriter;

@@ -1,11 +1,13 @@
 //! Octets that are printed in digits.
-ghost use Rattle.std.specs.Prelude.{◌≡◌, ◌<◌, [], ◌∷◌, OnErr};
+ghost use Rattle.std.specs.Prelude.{◌≡◌, ◌<◌, ◌≤◌, [], ◌∷◌, IsAscii, OnErr, length};
 ghost use Rattle.std.specs.Fmt.{digit_glyph};
 ghost use Rattle.std.specs.List.{flat_map};
 ghost use Rattle.dns_print.specs.Digits.{decimal_text, hex_digits};
 ghost use Rattle.dns_print.specs.Printing.{PrintsOnOk};
 
+use crate::octets::write_ascii;
 use crate::writer::TextWriter;
+use arrayvec::ArrayVec;
 use std::fmt;
 
 /// Prints a backslash and the three decimal digits of an octet (RFC 1035 section 5.1).
@@ -14,10 +16,9 @@ pub fn write_decimal<T: TextWriter>(writer: &mut T, octet: u8) -> fmt::Result
     ensures text { PrintsOnOk T.takes writer.old result (decimal_text octet) writer.new }
     ensures err { OnErr result T.MayFail }
 {
-    writer.write_char('\\')?;
-    writer.write_char(char::from(b'0' + octet / 100))?;
-    writer.write_char(char::from(b'0' + octet / 10 % 10))?;
-    writer.write_char(char::from(b'0' + octet % 10))
+    let hundreds = b'0' + octet / 100;
+    let tens = b'0' + octet / 10 % 10;
+    write_ascii(writer, &[b'\\', hundreds, tens, b'0' + octet % 10])
 }
 
 /// The hexadecimal digit of a number.
@@ -55,15 +56,34 @@ pub fn write_hex_octet<T: TextWriter>(writer: &mut T, upper: bool, octet: u8) ->
     write_hex_digit(writer, upper, octet % 16)
 }
 
+/// How many octets are printed as hexadecimal digits at once.
+const BLOCK: usize = 32;
+
+/// The hexadecimal digits of octets.
+fn hex_block(upper: bool, octets: &[u8]) -> ArrayVec<u8, 64>
+    requires { length octets.now ≤ 32 }
+    ensures digits { result.items ≡ flat_map (hex_digits upper) octets.now }
+    ensures ascii { IsAscii result.items }
+{
+    let mut digits = ArrayVec::new();
+    for octet in octets {
+        digits.push(hex_digit(upper, *octet / 16) as u8);
+        digits.push(hex_digit(upper, *octet % 16) as u8);
+    }
+    digits
+}
+
 /// Prints each octet as two hexadecimal digits, in uppercase or lowercase.
-#[tactic(auto, using(crate::proofs::theory::Prints::prints, std::proofs::lemmas::Grind::common_steps))]
 pub fn write_hex<T: TextWriter>(writer: &mut T, upper: bool, octets: &[u8]) -> fmt::Result
     ensures text { PrintsOnOk T.takes writer.old result (flat_map (hex_digits upper) octets.now)
         writer.new }
     ensures err { OnErr result T.MayFail }
 {
-    for octet in octets {
-        write_hex_octet(writer, upper, *octet)?;
+    let mut start = 0;
+    while start < octets.len() {
+        let len = (octets.len() - start).min(BLOCK);
+        write_ascii(writer, &hex_block(upper, &octets[start..start + len]))?;
+        start += len;
     }
     Ok(())
 }

@@ -26,17 +26,18 @@ fn marks_from(types: &[u16], first: u32) -> [bool; 256]
     marks
 }
 
-/// The octet of `count` marks from index `at` on, the first of which has the highest bit.
-fn octet_bits(marks: &[bool; 256], at: usize, count: u8) -> u8
-    requires few { count ≤ 8 }
-    requires within { at + count ≤ 256 }
-    ensures { result ≡ octet_bits (is_marked marks.now) at count }
+/// The octet of 8 marks from index `at` on, the first of which has the highest bit.
+fn octet_bits(marks: &[bool; 256], at: usize) -> u8
+    requires { at + 8 ≤ 256 }
+    ensures { result ≡ octet_bits (is_marked marks.now) at 8 }
 {
-    if count == 0 {
-        return 0;
+    let mut octet = 0;
+    let mut left = 8;
+    while left > 0 {
+        left -= 1;
+        octet = octet / 2 + if marks[at + left] { 128 } else { 0 };
     }
-    let low = octet_bits(marks, at + 1, count - 1) / 2;
-    if marks[at] { 128 + low } else { low }
+    octet
 }
 
 /// Appends `count` octets of the marks from index `at` on.
@@ -49,7 +50,7 @@ pub(crate) fn push_marked(octets: &mut ArrayVec<u8, 32>, marks: &[bool; 256], at
     if count == 0 {
         return;
     }
-    octets.push(octet_bits(marks, at, 8));
+    octets.push(octet_bits(marks, at));
     push_marked(octets, marks, at + 8, count - 1);
 }
 

@@ -4,10 +4,10 @@ ghost use Rattle.std.specs.List.{flat_map};
 ghost use Rattle.dns_name.specs.Names.{with_root};
 ghost use Rattle.dns_name.specs.ParsedName.{label_octets, labels};
 ghost use Rattle.dns_print.specs.Printing.{PrintsOnOk};
-ghost use Rattle.fields_plain.specs.ZoneNames.{dotted_label, means_something, zone_label_text, zone_name_text, zone_octet_text};
+ghost use Rattle.fields_plain.specs.ZoneNames.{dotted_label, means_something, zone_name_text, zone_octet_text};
 
 use dns_name::{Label, ParsedName};
-use dns_print::{TextWriter, write_decimal};
+use dns_print::{OctetText, TextWriter, write_decimal, write_octets};
 use std::fmt;
 
 /// A name that prints as in a zone file: a dot follows each label, and the root is a single dot.
@@ -40,15 +40,19 @@ fn write_octet<W: TextWriter>(f: &mut W, octet: u8) -> fmt::Result
     }
 }
 
-#[tactic(auto, using(dns_print::proofs::theory::Prints::prints, std::proofs::lemmas::Grind::common_steps))]
-fn write_octets<W: TextWriter>(f: &mut W, octets: &[u8]) -> fmt::Result
-    ensures text { PrintsOnOk W.takes f.old result (zone_label_text octets.now) f.new }
-    ensures err { OnErr result W.MayFail }
-{
-    for octet in octets {
-        write_octet(f, *octet)?;
+/// Octets of a label in a zone file.
+struct ZoneLabelText;
+
+impl OctetText for ZoneLabelText {
+    ghost text_of = { zone_octet_text };
+
+    fn is_plain(octet: u8) -> bool {
+        matches!(octet, 0x21..=0x7e) && !means_something(octet)
     }
-    Ok(())
+
+    fn write_octet<W: TextWriter>(f: &mut W, octet: u8) -> fmt::Result {
+        write_octet(f, octet)
+    }
 }
 
 /// Prints a label and a dot, and nothing for the root label.
@@ -60,7 +64,7 @@ fn write_dotted<W: TextWriter>(f: &mut W, label: Label<'_>) -> fmt::Result
     if label.is_root() {
         return Ok(());
     }
-    write_octets(f, label.as_slice())?;
+    write_octets::<ZoneLabelText, W>(f, label.as_slice())?;
     f.write_text(".")
 }
 

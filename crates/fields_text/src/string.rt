@@ -5,7 +5,7 @@ ghost use Rattle.std.specs.List.{flat_map, list_all};
 ghost use Rattle.dns_print.specs.Printing.{PrintsOnOk};
 ghost use Rattle.fields_text.specs.String.{is_tag, quoted, string_octet};
 
-use dns_print::{TextWriter, write_decimal};
+use dns_print::{OctetText, TextWriter, write_ascii, write_decimal, write_octets};
 use std::fmt;
 
 /// Octets that print in quotes. A backslash precedes a quote or a backslash. An octet that is neither
@@ -29,16 +29,19 @@ fn write_octet<W: TextWriter>(f: &mut W, octet: u8) -> fmt::Result
     }
 }
 
-/// Prints octets as they stand between quotes.
-#[tactic(auto, using(dns_print::proofs::theory::Prints::prints, std::proofs::lemmas::Grind::common_steps))]
-fn write_octets<W: TextWriter>(f: &mut W, octets: &[u8]) -> fmt::Result
-    ensures text { PrintsOnOk W.takes f.old result (flat_map string_octet octets.now) f.new }
-    ensures err { OnErr result W.MayFail }
-{
-    for octet in octets {
-        write_octet(f, *octet)?;
+/// Octets between quotes.
+struct StringText;
+
+impl OctetText for StringText {
+    ghost text_of = { string_octet };
+
+    fn is_plain(octet: u8) -> bool {
+        matches!(octet, 0x20..=0x7e) && octet != b'"' && octet != b'\\'
     }
-    Ok(())
+
+    fn write_octet<W: TextWriter>(f: &mut W, octet: u8) -> fmt::Result {
+        write_octet(f, octet)
+    }
 }
 
 /// Prints octets in quotes, with escapes (RFC 1035 section 5.1).
@@ -48,7 +51,7 @@ pub fn write_quoted<W: TextWriter>(f: &mut W, octets: &[u8]) -> fmt::Result
     ensures err { OnErr result W.MayFail }
 {
     f.write_text("\"")?;
-    write_octets(f, octets)?;
+    write_octets::<StringText, W>(f, octets)?;
     f.write_text("\"")
 }
 
@@ -103,19 +106,6 @@ impl<'a> Tag<'a> {
             None
         }
     }
-}
-
-/// Prints letters and digits.
-#[tactic(auto, using(dns_print::proofs::theory::Prints::prints, std::proofs::lemmas::Grind::common_steps))]
-fn write_ascii<W: TextWriter>(f: &mut W, octets: &[u8]) -> fmt::Result
-    requires { list_all is_ascii_alphanumeric octets.now ≡ true }
-    ensures text { PrintsOnOk W.takes f.old result octets.now f.new }
-    ensures err { OnErr result W.MayFail }
-{
-    for octet in octets {
-        f.write_char(char::from(*octet))?;
-    }
-    Ok(())
 }
 
 impl Tag<'_> {

@@ -1,0 +1,10 @@
+use Rattle.std.proofs.Common.{length, take, ◌-◌, ◌≤◌}
+use Rattle.std.specs.Fmt.{WritesInCalls}
+use Rattle.std.specs.List.{flat_map}
+use Rattle.dns_print.proofs.octets.write_octets.Given as goal
+
+abbrev pub invariant-loop-start : goal.invariant-loop-start
+invariant-loop-start g l = (l.start ≤ length l.octets) × WritesInCalls g.T.TextWriter.takes l.fn.writer (flat_map g.O.OctetText.text_of (take l.start l.octets)) l.writer
+
+abbrev pub decreases-loop-start : goal.decreases-loop-start
+decreases-loop-start g l = length l.octets - l.start

@@ -1,8 +1,0 @@
-use Rattle.std.proofs.Common.{take}
-use Rattle.std.specs.Fmt.{WritesInCalls}
-use Rattle.std.specs.List.{flat_map}
-use Rattle.fields_text.specs.String.{string_octet}
-use Rattle.fields_text.proofs.string.write_octets.Given as goal
-
-abbrev pub invariant-loop-octet : goal.invariant-loop-octet
-invariant-loop-octet g l = WritesInCalls g.W.TextWriter.takes l.fn.f (flat_map string_octet (take l.octet-index l.octets)) l.f
