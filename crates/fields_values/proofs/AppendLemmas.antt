@@ -37,6 +37,9 @@ taken_by kind (forms.Number size) (values.Types types) part is = absurd is.2
 taken_by kind forms.RecordType (values.Types types) part is = absurd is.2
 taken_by kind forms.Ipv4 (values.Types types) part is = absurd is.2
 taken_by kind forms.Ipv6 (values.Types types) part is = absurd is.2
+taken_by kind forms.Eui48 (values.Types types) part is = absurd is.2
+taken_by kind forms.Eui64 (values.Types types) part is = absurd is.2
+taken_by kind forms.Locator64 (values.Types types) part is = absurd is.2
 taken_by kind forms.Name (values.Types types) part is = absurd is.2
 taken_by kind forms.Counted (values.Types types) part is = absurd is.2
 taken_by kind forms.Sized (values.Types types) part is = absurd is.2
@@ -89,14 +92,18 @@ name_octets (UncompressedName pointers lowers) name = refl
 name_octets _ name = refl
 
 -- octets as they are
-pub plain_appended : (kind : Kind) (found form : Form) (more : Bor (List ℕ)) (old new : List ℕ) (result : Result Unit Refusal) → found ≡ form → found ≡ value_form kind → takes form (Plain more) ≡ true
-    → ((part : Part) → IsPartIn kind form (Plain more) part → (octets : List ℕ) × (part ≡ OctetsPart octets) × IsEncodedAs kind form (Plain more) octets)
-    → ((octets : List ℕ) → IsEncodedAs kind form (Plain more) octets → IsPartIn kind form (Plain more) (OctetsPart octets))
-    → IsEncodedAs kind form (Plain more) more.now
-    → OnOk result (new ≡ old ++ more.now) → IfErr result (λ refusal. refusal ≡ OutOfMemory) → AppendsValue kind (Plain more) old new result
-plain_appended kind found form more old new result shape known taken out into is ok err =
-    of_kind kind found form (Plain more) (Plain more) old new result refl shape known
-    (octets_appended kind form (Plain more) taken out into old new result (appends_octets (IsEncodedAs kind form (Plain more)) more.now old new result is ok err))
+module _ (kind : Kind) (found form : Form) (more : Bor (List ℕ)) (old new : List ℕ) (result : Result Unit Refusal) (shape : found ≡ form) (known : found ≡ value_form kind)
+    (taken : takes form (Plain more) ≡ true)
+    (out : (part : Part) → IsPartIn kind form (Plain more) part → (octets : List ℕ) × (part ≡ OctetsPart octets) × IsEncodedAs kind form (Plain more) octets)
+    (into : (octets : List ℕ) → IsEncodedAs kind form (Plain more) octets → IsPartIn kind form (Plain more) (OctetsPart octets)) where
+  -- What appends given octets, or says why they aren't a field, does so for the field.
+  pub given_appended : Appends (IsEncodedAs kind form (Plain more)) old new result → AppendsValue kind (Plain more) old new result
+  given_appended a =
+      of_kind kind found form (Plain more) (Plain more) old new result refl shape known (octets_appended kind form (Plain more) taken out into old new result a)
+
+  pub plain_appended : IsEncodedAs kind form (Plain more) more.now → OnOk result (new ≡ old ++ more.now) → IfErr result (λ refusal. refusal ≡ OutOfMemory)
+      → AppendsValue kind (Plain more) old new result
+  plain_appended is ok err = given_appended (appends_octets (IsEncodedAs kind form (Plain more)) more.now old new result is ok err)
 
 -- a list whose length isn't zero
 pub not_empty : {A : Type 0} (xs : List A) (b : Bool) → b ≡ (length xs == 0) → b ≡ false → xs ≢ []

@@ -130,10 +130,10 @@ all_octets_taken kinds.Seconds xs v octets sized bytes shown = number_taken kind
 all_octets_taken kinds.Time xs v octets sized bytes shown = number_taken kinds.Time 4 xs v sized bytes shown
 all_octets_taken kinds.Ipv4 xs v octets sized bytes shown = ipv4_taken xs v sized shown
 all_octets_taken kinds.Ipv6 xs v octets sized bytes shown = ipv6_taken xs v sized shown
-all_octets_taken kinds.Eui48 xs v octets sized bytes shown = octets_taken kinds.Eui48 (forms.Fixed 6) xs v (λ given same. (xs, refl, (subst (λ (ys : List ℕ). length ys ≡ 6) same sized, same))) shown
-all_octets_taken kinds.Eui64 xs v octets sized bytes shown = octets_taken kinds.Eui64 (forms.Fixed 8) xs v (λ given same. (xs, refl, (subst (λ (ys : List ℕ). length ys ≡ 8) same sized, same))) shown
+all_octets_taken kinds.Eui48 xs v octets sized bytes shown = octets_taken kinds.Eui48 forms.Eui48 xs v (λ given same. (xs, refl, (subst (λ (ys : List ℕ). length ys ≡ 6) same sized, same))) shown
+all_octets_taken kinds.Eui64 xs v octets sized bytes shown = octets_taken kinds.Eui64 forms.Eui64 xs v (λ given same. (xs, refl, (subst (λ (ys : List ℕ). length ys ≡ 8) same sized, same))) shown
 all_octets_taken kinds.Locator64 xs v octets sized bytes shown =
-    octets_taken kinds.Locator64 (forms.Fixed 8) xs v (λ given same. (xs, refl, (subst (λ (ys : List ℕ). length ys ≡ 8) same sized, same))) shown
+    octets_taken kinds.Locator64 forms.Locator64 xs v (λ given same. (xs, refl, (subst (λ (ys : List ℕ). length ys ≡ 8) same sized, same))) shown
 all_octets_taken kinds.RecordType xs v octets sized bytes shown = type_taken xs v sized bytes shown
 all_octets_taken kinds.CharacterString xs v octets sized bytes shown = string_taken kinds.CharacterString xs v sized bytes shown
 all_octets_taken kinds.Tag xs v octets sized bytes shown = string_taken kinds.Tag xs v sized bytes shown

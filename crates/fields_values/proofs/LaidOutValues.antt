@@ -108,6 +108,21 @@ ipv6_size kind (values.Ipv6 address) octets is = ap (λ (xs : List ℕ). length 
 ipv6_size kind (values.Octets given) octets is = absurd is.0
 ipv6_size kind _ octets is = absurd is
 
+eui48_size : (kind : Kind) (value : NewValue) (octets : List ℕ) → IsEncodedAs kind forms.Eui48 value octets → length octets ≡ 6
+eui48_size kind (values.Eui48 address) octets is = ap (λ (xs : List ℕ). length xs) is.1 ∙ is.0
+eui48_size kind (values.Octets given) octets is = ap (λ (xs : List ℕ). length xs) is.1 ∙ is.0
+eui48_size kind _ octets is = absurd is
+
+eui64_size : (kind : Kind) (value : NewValue) (octets : List ℕ) → IsEncodedAs kind forms.Eui64 value octets → length octets ≡ 8
+eui64_size kind (values.Eui64 address) octets is = ap (λ (xs : List ℕ). length xs) is.1 ∙ is.0
+eui64_size kind (values.Octets given) octets is = ap (λ (xs : List ℕ). length xs) is.1 ∙ is.0
+eui64_size kind _ octets is = absurd is
+
+locator_size : (kind : Kind) (value : NewValue) (octets : List ℕ) → IsEncodedAs kind forms.Locator64 value octets → length octets ≡ 8
+locator_size kind (values.Locator64 locator) octets is = ap (λ (xs : List ℕ). length xs) is.1 ∙ is.0
+locator_size kind (values.Octets given) octets is = ap (λ (xs : List ℕ). length xs) is.1 ∙ is.0
+locator_size kind _ octets is = absurd is
+
 plain_size : (kind : Kind) (n : ℕ) (value : NewValue) (octets : List ℕ) → IsEncodedAs kind (forms.Fixed n) value octets → length octets ≡ n
 plain_size kind n (values.Octets given) octets is = ap (λ (xs : List ℕ). length xs) is.1 ∙ is.0
 plain_size kind n _ octets is = absurd is
@@ -196,9 +211,9 @@ module _ (others : Layout) (rest : List Part) (after : IsLaidOut others rest) wh
   field_laid kinds.Time value part is last = fixed_laid 4 is.0 part is.1 (number_size kinds.Time 4 value is.0 is.2)
   field_laid kinds.Ipv4 value part is last = fixed_laid 4 is.0 part is.1 (ipv4_size kinds.Ipv4 value is.0 is.2)
   field_laid kinds.Ipv6 value part is last = fixed_laid 16 is.0 part is.1 (ipv6_size kinds.Ipv6 value is.0 is.2)
-  field_laid kinds.Eui48 value part is last = fixed_laid 6 is.0 part is.1 (plain_size kinds.Eui48 6 value is.0 is.2)
-  field_laid kinds.Eui64 value part is last = fixed_laid 8 is.0 part is.1 (plain_size kinds.Eui64 8 value is.0 is.2)
-  field_laid kinds.Locator64 value part is last = fixed_laid 8 is.0 part is.1 (plain_size kinds.Locator64 8 value is.0 is.2)
+  field_laid kinds.Eui48 value part is last = fixed_laid 6 is.0 part is.1 (eui48_size kinds.Eui48 value is.0 is.2)
+  field_laid kinds.Eui64 value part is last = fixed_laid 8 is.0 part is.1 (eui64_size kinds.Eui64 value is.0 is.2)
+  field_laid kinds.Locator64 value part is last = fixed_laid 8 is.0 part is.1 (locator_size kinds.Locator64 value is.0 is.2)
   field_laid kinds.RecordType value part is last = fixed_laid 2 is.0 part is.1 (type_size kinds.RecordType value is.0 is.2)
   field_laid kinds.CompressibleName value part is last = compressible_laid value part is
   field_laid kinds.PointedName value part is last = uncompressed_laid kinds.PointedName true true value part refl is

@@ -118,6 +118,21 @@ name_read kind _ part is = absurd is.2
 plain_read : (kind : Kind) (given octets : List ℕ) (part : Part) → ((xs : List ℕ) → octets_value kind xs ≡ Octets xs) → part ≡ OctetsPart octets → octets ≡ given → part_value kind part ≡ Octets given
 plain_read kind given octets part own e is = ap (λ (p : Part). part_value kind p) e ∙ own octets ∙ ap (λ (xs : List ℕ). Octets xs) is
 
+eui48_read : (value : NewValue) (part : Part) → IsPartIn kinds.Eui48 forms.Eui48 value part → ReadsBack value (part_value kinds.Eui48 part)
+eui48_read (values.Eui48 address) part (octets, e, (n, is)) = plain_read kinds.Eui48 address octets part (λ xs. refl) e is
+eui48_read (values.Octets given) part (octets, e, (n, is)) = plain_read kinds.Eui48 given.now octets part (λ xs. refl) e is
+eui48_read _ part is = absurd is.2
+
+eui64_read : (value : NewValue) (part : Part) → IsPartIn kinds.Eui64 forms.Eui64 value part → ReadsBack value (part_value kinds.Eui64 part)
+eui64_read (values.Eui64 address) part (octets, e, (n, is)) = plain_read kinds.Eui64 address octets part (λ xs. refl) e is
+eui64_read (values.Octets given) part (octets, e, (n, is)) = plain_read kinds.Eui64 given.now octets part (λ xs. refl) e is
+eui64_read _ part is = absurd is.2
+
+locator_read : (value : NewValue) (part : Part) → IsPartIn kinds.Locator64 forms.Locator64 value part → ReadsBack value (part_value kinds.Locator64 part)
+locator_read (values.Locator64 locator) part (octets, e, (n, is)) = plain_read kinds.Locator64 locator octets part (λ xs. refl) e is
+locator_read (values.Octets given) part (octets, e, (n, is)) = plain_read kinds.Locator64 given.now octets part (λ xs. refl) e is
+locator_read _ part is = absurd is.2
+
 fixed_read : (kind : Kind) (size : ℕ) (value : NewValue) (part : Part) → ((xs : List ℕ) → octets_value kind xs ≡ Octets xs)
     → IsPartIn kind (forms.Fixed size) value part → ReadsBack value (part_value kind part)
 fixed_read kind size (values.Octets given) part own (octets, e, (n, is)) = plain_read kind given.now octets part own e is
@@ -160,9 +175,9 @@ value_read kinds.Time value part is = number_read kinds.Time 4 value part (λ xs
 value_read kinds.Ipv4 value part is = ipv4_read value part is
 value_read kinds.Ipv6 value part is = ipv6_read value part is
 value_read kinds.RecordType value part is = type_read value part is
-value_read kinds.Eui48 value part is = fixed_read kinds.Eui48 6 value part (λ xs. refl) is
-value_read kinds.Eui64 value part is = fixed_read kinds.Eui64 8 value part (λ xs. refl) is
-value_read kinds.Locator64 value part is = fixed_read kinds.Locator64 8 value part (λ xs. refl) is
+value_read kinds.Eui48 value part is = eui48_read value part is
+value_read kinds.Eui64 value part is = eui64_read value part is
+value_read kinds.Locator64 value part is = locator_read value part is
 value_read kinds.Location value part is = fixed_read kinds.Location 16 value part (λ xs. refl) is
 value_read kinds.CompressibleName value part is = name_read kinds.CompressibleName value part is
 value_read kinds.PointedName value part is = name_read kinds.PointedName value part is

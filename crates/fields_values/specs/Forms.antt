@@ -2,7 +2,7 @@
 use Rattle.fields_table.specs.declared.kind.Kind.{Kind}
 use Rattle.fields_table.specs.declared.kind.Kind.TheVariants as kinds
 use Rattle.fields_values.specs.declared.form.Form.{Form}
-use Rattle.fields_values.specs.declared.form.Form.TheVariants.{Number, RecordType, Ipv4, Ipv6, Name, Counted, Sized, Fixed, Strings, Types, Parameters, Prefixes, Rest}
+use Rattle.fields_values.specs.declared.form.Form.TheVariants.{Number, RecordType, Ipv4, Ipv6, Eui48, Eui64, Locator64, Name, Counted, Sized, Fixed, Strings, Types, Parameters, Prefixes, Rest}
 
 abbrev pub value_form : Kind → Form
 value_form kinds.Number8 = Number 1
@@ -16,6 +16,9 @@ value_form kinds.SyncScheme = Number 1
 value_form kinds.RecordType = RecordType
 value_form kinds.Ipv4 = Ipv4
 value_form kinds.Ipv6 = Ipv6
+value_form kinds.Eui48 = Eui48
+value_form kinds.Eui64 = Eui64
+value_form kinds.Locator64 = Locator64
 value_form kinds.CompressibleName = Name
 value_form kinds.PointedName = Name
 value_form kinds.LowercasedName = Name
@@ -25,9 +28,6 @@ value_form kinds.Tag = Counted
 value_form kinds.Salt = Counted
 value_form kinds.Hash = Counted
 value_form kinds.SizedOctets = Sized
-value_form kinds.Eui48 = Fixed 6
-value_form kinds.Eui64 = Fixed 8
-value_form kinds.Locator64 = Fixed 8
 value_form kinds.Location = Fixed 16
 value_form kinds.Strings = Strings
 value_form kinds.TypeBitMap = Types

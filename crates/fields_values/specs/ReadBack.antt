@@ -16,12 +16,15 @@ use Rattle.fields_values.specs.declared.new_value.NewValue.TheVariants as values
 abbrev pub IsList : (List ℕ → Type 0) → FieldValue → Type 0
 IsList Is read = (octets : List ℕ) × (read ≡ Octets octets) × Is octets
 
--- the value is read, or the octets of a list, whose items are those of the value
+-- the value is read; or the octets of an address or a locator; or of a list, whose items are those of the value
 abbrev pub ReadsBack : NewValue → FieldValue → Type 0
 ReadsBack (values.Number n) read = read ≡ Number n
 ReadsBack (values.RecordType rtype) read = read ≡ RecordType rtype
 ReadsBack (values.Ipv4 address) read = read ≡ Ipv4 address
 ReadsBack (values.Ipv6 address) read = read ≡ Ipv6 address
+ReadsBack (values.Eui48 address) read = read ≡ Octets address
+ReadsBack (values.Eui64 address) read = read ≡ Octets address
+ReadsBack (values.Locator64 locator) read = read ≡ Octets locator
 ReadsBack (values.Name name) read = read ≡ Name (labels name)
 ReadsBack (values.String string) read = read ≡ String string.now
 ReadsBack (values.Sized octets) read = read ≡ Sized octets.now

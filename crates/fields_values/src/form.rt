@@ -15,6 +15,12 @@ pub(crate) enum Form {
     Ipv4,
     /// An IPv6 address.
     Ipv6,
+    /// A 48-bit address.
+    Eui48,
+    /// A 64-bit address.
+    Eui64,
+    /// A locator of 64 bits.
+    Locator64,
     /// A name.
     Name,
     /// At most 255 octets, after a length octet.
@@ -48,13 +54,14 @@ pub(crate) fn value_form(kind: Kind) -> Form
         Kind::RecordType => Form::RecordType,
         Kind::Ipv4 => Form::Ipv4,
         Kind::Ipv6 => Form::Ipv6,
+        Kind::Eui48 => Form::Eui48,
+        Kind::Eui64 => Form::Eui64,
+        Kind::Locator64 => Form::Locator64,
         Kind::CompressibleName | Kind::PointedName | Kind::LowercasedName | Kind::PlainName => {
             Form::Name
         }
         Kind::CharacterString | Kind::Tag | Kind::Salt | Kind::Hash => Form::Counted,
         Kind::SizedOctets => Form::Sized,
-        Kind::Eui48 => Form::Fixed(6),
-        Kind::Eui64 | Kind::Locator64 => Form::Fixed(8),
         Kind::Location => Form::Fixed(16),
         Kind::Strings => Form::Strings,
         Kind::TypeBitMap => Form::Types,

@@ -19,6 +19,12 @@ pub enum NewValue<'a> {
     Ipv4([u8; 4]),
     /// An IPv6 address.
     Ipv6([u8; 16]),
+    /// A 48-bit address (RFC 7043 section 3).
+    Eui48([u8; 6]),
+    /// A 64-bit address (RFC 7043 section 4).
+    Eui64([u8; 8]),
+    /// A locator of 64 bits, of an L64 or NID record (RFC 6742 sections 2.1 and 2.3).
+    Locator64([u8; 8]),
     /// A name, as `ToName::as_parsed` returns it.
     Name(ParsedName<'a>),
     /// At most 255 octets, without their length octet: a character string, a tag, a salt or a hash.
@@ -33,8 +39,8 @@ pub enum NewValue<'a> {
     Parameters(&'a [(u16, &'a [u8])]),
     /// Address prefixes, whose addresses have at most 127 octets.
     Prefixes(&'a [AddressPrefix<'a>]),
-    /// The octets of a field of any other kind, or of a list, as `fields_table::Value::Octets` shows
-    /// them.
+    /// The octets of a field of any other kind, of a list, of a 48-bit or 64-bit address, or of a
+    /// locator, as `fields_table::Value::Octets` shows them.
     Octets(&'a [u8]),
 }
 

@@ -1,7 +1,7 @@
 //! Values of fields as octets.
 ghost use Rattle.std.specs.Prelude.{◌≡◌, ◌↔◌, ◌<◌, ◌^◌, IsTrue, length};
 ghost use Rattle.fields_values.specs.Appending.{Appends, AppendsValue};
-ghost use Rattle.fields_values.specs.declared.new_value.NewValue.TheVariants.{Number, RecordType, Ipv4, Ipv6, Name, String, Sized, Strings, Types, Parameters, Prefixes, Octets};
+ghost use Rattle.fields_values.specs.declared.new_value.NewValue.TheVariants.{Number, RecordType, Ipv4, Ipv6, Eui48, Eui64, Locator64, Name, String, Sized, Strings, Types, Parameters, Prefixes, Octets};
 
 use crate::form::{Form, value_form};
 use crate::lists::{
@@ -45,12 +45,10 @@ fn push_plain(octets: &mut Vec<u8>, kind: Kind, more: &[u8]) -> Result<(), Refus
     ensures { AppendsValue kind (Octets more.entry) octets.old.items octets.new.items result }
 {
     match value_form(kind) {
-        Form::Fixed(size) => {
-            if more.len() != size {
-                return Err(Refusal::OutOfRange);
-            }
-            push(octets, more)
-        }
+        Form::Eui48 => push_address(octets, more, 6),
+        Form::Eui64 => push_address(octets, more, 8),
+        Form::Locator64 => push_address(octets, more, 8),
+        Form::Fixed(size) => push_address(octets, more, size),
         Form::Strings | Form::Types | Form::Parameters | Form::Prefixes | Form::Rest => {
             if !kind.accepts(more) {
                 return Err(Refusal::OutOfRange);
@@ -102,6 +100,36 @@ fn push_ipv6(octets: &mut Vec<u8>, kind: Kind, address: &[u8; 16]) -> Result<(),
 {
     match value_form(kind) {
         Form::Ipv6 => push_address(octets, address, 16),
+        _ => Err(Refusal::WrongKind),
+    }
+}
+
+/// Appends a 48-bit address.
+fn push_eui48(octets: &mut Vec<u8>, kind: Kind, address: &[u8; 6]) -> Result<(), Refusal>
+    ensures { AppendsValue kind (Eui48 address.now) octets.old.items octets.new.items result }
+{
+    match value_form(kind) {
+        Form::Eui48 => push_address(octets, address, 6),
+        _ => Err(Refusal::WrongKind),
+    }
+}
+
+/// Appends a 64-bit address.
+fn push_eui64(octets: &mut Vec<u8>, kind: Kind, address: &[u8; 8]) -> Result<(), Refusal>
+    ensures { AppendsValue kind (Eui64 address.now) octets.old.items octets.new.items result }
+{
+    match value_form(kind) {
+        Form::Eui64 => push_address(octets, address, 8),
+        _ => Err(Refusal::WrongKind),
+    }
+}
+
+/// Appends a locator.
+fn push_locator(octets: &mut Vec<u8>, kind: Kind, locator: &[u8; 8]) -> Result<(), Refusal>
+    ensures { AppendsValue kind (Locator64 locator.now) octets.old.items octets.new.items result }
+{
+    match value_form(kind) {
+        Form::Locator64 => push_address(octets, locator, 8),
         _ => Err(Refusal::WrongKind),
     }
 }
@@ -205,6 +233,9 @@ pub(crate) fn push_value(
         NewValue::RecordType(rtype) => push_rtype(octets, kind, *rtype),
         NewValue::Ipv4(address) => push_ipv4(octets, kind, address),
         NewValue::Ipv6(address) => push_ipv6(octets, kind, address),
+        NewValue::Eui48(address) => push_eui48(octets, kind, address),
+        NewValue::Eui64(address) => push_eui64(octets, kind, address),
+        NewValue::Locator64(locator) => push_locator(octets, kind, locator),
         NewValue::Name(name) => push_name(octets, kind, name),
         NewValue::String(string) => push_string(octets, kind, string),
         NewValue::Sized(more) => push_sized_octets(octets, kind, more),
