@@ -4,6 +4,7 @@ use crate::key::Key;
 use dns_code::Rtype;
 use dns_data::{ComposeRecordData, ParseAnyRecordData};
 use dns_wire::{AppendError, ParseError, Parser};
+use fields_checks::check_values;
 use fields_records::{DataText, from_text};
 use fields_table::FieldData;
 use std::alloc::{AllocError, Global};
@@ -132,6 +133,17 @@ impl Case {
         match FieldData::parse_any_rdata(self.rtype, &mut parser) {
             Ok(_) => String::from_str(alloc, "no error"),
             Err(_) if parser.pos() != self.start => String::from_str(alloc, "the parser moved"),
+            Err(error) => error.to_string(alloc),
+        }
+    }
+
+    /// The index of the field whose value an RFC rules out, and why; or why the RDATA can't be read.
+    pub(crate) fn checked(&self, alloc: Global) -> Result<String, AllocError> {
+        match self.data() {
+            Ok(data) => match check_values(&data) {
+                Ok(()) => String::from_str(alloc, "right"),
+                Err(fault) => format!(in alloc; "{} {}", fault.field, fault.reason),
+            },
             Err(error) => error.to_string(alloc),
         }
     }

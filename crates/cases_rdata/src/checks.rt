@@ -172,11 +172,14 @@ fn wanted(
         Key::AsItWas | Key::Reads | Key::Question => hex::encode(alloc, case.rdata()),
         Key::Written | Key::Canonical => hex::encode(alloc, octets),
         Key::Made | Key::PrintText => case.written(alloc),
-        Key::ReadsRecord => case.record_digits(alloc),
+        Key::ReadsRecord | Key::ZoneLine => case.record_digits(alloc),
         Key::Order | Key::CanonicalOrder | Key::RecordOrder | Key::CanonicalRecordOrder => {
             String::from_str(alloc, key_of(text).0)
         }
-        Key::NoQuestion => String::from_str(alloc, error_and_text(text).0),
+        Key::NoQuestion | Key::NoZoneLine | Key::NoBareLine => String::from_str(
+            alloc,
+            error_and_text(text).0,
+        ),
         Key::Option => match option_parts(text) {
             Some((_, _, wanted)) => String::from_str(alloc, wanted),
             None => String::from_str(alloc, "no option"),

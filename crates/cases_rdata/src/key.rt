@@ -19,6 +19,7 @@ pub(crate) enum Key {
     Written,
     Canonical,
     Error,
+    Checked,
     Text,
     PrintText,
     Reads,
@@ -29,6 +30,9 @@ pub(crate) enum Key {
     Record,
     ReadsRecord,
     RefusesRecord,
+    ZoneLine,
+    NoZoneLine,
+    NoBareLine,
     RecordOrder,
     CanonicalRecordOrder,
     Words,
@@ -66,6 +70,7 @@ const ROWS: &[Row] = &[
     ("written", Key::Written, Form::Digits),
     ("canonical", Key::Canonical, Form::Digits),
     ("error", Key::Error, Form::Text),
+    ("checked", Key::Checked, Form::Text),
     ("text", Key::Text, Form::Text),
     ("print-text", Key::PrintText, Form::Text),
     ("reads", Key::Reads, Form::Text),
@@ -77,6 +82,9 @@ const ROWS: &[Row] = &[
     ("canonical-order", Key::CanonicalOrder, Form::WordAndDigits),
     ("record", Key::Record, Form::Text),
     ("refuses-record", Key::RefusesRecord, Form::Text),
+    ("zone-line", Key::ZoneLine, Form::Text),
+    ("no-zone-line", Key::NoZoneLine, Form::Text),
+    ("no-bare-line", Key::NoBareLine, Form::Text),
     ("record-order", Key::RecordOrder, Form::WordAndDigits),
     (
         "canonical-record-order",
@@ -115,6 +123,8 @@ pub(crate) fn needs_no_type(key: Key) -> bool {
             | Key::ManyWords
             | Key::Question
             | Key::NoQuestion
+            | Key::NoZoneLine
+            | Key::NoBareLine
             | Key::PrintsQuestion
             | Key::PrintRewritten
             | Key::Option
@@ -133,6 +143,7 @@ pub(crate) fn label_of<'a>(key: Key, word: &'a str, line: &'a str) -> &'a str {
         | Key::Written
         | Key::Canonical
         | Key::Error
+        | Key::Checked
         | Key::Text
         | Key::PrintText
         | Key::Record

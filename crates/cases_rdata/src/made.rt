@@ -3,7 +3,7 @@ use crate::case::{Case, digits_written};
 use crate::named::made_of;
 use dns_data::{ComposeRecordData, RecordData};
 use dns_wire::{AppendError, FlattenInto, OctetsFrom};
-use fields_table::{FieldData, Fields, OwnedFieldData, fields_of};
+use fields_table::{FieldData, Fields, Kind, OwnedFieldData, Value, fields_of};
 use fields_values::NewValue;
 use std::alloc::{AllocError, Global};
 
@@ -49,8 +49,30 @@ fn made_again(alloc: Global, data: &FieldData<'_>) -> Result<String, AllocError>
 /// The value of the next field, as it takes it. Zero if there is none.
 fn next_value<'a>(fields: &mut Fields<'a>) -> NewValue<'a> {
     match fields.next() {
-        Some(field) => NewValue::from(&field.value()),
+        Some(field) => own_value(field.kind, &field.value()),
         None => NewValue::Number(0),
+    }
+}
+
+/// The value as a field of this kind takes it: an address or a locator isn't `Octets`.
+fn own_value<'a>(kind: Kind, value: &Value<'a>) -> NewValue<'a> {
+    let Value::Octets(octets) = value else {
+        return NewValue::from(value);
+    };
+    match kind {
+        Kind::Eui48 => match <[u8; 6]>::try_from(*octets) {
+            Ok(address) => NewValue::Eui48(address),
+            Err(_) => NewValue::Number(0),
+        },
+        Kind::Eui64 => match <[u8; 8]>::try_from(*octets) {
+            Ok(address) => NewValue::Eui64(address),
+            Err(_) => NewValue::Number(0),
+        },
+        Kind::Locator64 => match <[u8; 8]>::try_from(*octets) {
+            Ok(locator) => NewValue::Locator64(locator),
+            Err(_) => NewValue::Number(0),
+        },
+        _ => NewValue::from(value),
     }
 }
 

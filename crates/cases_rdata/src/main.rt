@@ -18,6 +18,7 @@ mod questions;
 mod records;
 mod rewriting;
 mod shown;
+mod zone_lines;
 
 use crate::case::Case;
 use crate::checks::take_line;

@@ -6,6 +6,7 @@ use crate::options::{option_parts, option_text};
 use crate::questions::{printed_question, read_question};
 use crate::records::record_of_words;
 use crate::rewriting::rewritten_again;
+use crate::zone_lines::{bare_line, zone_line};
 use cases_files::key_of;
 use fields_text::split_words;
 use std::alloc::{AllocError, Global};
@@ -26,6 +27,10 @@ pub(crate) fn shown(
         Key::Cut => case.cut(alloc),
         Key::Canonical => case.canonical(alloc),
         Key::Error => case.error(alloc),
+        Key::ZoneLine => zone_line(alloc, text),
+        Key::NoZoneLine => zone_line(alloc, error_and_text(text).1),
+        Key::NoBareLine => bare_line(alloc, error_and_text(text).1),
+        Key::Checked => case.checked(alloc),
         Key::Text => case.text(alloc),
         Key::Record => case.record_text(alloc),
         Key::Order | Key::CanonicalOrder => case.order(alloc, key, octets),

@@ -1,0 +1,74 @@
+//! Service parameters that need others (RFC 9460 sections 7.1.1 and 8).
+ghost use Rattle.std.specs.Prelude.{◌≡◌, map, find, not};
+ghost use Rattle.std.specs.Int.{from_be_bytes, w16};
+ghost use Rattle.fields_checks.specs.Services.{has_key, listed_keys, missing_key, service_reason};
+ghost use Rattle.fields_lists.specs.Groups.{groups};
+ghost use Rattle.fields_parameters.specs.ItemsLeft.{parameter_item};
+ghost use Rattle.fields_parameters.specs.ParameterItems.{parameters_of};
+
+use crate::value_fault::Reason;
+use fields_parameters::{Parameter, Parameters};
+
+/// Whether one of the parameters has this key.
+fn has_key(parameters: &[u8], key: u16) -> bool
+    ensures { result ≡ has_key (parameters_of parameters.now) key }
+{
+    for parameter in Parameters::new(parameters) {
+        if parameter.key == key {
+            return true;
+        }
+    }
+    false
+}
+
+/// The first of these keys that no parameter has.
+fn missing_of(parameters: &[u8], keys: &[u8]) -> Option<u16>
+    ensures { result ≡ find (λ key. not (has_key (parameters_of parameters.now) key))
+        (map (from_be_bytes w16) (groups 2 keys.now)) }
+{
+    let mut left = keys;
+    'keys: while let Some((octets, after)) = left.split_first_chunk::<2>() {
+        let key = u16::from_be_bytes(*octets);
+        if !has_key(parameters, key) {
+            return Some(key);
+        }
+        left = after;
+    }
+    None
+}
+
+/// The first key that a parameter lists and no parameter has. Only `mandatory` lists keys.
+fn missing_listed(parameters: &[u8], parameter: Parameter<'_>) -> Option<u16>
+    ensures { result ≡ find (λ key. not (has_key (parameters_of parameters.now) key))
+        (listed_keys (parameter_item parameter.entry)) }
+{
+    if parameter.key != 0 {
+        return None;
+    }
+    missing_of(parameters, parameter.value)
+}
+
+/// The first key that `mandatory` lists and no parameter has.
+fn missing_key(parameters: &[u8]) -> Option<u16>
+    ensures { result ≡ missing_key (parameters_of parameters.now) }
+{
+    for parameter in Parameters::new(parameters) {
+        if let Some(key) = missing_listed(parameters, parameter) {
+            return Some(key);
+        }
+    }
+    None
+}
+
+/// What is wrong with service parameters.
+pub(crate) fn service_reason(parameters: &[u8]) -> Option<Reason>
+    ensures { result ≡ service_reason (parameters_of parameters.now) }
+{
+    if let Some(key) = missing_key(parameters) {
+        return Some(Reason::MissingKey(key));
+    }
+    if has_key(parameters, 2) && !has_key(parameters, 1) {
+        return Some(Reason::NoAlpn);
+    }
+    None
+}

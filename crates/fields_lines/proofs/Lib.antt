@@ -1,0 +1,6 @@
+mod CompletingLemmas
+mod DurationLemmas
+mod LineLemmas
+mod MnemonicLemmas
+mod NameLemmas
+mod WordLemmas
