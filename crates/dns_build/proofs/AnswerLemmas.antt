@@ -15,13 +15,13 @@ use Rattle.dns_build.specs.BuilderStates.{Built, Represents, MovesState, InEach}
 use Rattle.dns_build.specs.State.{State, InQuestion, with_question, with_questions}
 use Rattle.dns_build.specs.declared.push_error.PushError.{PushError}
 
--- an empty list has no element
-none_there : {X : Type 0} (before after : List X) (x : X) → [] ≡ before ++ x ∷ after → ⊥
+-- An empty list has no element.
+pub none_there : {X : Type 0} (before after : List X) (x : X) → [] ≡ before ++ x ∷ after → ⊥
 none_there [] after x is = cc
 none_there (y ∷ before) after x is = cc
 
--- an element of a list with one more element is the last one, or is in the list
-at_end_or_before : {X : Type 0} (xs before after : List X) (x y : X) → xs ++ x ∷ [] ≡ before ++ y ∷ after
+-- An element of a list with one more element is the last one, or is in the list.
+pub at_end_or_before : {X : Type 0} (xs before after : List X) (x y : X) → xs ++ x ∷ [] ≡ before ++ y ∷ after
     → ((before ≡ xs) × (y ≡ x)) ⊎ ((less : List X) × (xs ≡ before ++ y ∷ less))
 at_end_or_before [] [] after x y is = inl (refl, cc)
 at_end_or_before [] (z ∷ before) after x y is = let rest : [] ≡ before ++ y ∷ after = cc in absurd (none_there before after y rest)

@@ -93,7 +93,7 @@ impl<T: Composer> Builder<T, AtBuilder> {
 
 /// Pushes the questions of a message up to the first malformed one. Returns the error of the first
 /// push that fails.
-fn push_questions<T: Composer, Octs: Octets>(
+pub(crate) fn push_questions<T: Composer, Octs: Octets>(
     builder: &mut QuestionBuilder<T>,
     msg: &Message<Octs>,
 ) -> Result<(), PushError>

@@ -22,6 +22,10 @@ mod opt;
 #[cfg(test)]
 mod reserved_opt;
 #[cfg(test)]
+mod responses;
+#[cfg(test)]
+mod sets;
+#[cfg(test)]
 mod steps;
 #[cfg(test)]
 mod stream;

@@ -1,0 +1,22 @@
+//! Whether a target has capacity for further octets.
+ghost use Rattle.std.specs.Prelude.{replicate};
+ghost use Rattle.dns_wire.specs.Encoders.{encode_octets};
+ghost use Rattle.dns_wire.specs.Targets.{Composes};
+
+use dns_octets::AppendError;
+use dns_wire::Composer;
+
+/// Appends zero octets. On error the target may have some of them.
+pub(crate) fn append_zeros<T: Composer>(target: &mut T, count: u16) -> Result<(), AppendError>
+    ensures { Composes T.capacity T.grows (encode_octets (replicate count 0))
+        (T.written target.old) (T.written target.new) result }
+{
+    // Shows that the content is within the capacity.
+    let _so_far = target.as_slice();
+    for _zero in 0..count {
+        if let Err(error) = target.append_slice(&[0]) {
+            return Err(error);
+        }
+    }
+    Ok(())
+}
