@@ -1,7 +1,7 @@
 //! The program `dnsview` reads a message from a file or from standard input, as octets or in
-//! hexadecimal digits, and prints it row by row, as a page, as lines or as JSON:
+//! hexadecimal digits, and prints it row by row, as a page, as lines, as JSON or as `dig` does:
 //!
-//!     dnsview [--html | --short | --json] [FILE]
+//!     dnsview [--html | --short | --json | --dig] [FILE]
 //!
 //! `dnsview_tool::tool` does the work. It is proved to be safe and to terminate on every input.
 #![tactic(auto)]

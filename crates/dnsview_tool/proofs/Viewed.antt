@@ -22,7 +22,7 @@ use Rattle.dnsview_tool.specs.Viewing.{is_digits, AreRowsOf, CanEnd, Gives, HasA
 use Rattle.dnsview_tool.specs.Viewing.IsPrinted.{shown, bad_hex, empty}
 use Rattle.dnsview_tool.specs.Viewing.IsViewed.{help, version, wrong, view}
 use Rattle.dnsview_tool.specs.declared.request.Form.{Form}
-use Rattle.dnsview_tool.specs.declared.request.Form.TheVariants.{Text, Page, Lines, Json}
+use Rattle.dnsview_tool.specs.declared.request.Form.TheVariants.{Text, Page, Lines, Json, Dig}
 use Rattle.dnsview_tool.specs.declared.request.Request.{Request}
 use Rattle.dnsview_tool.specs.declared.request.Request.TheVariants.{Help, Version, View}
 
@@ -39,6 +39,7 @@ form_kept Text octets a b c p k = (p.0, p.1, (p.2.0, p.2.1, appends_kept a b c _
 form_kept Page octets a b c p k = (p.0, p.1, (p.2.0, p.2.1, appends_kept a b c _ p.2.2 k))
 form_kept Lines octets a b c p k = appends_kept a b c _ p k
 form_kept Json octets a b c p k = appends_kept a b c _ p k
+form_kept Dig octets a b c p k = appends_kept a b c _ p k
 
 -- what isn't written to keeps its octets
 pub keeps_same : (a : Option (List ℕ)) → Keeps a a

@@ -4,7 +4,7 @@ use Rattle.std.specs.List.{list_any}
 use Rattle.std.specs.declared.string.String.{String}
 use Rattle.std.specs.declared.alloc.Global.{Global}
 use Rattle.dnsview_tool.specs.declared.request.Form.{Form}
-use Rattle.dnsview_tool.specs.declared.request.Form.TheVariants.{Text, Page, Lines, Json}
+use Rattle.dnsview_tool.specs.declared.request.Form.TheVariants.{Text, Page, Lines, Json, Dig}
 use Rattle.dnsview_tool.specs.declared.request.Request.{Request}
 use Rattle.dnsview_tool.specs.declared.request.Request.TheVariants as requests
 
@@ -23,9 +23,16 @@ is_short word = bytes_eq word (codes "--short")
 abbrev pub is_json : List ℕ → Bool
 is_json word = bytes_eq word (codes "--json")
 
+abbrev pub is_dig : List ℕ → Bool
+is_dig word = bytes_eq word (codes "--dig")
+
+-- a form of the whole message without markup
+abbrev pub is_full : List ℕ → Bool
+is_full word = is_json word || is_dig word
+
 -- a form without markup
 abbrev pub is_plain : List ℕ → Bool
-is_plain word = is_short word || is_json word
+is_plain word = is_short word || is_full word
 
 -- a word that begins with `-` (45) and isn't `-` alone
 abbrev pub is_option : List ℕ → Bool
@@ -65,18 +72,25 @@ file_after words (Some index) = first_file (drop (index + 1) words)
 abbrev pub second_file : Words → Option (String Global)
 second_file words = file_after words (file_index words)
 
--- the first `--short` or `--json`, and the first `--json`
+-- the first `--short`, `--json` or `--dig`, the first of the last two, and the first `--dig`
 abbrev pub plain_option : Words → Option (String Global)
 plain_option words = find (λ word. is_plain (string_bytes word)) words
 
-abbrev pub json_option : Words → Option (String Global)
-json_option words = find (λ word. is_json (string_bytes word)) words
+abbrev pub full_option : Words → Option (String Global)
+full_option words = find (λ word. is_full (string_bytes word)) words
 
--- the first `--short` or `--json` if `--html` is given too, else the first `--json` if `--short` is
+abbrev pub dig_option : Words → Option (String Global)
+dig_option words = find (λ word. is_dig (string_bytes word)) words
+
+-- the first option of these that `--html` is beside; else the first `--json` or `--dig` that `--short` is beside, else the first `--dig` that `--json` is beside
 abbrev pub contrary_option : Words → Option (String Global)
-contrary_option words = if has is_html words then plain_option words else if has is_short words then json_option words else None
+contrary_option words =
+    if has is_html words then plain_option words
+    else if has is_short words then full_option words
+    else if has is_json words then dig_option words
+    else None
 
--- the argument that is wrong: the first unknown option, else the second file, else one of `--html`, `--short` and `--json` beside another
+-- the argument that is wrong: the first unknown option, else the second file, else one of `--html`, `--short`, `--json` and `--dig` beside another
 abbrev pub wrong_word : Words → Option (String Global)
 wrong_word words =
     if is_some (unknown_option words) then unknown_option words
@@ -85,7 +99,12 @@ wrong_word words =
 
 -- what is printed of a message
 abbrev pub form_of : Words → Form
-form_of words = if has is_html words then Page else if has is_short words then Lines else if has is_json words then Json else Text
+form_of words =
+    if has is_html words then Page
+    else if has is_short words then Lines
+    else if has is_json words then Json
+    else if has is_dig words then Dig
+    else Text
 
 -- What the arguments ask for: help if one of them does, else the version if one does, else a view if none is wrong.
 abbrev pub asked : Words → Request

@@ -5,6 +5,7 @@ use Rattle.std.specs.Io.KnownBytes.{Appends, Keeps}
 use Rattle.std.specs.List.{list_all}
 use Rattle.hex.specs.Hex.{decode_of}
 use Rattle.dns_code.specs.HeaderSection.{header_size}
+use Rattle.dns_dig.specs.Messages.{dig_text}
 use Rattle.dns_json.specs.Messages.{message_json_text, octets_json_text}
 use Rattle.dns_lines.specs.Digits.{unspaced}
 use Rattle.dns_lines.specs.ZoneLines.{zone_lines}
@@ -19,7 +20,7 @@ use Rattle.dnsview_tool.specs.Texts.{IsRowText}
 use Rattle.dnsview_tool.specs.Requests.{asked, wrong_word, Words}
 use Rattle.dnsview_tool.specs.declared.program.TheConstants.{USAGE, HELP, VERSION}
 use Rattle.dnsview_tool.specs.declared.request.Form.{Form}
-use Rattle.dnsview_tool.specs.declared.request.Form.TheVariants.{Text, Page, Lines, Json}
+use Rattle.dnsview_tool.specs.declared.request.Form.TheVariants.{Text, Page, Lines, Json, Dig}
 use Rattle.dnsview_tool.specs.declared.request.Request.{Request}
 use Rattle.dnsview_tool.specs.declared.request.Request.TheVariants.{Help, Version, View, Wrong}
 use Rattle.std.specs.declared.string.String.{String}
@@ -43,9 +44,17 @@ pub record AreRowsOf (octets : List ℕ) (rows : List Row) : Type 0 where
   pub short : length octets < header_size → rows ≡ short_header (length octets) ∷ []
   pub shows : header_size ≤ length octets → ShowsMessage octets rows
 
+-- the line for octets that are fewer than a header section
+abbrev pub short_line : List ℕ
+short_line = codes ";; the message has fewer than 12 octets\n"
+
 -- the lines of a message's records; if the octets are fewer than a header section, a line that says so
 abbrev pub lines_text : List ℕ → List ℕ
-lines_text octets = if nat_lt (length octets) header_size then codes ";; the message has fewer than 12 octets\n" else zone_lines octets
+lines_text octets = if nat_lt (length octets) header_size then short_line else zone_lines octets
+
+-- a message as `dig` prints it; if the octets are fewer than a header section, a line that says so
+abbrev pub dig_lines : List ℕ → List ℕ
+dig_lines octets = if nat_lt (length octets) header_size then short_line else dig_text octets
 
 -- a message as a JSON object; octets that are fewer than a header section as an object with these octets
 abbrev pub json_object : List ℕ → List ℕ
@@ -55,12 +64,13 @@ json_object octets = if nat_lt (length octets) header_size then octets_json_text
 abbrev pub json_line : List ℕ → List ℕ
 json_line octets = json_object octets ++ codes "\n"
 
--- a message is printed: all of its rows and in order, as text or a page; the lines of its records; or as JSON
+-- a message is printed: all of its rows and in order, as text or a page; the lines of its records; as JSON; or as `dig` does
 abbrev pub PrintsForm : Form → List ℕ → Option (List ℕ) → Option (List ℕ) → Type 0
 PrintsForm Text octets old new = (rows : List Row) × AreRowsOf octets rows × PrintsEach (IsRowText octets) rows old new
 PrintsForm Page octets old new = (rows : List Row) × AreRowsOf octets rows × Prints (IsPage octets rows) old new
 PrintsForm Lines octets old new = Appends old new (lines_text octets)
 PrintsForm Json octets old new = Appends old new (json_line octets)
+PrintsForm Dig octets old new = Appends old new (dig_lines octets)
 
 -- What is printed for an input to standard output and to standard error, and the exit status: its message, or else that the number of digits is odd, or that there is no octet.
 pub data IsPrinted (form : Form) (input : List ℕ) (old new errors_old errors_new : Option (List ℕ)) : ℕ → Type 0 where

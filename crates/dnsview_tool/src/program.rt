@@ -2,15 +2,18 @@
 ghost use Rattle.std.specs.Prelude.{◌≡◌, ◌||◌, ◌⊎◌, ℕ, IfErr, IfOk, IfSome, List, MatchOption, OnOk, Some};
 ghost use Rattle.std.specs.Char.{is_ascii_hexdigit, is_ascii_whitespace};
 ghost use Rattle.std.specs.Io.KnownBytes.{Appends};
+ghost use Rattle.dns_dig.specs.Messages.{dig_text};
+ghost use Rattle.dns_read.specs.Message.{message_octets};
 ghost use Rattle.dnsview_tool.specs.Failures.{IsFailureText, IsPrintingFailure, IsReportingFailure, PrintsBefore, ReportsFailure};
 ghost use Rattle.dnsview_tool.specs.Printed.{Prints};
 ghost use Rattle.dnsview_tool.specs.Requests.{asked, wrong_word};
-ghost use Rattle.dnsview_tool.specs.Viewing.{is_digits, json_line, json_object, lines_text, named_text, wrong_text, CanEnd, Gives, IsOdd, IsPrinted, IsViewed, PrintsForm, Reports};
+ghost use Rattle.dnsview_tool.specs.Viewing.{dig_lines, is_digits, json_line, json_object, lines_text, named_text, short_line, wrong_text, CanEnd, Gives, IsOdd, IsPrinted, IsViewed, PrintsForm, Reports};
 
 use crate::failure::{Failure, print_failure};
 use crate::html::print_page;
 use crate::request::{Form, Request, wrong_word};
 use crate::text::print_text;
+use dns_dig::MessageDig;
 use dns_json::{print_json, print_octets_json};
 use dns_lines::{print_zone_lines, unspaced};
 use dns_read::Message;
@@ -33,10 +36,10 @@ const FAILED: u8 = 3;
 const EMPTY: u8 = 4;
 
 /// How the program is called.
-pub const USAGE: &str = "usage: dnsview [--html | --short | --json] [FILE]\n";
+pub const USAGE: &str = "usage: dnsview [--html | --short | --json | --dig] [FILE]\n";
 
 /// What `--help` prints.
-const HELP: &str = "usage: dnsview [--html | --short | --json] [FILE]
+const HELP: &str = "usage: dnsview [--html | --short | --json | --dig] [FILE]
 
 Prints a DNS message (RFC 1035) field by field: the offset, the octets and
 what they mean. Reads FILE, or standard input if there is none or it is -.
@@ -45,6 +48,7 @@ The message is hexadecimal digits with any white space, or octets.
       --html     print a page of HTML
       --short    print each record as a line, as dig does
       --json     print one JSON object (RFC 8427)
+      --dig      print header, EDNS and sections as dig does
   -h, --help     print this text
       --version  print the name and the version
 
@@ -62,8 +66,8 @@ const VERSION: &str = "dnsview 2.0.0\n";
 ///
 /// Prints the rows of the message as text; with `--html` as a page. With `--short` it prints each
 /// record of the answer, authority and additional section as a line, with `--json` a JSON object
-/// (RFC 8427) on one line. `reader` is the file that
-/// `file_of` returns. If the input is hexadecimal digits and ASCII white space alone, it is read as
+/// (RFC 8427) on one line, with `--dig` what `dig` prints. `reader` is the file that `file_of`
+/// returns. If the input is hexadecimal digits and ASCII white space alone, it is read as
 /// digits. The exit status is 0; 1 if the number of digits is odd; 2 for a wrong argument; 3 if
 /// reading, writing or an allocation fails; and 4 if the input has no octets.
 ///
@@ -293,6 +297,7 @@ fn print_form<W: Write>(alloc: Global, form: Form, message: &[u8], writer: &mut 
         Form::Page => print_as_page(alloc, message, writer),
         Form::Lines => print_lines(message, writer),
         Form::Json => print_json_line(message, writer),
+        Form::Dig => print_dig_lines(message, writer),
     }
 }
 
@@ -321,7 +326,33 @@ fn print_lines<W: Write>(message: &[u8], writer: &mut W) -> io::Result<()>
 {
     match Message::from_slice(message) {
         Ok(message) => print_zone_lines(writer, &message),
-        Err(_) => writer.write_all(b";; the message has fewer than 12 octets\n"),
+        Err(_) => print_short_line(writer),
+    }
+}
+
+/// Prints that a message has no header section.
+fn print_short_line<W: Write>(writer: &mut W) -> io::Result<()>
+    ensures { OnOk result (Appends (W.contents writer.old) (W.contents writer.new) short_line) }
+{
+    writer.write_all(b";; the message has fewer than 12 octets\n")
+}
+
+/// Prints a message as `dig` does.
+fn print_dig<W: Write>(message: &Message<&[u8]>, writer: &mut W) -> io::Result<()>
+    ensures { OnOk result (Appends (W.contents writer.old) (W.contents writer.new)
+        (dig_text (message_octets message.now))) }
+{
+    write!(writer, "{}", MessageDig(message))
+}
+
+/// Prints a message as `dig` does, or that it has no header section.
+fn print_dig_lines<W: Write>(message: &[u8], writer: &mut W) -> io::Result<()>
+    ensures { OnOk result (Appends (W.contents writer.old) (W.contents writer.new)
+        (dig_lines message.now)) }
+{
+    match Message::from_slice(message) {
+        Ok(message) => print_dig(&message, writer),
+        Err(_) => print_short_line(writer),
     }
 }
 

@@ -1,7 +1,7 @@
 //! The arguments of the program `dnsview`, and what they ask for.
 ghost use Rattle.std.specs.Prelude.{◌≡◌, ◌<◌, length, IfSome};
 ghost use Rattle.std.specs.Option.{option_copied};
-ghost use Rattle.dnsview_tool.specs.Requests.{asked, contrary_option, file_index, file_of, first_file, form_of, has, is_file, is_help, is_html, is_json, is_option, is_plain, is_short, is_unknown, is_version, json_option, plain_option, second_file, unknown_option, wrong_word};
+ghost use Rattle.dnsview_tool.specs.Requests.{asked, contrary_option, file_index, file_of, first_file, form_of, dig_option, has, is_dig, is_file, is_full, is_help, is_html, is_json, is_option, is_plain, is_short, is_unknown, is_version, full_option, plain_option, second_file, unknown_option, wrong_word};
 
 /// What the program prints of a message.
 #[derive(Clone, Copy)]
@@ -14,6 +14,8 @@ pub(crate) enum Form {
     Lines,
     /// All of it as a JSON object.
     Json,
+    /// All of it as `dig` prints it.
+    Dig,
 }
 
 /// What the arguments ask for.
@@ -53,14 +55,16 @@ impl Form {
             Form::Lines
         } else if asks_json(words) {
             Form::Json
+        } else if asks_dig(words) {
+            Form::Dig
         } else {
             Form::Text
         }
     }
 }
 
-/// The first argument that the program doesn't know, or else the second file, or else `--short` or
-/// `--json` beside `--html`, or `--json` beside `--short`.
+/// The first argument that the program doesn't know, or else the second file, or else one of
+/// `--html`, `--short`, `--json` and `--dig` beside another, the one that stands later here.
 pub(crate) fn wrong_word(words: &[String]) -> Option<&String>
     ensures { option_copied result ≡ wrong_word words.now }
 {
@@ -116,32 +120,47 @@ fn asks_json(words: &[String]) -> bool
     words.iter().any(|word| is_json(word.as_str()))
 }
 
-/// The first option that asks for another form than the one that is printed: `--short` or `--json`
-/// if `--html` is given too, else `--json` if `--short` is.
+fn asks_dig(words: &[String]) -> bool
+    ensures { result ≡ has is_dig words.now }
+{
+    words.iter().any(|word| is_dig(word.as_str()))
+}
+
+/// The first option that asks for another form than the one that is printed: one without markup if
+/// `--html` is given too, else `--json` or `--dig` if `--short` is, else `--dig` if `--json` is.
 fn contrary_option(words: &[String]) -> Option<&String>
     ensures { option_copied result ≡ contrary_option words.now }
 {
     if asks_html(words) {
         plain_option(words)
     } else if asks_short(words) {
-        json_option(words)
+        full_option(words)
+    } else if asks_json(words) {
+        dig_option(words)
     } else {
         None
     }
 }
 
-/// The first `--short` or `--json`.
+/// The first `--short`, `--json` or `--dig`.
 fn plain_option(words: &[String]) -> Option<&String>
     ensures { option_copied result ≡ plain_option words.now }
 {
     words.iter().find(|word| is_plain(word.as_str()))
 }
 
-/// The first `--json`.
-fn json_option(words: &[String]) -> Option<&String>
-    ensures { option_copied result ≡ json_option words.now }
+/// The first `--json` or `--dig`.
+fn full_option(words: &[String]) -> Option<&String>
+    ensures { option_copied result ≡ full_option words.now }
 {
-    words.iter().find(|word| is_json(word.as_str()))
+    words.iter().find(|word| is_full(word.as_str()))
+}
+
+/// The first `--dig`.
+fn dig_option(words: &[String]) -> Option<&String>
+    ensures { option_copied result ≡ dig_option words.now }
+{
+    words.iter().find(|word| is_dig(word.as_str()))
 }
 
 /// The first option that the program doesn't know.
@@ -204,11 +223,24 @@ fn is_json(word: &str) -> bool
     word == "--json"
 }
 
-/// Whether a word asks for a form without markup: `--short` or `--json`.
+fn is_dig(word: &str) -> bool
+    ensures { result ≡ is_dig word.now }
+{
+    word == "--dig"
+}
+
+/// Whether a word asks for a form of the whole message without markup: `--json` or `--dig`.
+fn is_full(word: &str) -> bool
+    ensures { result ≡ is_full word.now }
+{
+    is_json(word) || is_dig(word)
+}
+
+/// Whether a word asks for a form without markup: `--short`, `--json` or `--dig`.
 fn is_plain(word: &str) -> bool
     ensures { result ≡ is_plain word.now }
 {
-    is_short(word) || is_json(word)
+    is_short(word) || is_full(word)
 }
 
 /// Whether a word is an option: it begins with `-` and isn't `-` alone.

@@ -1,0 +1,16 @@
+mod NearColumns
+mod Counted
+mod Rows
+mod WordTexts
+mod Readings
+mod LineTexts
+mod Ends
+mod Pieces
+mod Gaps
+mod Choices
+mod Places
+mod Values
+mod OptTexts
+mod ItemLines
+mod Durations
+mod ZoneLines

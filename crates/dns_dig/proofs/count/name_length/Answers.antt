@@ -1,0 +1,6 @@
+use Rattle.std.proofs.Common.{◌∙◌, refl}
+use Rattle.dns_dig.proofs.Counted.{counted_whole}
+use Rattle.dns_dig.proofs.count.name_length.Goals as goal
+
+pub returns-clause-value : goal.returns-clause-value
+returns-clause-value c = c.near.ensures.value ∙ counted_whole _ _ _ _ c.write_zone_name.ensures.text c.write_zone_name.ensures.err refl

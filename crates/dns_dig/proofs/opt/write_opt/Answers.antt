@@ -1,0 +1,7 @@
+use Rattle.std.proofs.Common.{refl, rules}
+use Rattle.dns_print.proofs.theory.Prints.{print_three}
+use Rattle.dns_dig.proofs.opt.write_opt.Goals as goal
+
+pub returns-clause-text : goal.returns-clause-text
+returns-clause-text g c = λ ok.
+    print_three _ _ _ _ _ _ _ _ _ (c.write_text.ensures.text (search rules)) (c.write_edns.ensures.text (search rules)) (c.write_options.ensures.text ok) refl

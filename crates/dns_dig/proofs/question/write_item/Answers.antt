@@ -1,0 +1,6 @@
+use Rattle.std.proofs.Common.{refl, rules}
+use Rattle.dns_print.proofs.theory.Prints.{print_two}
+use Rattle.dns_dig.proofs.question.write_item.Goals as goal
+
+pub returns-clause-text : goal.returns-clause-text
+returns-clause-text g c = λ ok. print_two _ _ _ _ _ _ _ (c.write_heading.ensures.text (search rules)) (c.write_item_line.ensures.text ok) refl

@@ -1,0 +1,11 @@
+pub mod Columns
+pub mod Header
+pub mod Laws
+pub mod Lines
+pub mod Messages
+pub mod Near
+pub mod Opt
+pub mod OptionTexts
+pub mod Records
+pub mod Sections
+pub mod Words
