@@ -204,7 +204,7 @@ run dnsmsg_no_input 3 failed '' dnsmsg show <.
 full dnsmsg_full_disk 3 '' dnsmsg show <examples/answer.txt
 
 line='out.example.com. 3600 IN CNAME target.elsewhere.test.'
-usage='usage: dnsview [--html | --short | --json] [FILE]'
+usage='usage: dnsview [--html | --short | --json | --dig] [FILE]'
 run dnsview_file 0 "$line" '' dnsview --short examples/answer.txt </dev/null
 run dnsview_input 0 "$line" '' dnsview --short <examples/answer.txt
 run dnsview_dash 0 "$line" '' dnsview --short - <examples/answer.txt

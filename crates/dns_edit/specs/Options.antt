@@ -110,6 +110,7 @@ pub record OptionsReplaced (code : ℕ) (octets before after : List ℕ) : Type 
   pub list : are_options after ≡ are_options before
   pub options : are_options before ≡ true → options_in after ≡ with_option code octets (options_in before)
 
+-- If the data of an option is replaced, the OPT record is where it was, and its options read back with this data.
 abbrev pub ReplacedReadsBack : Type 0
 ReplacedReadsBack = (code : ℕ) (octets b : List ℕ) (p end q : ℕ) → OptRdata b p end → OptionIn code b p end q (length octets)
     → OptRdata (overwritten b q octets) p end × OptionsReplaced code octets (slice_range b p end) (slice_range (overwritten b q octets) p end)

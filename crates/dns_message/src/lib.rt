@@ -19,9 +19,9 @@
 pub mod builder {
     pub use dns_build::{
         AdditionalBuilder, AnswerBuilder, AtAdditional, AtAnswer, AtAuthority, AtBuilder,
-        AtQuestion, AuthorityBuilder, Builder, BuilderStage, CopyRecords, CopyRecordsError,
+        AtQuestion, AuthorityBuilder, Builder, BuilderStage, CopyRecords, CopyRecordsError, Mark,
         MessageBuilder, OptBuilder, PushError, QuestionBuilder, RecordSectionBuilder, RecordStage,
-        ReservedOpt, copy_records, laws,
+        ReservedBuilder, ReservedOpt, copy_records, laws,
     };
 }
 

@@ -66,7 +66,7 @@ fn assert_printing_fails(rt: &impl Abort, alloc: Global, words: &[String]) {
 #[test]
 fn says_that_printing_failed(rt: HostRuntime) {
     assert_printing_fails(&rt, rt.alloc(), &[]);
-    for word in ["--short", "--html", "--json"] {
+    for word in ["--short", "--html", "--json", "--dig"] {
         let word = String::from_str(rt.alloc(), word).expect(&rt, "memory");
         assert_printing_fails(&rt, rt.alloc(), &[word]);
     }
