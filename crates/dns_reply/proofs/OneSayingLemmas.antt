@@ -1,8 +1,7 @@
 -- A reply says one thing.
 use Rattle.std.proofs.Common.{◌≡◌, ◌∙◌, ◌⊎◌, ◌<◌, inl, inr, ℕ, Bool, true, false, List, ap, sym, subst, refl, arith}
-use Rattle.std.specs.Prelude.{◌&&◌, min, not, Option, Some, None}
+use Rattle.std.specs.Prelude.{◌&&◌, ◌||◌, min, Option, Some, None, unwrap_or}
 use Rattle.dns_name.specs.Names.{Fault, Labels}
-use Rattle.dns_name.specs.NameOrders.{names_equal}
 use Rattle.dns_item.specs.Items.{RecordItem}
 use Rattle.dns_item.specs.Questions.{QuestionItem}
 use Rattle.dns_read.specs.Limited.{limited}
@@ -10,9 +9,9 @@ use Rattle.dns_read.specs.OptSearches.{opt_rcode_of}
 use Rattle.dns_read.specs.SectionStarts.{records_of}
 use Rattle.dns_read.specs.StartOrFault.{start_or_fault}
 use Rattle.dns_read.specs.declared.section.Section.TheVariants as sections
-use Rattle.dns_reply.specs.Chains.{ChainEnds}
+use Rattle.dns_reply.specs.Chains.{ChainEnds, ttl_of_aliases}
 use Rattle.dns_reply.specs.Laws.{OneSaying}
-use Rattle.dns_reply.specs.Owners.{asks_for_class, is_within, is_below, is_owned_by_cut}
+use Rattle.dns_reply.specs.Owners.{asks_for_class, is_within, is_below, is_owned_by_cut, is_owned_by_related}
 use Rattle.dns_reply.specs.Records.{Records, IsReadable, IsUnreadable, has_ns, negative_ttl, ns_for, ns_layout, opt_count, target_in, values}
 use Rattle.dns_reply.specs.Records.IsUnreadable.{before, within}
 use Rattle.dns_reply.specs.Said.{Said}
@@ -30,11 +29,11 @@ use Rattle.dns_reply.proofs.FoundLemmas.{any_found, found_passes}
 zero_or_three : {A : Type 0} (rcode : ℕ) → IsNoError rcode → IsNameError rcode → A
 zero_or_three rcode e f = absurd (omega (arith, e, f))
 
--- the last of three tests passes
-last_passes : (x y z : Bool) → (x && y && z) ≡ true → z ≡ true
-last_passes true true z e = e
-last_passes true false z e = absurd (cc)
-last_passes false y z e = absurd (cc)
+-- the first or another test, and the last of three tests pass
+outer_pass : (x y z other : Bool) → (x && y && z) ≡ true → ((x || other) && z) ≡ true
+outer_pass true true z other e = e
+outer_pass true false z other e = absurd (cc)
+outer_pass false y z other e = absurd (cc)
 
 -- what isn't there isn't found
 missing : {A : Type 0} {X : Type 0} {o : Option X} {x : X} → o ≡ Some x → o ≡ None → A
@@ -44,23 +43,23 @@ missing here gone = absurd (let e = sym here ∙ gone in cc)
 two_ways : {A : Type 0} {b : Bool} → b ≡ true → b ≡ false → A
 two_ways passes fails = absurd (let e = sym passes ∙ fails in cc)
 
-module _ (authorities : Records) (rcode qclass : ℕ) (zone name : Labels) (aliased : Bool) where
+module _ (authorities : Records) (rcode qclass : ℕ) (zone name : Labels) (aliases : Option ℕ) where
   -- if NS records delegate the name, there are NS records
-  has_delegation : (ns : RecordItem) → ns_for qclass zone authorities name ≡ Some ns → has_ns qclass authorities ≡ true
+  has_delegation : (ns : RecordItem) → ns_for qclass zone authorities name ≡ Some ns → has_ns qclass zone authorities name ≡ true
   has_delegation ns e =
       let found = found_passes (is_owned_by_cut qclass zone name) (values (limited ns_layout authorities)) ns e in
-      let fits = last_passes (is_within name ns.owner) (is_below ns.owner zone) (asks_for_class qclass ns.class) found.passes in
-      any_found (λ (x : RecordItem). asks_for_class qclass x.class) (values (limited ns_layout authorities)) ns found.among fits
+      let fits = outer_pass (is_within name ns.owner) (is_below ns.owner zone) (asks_for_class qclass ns.class) (is_within ns.owner zone) found.passes in
+      any_found (is_owned_by_related qclass zone name) (values (limited ns_layout authorities)) ns found.among fits
 
   -- a name that owns nothing: one thing is said
-  none_alike : (x y : Said) → SaysNone authorities rcode qclass zone name aliased x → SaysNone authorities rcode qclass zone name aliased y → x ≡ y
-  none_alike x y (no_name soa e s) (no_name other f t) = ap (λ (o : Option RecordItem). NoName name o (negative_ttl o)) (sym s ∙ t)
+  none_alike : (x y : Said) → SaysNone authorities rcode qclass zone name aliases x → SaysNone authorities rcode qclass zone name aliases y → x ≡ y
+  none_alike x y (no_name soa e s) (no_name other f t) = ap (λ (o : Option RecordItem). NoName name o (negative_ttl o) aliases) (sym s ∙ t)
   none_alike x y (no_name soa e t) (no_data other f s) = zero_or_three rcode f e
   none_alike x y (no_name soa e t) (no_authority f s n) = zero_or_three rcode f e
   none_alike x y (no_name soa e t) (referral ns f s n) = zero_or_three rcode f e
   none_alike x y (no_name soa e t) (lame f s n d a) = zero_or_three rcode f e
   none_alike x y (no_data soa f s) (no_name other e t) = zero_or_three rcode f e
-  none_alike x y (no_data soa f s) (no_data other g t) = ap (λ (o : Option RecordItem). NoData name o (negative_ttl o)) (sym s ∙ t)
+  none_alike x y (no_data soa f s) (no_data other g t) = ap (λ (o : Option RecordItem). NoData name o (negative_ttl o) aliases) (sym s ∙ t)
   none_alike x y (no_data soa f s) (no_authority g t n) = missing s t
   none_alike x y (no_data soa f s) (referral ns g t n) = missing s t
   none_alike x y (no_data soa f s) (lame g t n d a) = missing s t
@@ -75,7 +74,7 @@ module _ (authorities : Records) (rcode qclass : ℕ) (zone name : Labels) (alia
   none_alike x y (referral ns f s d) (no_data soa g t) = missing t s
   none_alike x y (referral ns f s d) (no_authority g t (inl n)) = two_ways (has_delegation ns d) n
   none_alike x y (referral ns f s d) (no_authority g t (inr w)) = missing d w.1
-  none_alike x y (referral ns f s d) (referral other g t k) = let same : ns ≡ other = (let e = sym d ∙ k in cc) in ap (λ (r : RecordItem). Referred name r.owner) same
+  none_alike x y (referral ns f s d) (referral other g t k) = let same : ns ≡ other = (let e = sym d ∙ k in cc) in ap (λ (r : RecordItem). Referred name r.owner aliases) same
   none_alike x y (referral ns f s d) (lame g t n k a) = missing d k
   none_alike x y (lame f s n d a) (no_name other e t) = zero_or_three rcode f e
   none_alike x y (lame f s n d a) (no_data soa g t) = missing t s
@@ -105,12 +104,12 @@ module _ (answers authorities : Records) (rcode : ℕ) (zone : Labels) (q : Ques
   at_alike name ttl x y (dname r target h d t) (none k g n) = missing d g
   at_alike name ttl x y (none h d n) (answer e o) = two_ways o (h e)
   at_alike name ttl x y (none h d n) (dname s other k g u) = missing g d
-  at_alike name ttl x y (none h d n) (none k g m) = none_alike authorities rcode q.class zone name (not (names_equal name q.name)) x y n m
+  at_alike name ttl x y (none h d n) (none k g m) = none_alike authorities rcode q.class zone name (ttl_of_aliases q name ttl) x y n m
 
   -- what is said of the end of a chain that leads out of the zone
   abbrev alias_said : Option (Labels × ℕ) → Said
   alias_said None = Looping
-  alias_said (Some x) = Aliased x.0 x.1
+  alias_said (Some x) = Aliased x.0 (unwrap_or (ttl_of_aliases q x.0 x.1) 0)
 
   -- two ends of a chain are the same
   same_end : (x y : Option (Labels × ℕ)) → ChainEnds zone q answers x → ChainEnds zone q answers y → x ≡ y

@@ -26,10 +26,10 @@ none_found f None x without e = sym e
 none_found f (Some a) x without e = absurd (cc)
 
 -- A name with an SOA record has no data.
-pub soa_found : {A : Type 0} (f : A → RecordItem) (o : Option A) (authorities : Records) (rcode qclass : ℕ) (zone name : Labels) (aliased : Bool) → IsNoError rcode → is_some o ≡ true
-    → option_map f o ≡ soa_for qclass zone authorities name → SaysNone authorities rcode qclass zone name aliased (NoData name (option_map f o) (negative_ttl (option_map f o)))
-soa_found f None authorities rcode qclass zone name aliased zero some e = absurd (cc)
-soa_found f (Some a) authorities rcode qclass zone name aliased zero some e = no_data (f a) zero (sym e)
+pub soa_found : {A : Type 0} (f : A → RecordItem) (o : Option A) (authorities : Records) (rcode qclass : ℕ) (zone name : Labels) (aliases : Option ℕ) → IsNoError rcode → is_some o ≡ true
+    → option_map f o ≡ soa_for qclass zone authorities name → SaysNone authorities rcode qclass zone name aliases (NoData name (option_map f o) (negative_ttl (option_map f o)) aliases)
+soa_found f None authorities rcode qclass zone name aliases zero some e = absurd (cc)
+soa_found f (Some a) authorities rcode qclass zone name aliases zero some e = no_data (f a) zero (sym e)
 
 -- An RCODE that isn't name error is NOERROR.
 pub no_error : (rcode : ℕ) → IsNoError rcode ⊎ IsNameError rcode → rcode ≢ 3 → IsNoError rcode

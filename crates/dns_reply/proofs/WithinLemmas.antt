@@ -49,17 +49,17 @@ module _ (authorities : Records) (rcode qclass : ℕ) (zone name : Labels) (insi
   any_soa_within None e = tt
   any_soa_within (Some soa) e = soa_within soa e
 
-  none_within : (aliased : Bool) (x : Said) → SaysNone authorities rcode qclass zone name aliased x → SaysWithin zone x
-  none_within aliased x (no_name soa e s) = (inside, any_soa_within soa s)
-  none_within aliased x (no_data soa e s) = (inside, soa_within soa s)
-  none_within aliased x (no_authority e s n) = (inside, tt)
-  none_within aliased x (referral ns e s d) =
+  none_within : (aliases : Option ℕ) (x : Said) → SaysNone authorities rcode qclass zone name aliases x → SaysWithin zone x
+  none_within aliases x (no_name soa e s) = (inside, any_soa_within soa s)
+  none_within aliases x (no_data soa e s) = (inside, soa_within soa s)
+  none_within aliases x (no_authority e s n) = (inside, tt)
+  none_within aliases x (referral ns e s d) =
       let found = found_passes (is_owned_by_cut qclass zone name) (values (limited ns_layout authorities)) ns d in (
         inside,
         second_of_three (is_within name ns.owner) (is_below ns.owner zone) (asks_for_class qclass ns.class) found.passes,
         first_of_three (is_within name ns.owner) (is_below ns.owner zone) (asks_for_class qclass ns.class) found.passes,
       )
-  none_within aliased x (lame e s n d a) = tt
+  none_within aliases x (lame e s n d a) = tt
 
 module _ (answers authorities : Records) (rcode : ℕ) (zone : Labels) (q : QuestionItem) where
   at_within : (name : Labels) (ttl : ℕ) (x : Said) → is_within name zone ≡ true → SaysAt answers authorities rcode zone q name ttl x → SaysWithin zone x
@@ -150,12 +150,12 @@ module _ (answers authorities : Records) (rcode : ℕ) (zone : Labels) (q : Ques
   abbrev Is : Type 0
   Is = (section ≡ answers) × IsAnswerTo zone q answers name
 
-  none_answer : (name' : Labels) (aliased : Bool) (x : Said) → SaysNone authorities rcode q.class zone name' aliased x → x ≡ Answered name section ttl → Is
-  none_answer name' aliased x (no_name soa e s) is = absurd (let f = is in cc)
-  none_answer name' aliased x (no_data soa e s) is = absurd (let f = is in cc)
-  none_answer name' aliased x (no_authority e s n) is = absurd (let f = is in cc)
-  none_answer name' aliased x (referral ns e s d) is = absurd (let f = is in cc)
-  none_answer name' aliased x (lame e s n d a) is = absurd (let f = is in cc)
+  none_answer : (name' : Labels) (aliases : Option ℕ) (x : Said) → SaysNone authorities rcode q.class zone name' aliases x → x ≡ Answered name section ttl → Is
+  none_answer name' aliases x (no_name soa e s) is = absurd (let f = is in cc)
+  none_answer name' aliases x (no_data soa e s) is = absurd (let f = is in cc)
+  none_answer name' aliases x (no_authority e s n) is = absurd (let f = is in cc)
+  none_answer name' aliases x (referral ns e s d) is = absurd (let f = is in cc)
+  none_answer name' aliases x (lame e s n d a) is = absurd (let f = is in cc)
 
   at_answer : (name' : Labels) (least : ℕ) (x : Said) → LeadsTo zone q.class answers q.name name' → is_within name' zone ≡ true → SaysAt answers authorities rcode zone q name' least x
       → x ≡ Answered name section ttl → Is
@@ -194,12 +194,12 @@ pub answers_are_answers : AnswersAreAnswers
 answers_are_answers b zone q name section ttl asks says = said_answer b zone q name section ttl asks (Answered name section ttl) says refl
 
 -- What is said by the authority section is said of this name.
-none_named : (authorities : Records) (rcode qclass : ℕ) (zone name n : Labels) (aliased : Bool) (x : Said) → SaysNone authorities rcode qclass zone name aliased x → name_said x ≡ Some n → name ≡ n
-none_named authorities rcode qclass zone name n aliased x (no_name soa e s) is = let f = is in cc
-none_named authorities rcode qclass zone name n aliased x (no_data soa e s) is = let f = is in cc
-none_named authorities rcode qclass zone name n aliased x (no_authority e s m) is = let f = is in cc
-none_named authorities rcode qclass zone name n aliased x (referral ns e s d) is = let f = is in cc
-none_named authorities rcode qclass zone name n aliased x (lame e s m d a) is = absurd (let f = is in cc)
+none_named : (authorities : Records) (rcode qclass : ℕ) (zone name n : Labels) (aliases : Option ℕ) (x : Said) → SaysNone authorities rcode qclass zone name aliases x → name_said x ≡ Some n → name ≡ n
+none_named authorities rcode qclass zone name n aliases x (no_name soa e s) is = let f = is in cc
+none_named authorities rcode qclass zone name n aliases x (no_data soa e s) is = let f = is in cc
+none_named authorities rcode qclass zone name n aliases x (no_authority e s m) is = let f = is in cc
+none_named authorities rcode qclass zone name n aliases x (referral ns e s d) is = let f = is in cc
+none_named authorities rcode qclass zone name n aliases x (lame e s m d a) is = absurd (let f = is in cc)
 
 module _ (answers authorities : Records) (rcode : ℕ) (zone : Labels) (q : QuestionItem) (n : Labels) where
   at_named : (name : Labels) (ttl : ℕ) (x : Said) → SaysAt answers authorities rcode zone q name ttl x → name_said x ≡ Some n → name ≡ n

@@ -3,6 +3,7 @@
 -- `answers` is the reading of the answer section, `zone` the zone that the reply's server was asked about, and `q` the question.
 use Rattle.std.specs.Prelude.{◌≡◌, ◌<◌, ◌&&◌, ℕ, zero, suc, not, if◌then◌else◌, min, Option, Some, None, option_map, option_and_then}
 use Rattle.dns_name.specs.Names.{Labels}
+use Rattle.dns_name.specs.NameOrders.{names_equal}
 use Rattle.dns_name.specs.ParsedName.{labels}
 use Rattle.dns_name.specs.declared.parsed_name.ParsedName.{ParsedName}
 use Rattle.dns_code.specs.Ttl.{most_seconds}
@@ -24,6 +25,10 @@ unfoldable pub nth_name : Labels → QuestionItem → Records → ℕ → Option
 nth_name zone q answers zero = Some (q.name, most_seconds)
 nth_name zone q answers (suc i) =
     option_and_then (λ (x : Labels × ℕ). option_map (λ (next : Labels × ℕ). (next.0, min x.1 next.1)) (next_alias zone q answers x.0)) (nth_name zone q answers i)
+
+-- for how long the aliases that lead to a name may be cached, if there are any, by the TTL that `nth_name` gives with the name: the question's own name is led to by none
+abbrev pub ttl_of_aliases : QuestionItem → Labels → ℕ → Option ℕ
+ttl_of_aliases q name ttl = if names_equal name q.name then None else Some ttl
 
 -- How a chain ends: at the first of 20 names from which it doesn't go on, with the least TTL of the aliases; or it doesn't, if it goes on from all 20, as each loop does. RFC 1034 section 3.6.2 asks
 -- to follow chains and to report loops, and section 5.3.3 to bound the work.

@@ -27,9 +27,9 @@ OneSaying = (b : List ℕ) (zone : Labels) (x y : Said) → Says b zone x → Sa
 -- Only names within the zone are spoken of, by records whose owners are within it; an alias that leads out of the zone is only named.
 abbrev pub SaysWithin : Labels → Said → Type 0
 SaysWithin zone (Answered name answers ttl) = is_within name zone ≡ true
-SaysWithin zone (NoData name soa ttl) = (is_within name zone ≡ true) × IfSome soa (λ x. (is_within x.owner zone ≡ true) × (is_within name x.owner ≡ true))
-SaysWithin zone (NoName name soa ttl) = (is_within name zone ≡ true) × IfSome soa (λ x. (is_within x.owner zone ≡ true) × (is_within name x.owner ≡ true))
-SaysWithin zone (Referred name cut) = (is_within name zone ≡ true) × (is_below cut zone ≡ true) × (is_within name cut ≡ true)
+SaysWithin zone (NoData name soa ttl aliases) = (is_within name zone ≡ true) × IfSome soa (λ x. (is_within x.owner zone ≡ true) × (is_within name x.owner ≡ true))
+SaysWithin zone (NoName name soa ttl aliases) = (is_within name zone ≡ true) × IfSome soa (λ x. (is_within x.owner zone ≡ true) × (is_within name x.owner ≡ true))
+SaysWithin zone (Referred name cut aliases) = (is_within name zone ≡ true) × (is_below cut zone ≡ true) × (is_within name cut ≡ true)
 SaysWithin zone (Aliased name ttl) = is_within name zone ≡ false
 SaysWithin zone (Redirected name owner target ttl) = (is_within name zone ≡ true) × (is_within owner zone ≡ true) × (is_below name owner ≡ true)
 SaysWithin zone _ = Unit {0}
@@ -46,9 +46,9 @@ pub data LeadsTo (zone : Labels) (qclass : ℕ) (answers : Records) (first : Lab
 -- the name of which something is said
 abbrev pub name_said : Said → Option Labels
 name_said (Answered name answers ttl) = Some name
-name_said (NoData name soa ttl) = Some name
-name_said (NoName name soa ttl) = Some name
-name_said (Referred name cut) = Some name
+name_said (NoData name soa ttl aliases) = Some name
+name_said (NoName name soa ttl aliases) = Some name
+name_said (Referred name cut aliases) = Some name
 name_said (Aliased name ttl) = Some name
 name_said (Redirected name owner target ttl) = Some name
 name_said _ = None

@@ -47,6 +47,11 @@ is_owned_above qclass zone name x = is_below name x.owner && is_within x.owner z
 abbrev pub is_owned_by_zone : ℕ → Labels → Labels → RecordItem → Bool
 is_owned_by_zone qclass zone name x = is_within name x.owner && is_within x.owner zone && asks_for_class qclass x.class
 
+-- whether a record is owned by a name that a name is within, or that is within a zone: NS records with such an owner are of a zone that the name is in, or the zone's servers delegate (RFC 1034
+-- section 4.2.1)
+abbrev pub is_owned_by_related : ℕ → Labels → Labels → RecordItem → Bool
+is_owned_by_related qclass zone name x = (is_within name x.owner || is_within x.owner zone) && asks_for_class qclass x.class
+
 -- whether a record is owned by a name below a zone that a name is within: NS records with such an owner delegate the name (RFC 1034 section 4.2.1)
 abbrev pub is_owned_by_cut : ℕ → Labels → Labels → RecordItem → Bool
 is_owned_by_cut qclass zone name x = is_within name x.owner && is_below x.owner zone && asks_for_class qclass x.class

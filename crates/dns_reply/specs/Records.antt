@@ -21,7 +21,7 @@ use Rattle.dns_read.specs.RecordSearches.{cname_layout}
 use Rattle.dns_read.specs.Sections.{AdditionalsStart, AdditionalsFault}
 use Rattle.dns_read.specs.SectionStarts.{records_of}
 use Rattle.dns_read.specs.declared.section.Section.TheVariants.{Answer, Authority, Additional}
-use Rattle.dns_reply.specs.Owners.{is_asked_for, is_owned, is_owned_above, is_owned_by_zone, is_owned_by_cut, asks_for_class}
+use Rattle.dns_reply.specs.Owners.{is_asked_for, is_owned, is_owned_above, is_owned_by_zone, is_owned_by_cut, is_owned_by_related}
 
 -- a reading of records
 abbrev pub Records : Type 0
@@ -99,9 +99,10 @@ soa_for qclass zone authorities name = find (is_owned_by_zone qclass zone name) 
 abbrev pub ns_for : ℕ → Labels → Records → Labels → Option RecordItem
 ns_for qclass zone authorities name = find (is_owned_by_cut qclass zone name) (values (limited ns_layout authorities))
 
--- whether there is an NS record, whoever owns it
-abbrev pub has_ns : ℕ → Records → Bool
-has_ns qclass authorities = is_some (find (λ (x : RecordItem). asks_for_class qclass x.class) (values (limited ns_layout authorities)))
+-- Whether there is an NS record of a zone that a name is in, or of one within the zone that was asked. Then a reply is no denial (RFC 2308 section 2.2, type 3), but a referral (RFC 1034 section
+-- 4.3.2, step 3b), if perhaps one of no use. NS records of other owners say nothing, as the server speaks for no such name.
+abbrev pub has_ns : ℕ → Labels → Records → Labels → Bool
+has_ns qclass zone authorities name = is_some (find (is_owned_by_related qclass zone name) (values (limited ns_layout authorities)))
 
 -- For how long a denial may be cached, in seconds: the lesser of the SOA's TTL and its MINIMUM, or 0 without an SOA. RFC 2308 section 5.
 abbrev pub negative_ttl : Option RecordItem → ℕ

@@ -37,7 +37,7 @@ answer_ttl x = x.ttl
 abbrev pub soa_item : Record ParsedName (Soa ParsedName) → RecordItem
 soa_item = record_item labels (λ _. 6) (soa_parts labels)
 
--- a denial: the name and the SOA record
+-- a denial: the name, the SOA record, and the least TTL of the aliases
 abbrev pub denial_name : Denial → ParsedName
 denial_name x = x.name
 
@@ -47,12 +47,18 @@ denial_soa x = x.soa
 abbrev pub denial_item : Denial → Option RecordItem
 denial_item x = option_map soa_item (denial_soa x)
 
--- a referral: the name, and the zone that it is delegated to
+abbrev pub denial_alias_ttl : Denial → Option ℕ
+denial_alias_ttl x = x.alias_ttl
+
+-- a referral: the name, the zone that it is delegated to, and the least TTL of the aliases
 abbrev pub referral_name : Referral → ParsedName
 referral_name x = x.name
 
 abbrev pub referral_cut : Referral → ParsedName
 referral_cut x = x.cut
+
+abbrev pub referral_alias_ttl : Referral → Option ℕ
+referral_alias_ttl x = x.alias_ttl
 
 -- an alias that leads out of the zone: the name, and the TTL
 abbrev pub alias_name : Alias → ParsedName
@@ -84,9 +90,9 @@ reason_of unusable.Lame = Lame
 -- what a reply says, as a value
 abbrev pub said_of : Reply → Said
 said_of (replies.Answer x) = Answered (labels (answer_name x)) (records_left (answer_section x)) (answer_ttl x)
-said_of (replies.NoData x) = NoData (labels (denial_name x)) (denial_item x) (negative_ttl (denial_item x))
-said_of (replies.NoName x) = NoName (labels (denial_name x)) (denial_item x) (negative_ttl (denial_item x))
-said_of (replies.Referral x) = Referred (labels (referral_name x)) (labels (referral_cut x))
+said_of (replies.NoData x) = NoData (labels (denial_name x)) (denial_item x) (negative_ttl (denial_item x)) (denial_alias_ttl x)
+said_of (replies.NoName x) = NoName (labels (denial_name x)) (denial_item x) (negative_ttl (denial_item x)) (denial_alias_ttl x)
+said_of (replies.Referral x) = Referred (labels (referral_name x)) (labels (referral_cut x)) (referral_alias_ttl x)
 said_of (replies.Alias x) = Aliased (labels (alias_name x)) (alias_ttl x)
 said_of (replies.Dname x) = Redirected (labels (redirected_name x)) (labels (redirection_owner x)) (labels (redirection_target x)) (redirection_ttl x)
 said_of replies.Truncated = Truncated

@@ -8,13 +8,13 @@ use Rattle.dns_reply.specs.Records.{Records}
 pub data Said : Type 0 where
   -- the name, the answer section, and for how long the records and the aliases may be cached
   Answered : Labels → Records → ℕ → Said
-  -- the name, which has no records of the type, and the SOA record and its TTL for this denial
-  NoData : Labels → Option RecordItem → ℕ → Said
-  -- the name, which doesn't exist, and the SOA record and its TTL for this denial
-  NoName : Labels → Option RecordItem → ℕ → Said
-  -- the name, and the zone that it is delegated to
-  Referred : Labels → Labels → Said
-  -- the name, which is outside the zone, and for how long the aliases may be cached
+  -- the name, which has no records of the type, the SOA record and its TTL for this denial, and for how long the aliases may be cached, if there are any
+  NoData : Labels → Option RecordItem → ℕ → Option ℕ → Said
+  -- the same of a name that doesn't exist
+  NoName : Labels → Option RecordItem → ℕ → Option ℕ → Said
+  -- the name, the zone that it is delegated to, and for how long the aliases may be cached, if there are any
+  Referred : Labels → Labels → Option ℕ → Said
+  -- the name, which is outside the zone, and for how long the aliases may be cached, 0 if there are none
   Aliased : Labels → ℕ → Said
   -- the name, the owner and the target of the DNAME record above it, and for how long these and the aliases may be cached
   Redirected : Labels → Labels → Labels → ℕ → Said

@@ -1,10 +1,9 @@
 -- What a reply says of the first question, in a zone that its server is asked about. RFC 1034 sections 4.3.2 and 5.3.3, RFC 2308 section 2, RFC 6604 section 3.
 --
--- `b` is the octets of the reply. Only records whose owners are within the zone say anything, as the server speaks for no other names; any NS record can make it lame, and any malformed
--- record unreadable.
-use Rattle.std.specs.Prelude.{◌≡◌, ◌⊎◌, ◌<◌, ◌≤◌, ◌==◌, ℕ, Bool, not, false, true, List, take, min, if◌then◌else◌, Option, Some, None}
+-- `b` is the octets of the reply. Only records whose owners are within the zone say anything, as the server speaks for no other names; NS records of a zone above can make it lame, and
+-- any malformed record unreadable.
+use Rattle.std.specs.Prelude.{◌≡◌, ◌⊎◌, ◌<◌, ◌≤◌, ◌==◌, ℕ, false, true, List, take, min, if◌then◌else◌, Option, Some, None, is_some, unwrap_or}
 use Rattle.dns_name.specs.Names.{Fault, Labels}
-use Rattle.dns_name.specs.NameOrders.{names_equal}
 use Rattle.dns_code.specs.Header.{HeaderFields, fields_in}
 use Rattle.dns_item.specs.Items.{RecordItem}
 use Rattle.dns_item.specs.Questions.{QuestionItem}
@@ -14,7 +13,7 @@ use Rattle.dns_read.specs.SectionStarts.{records_of}
 use Rattle.dns_read.specs.declared.section.Section.TheVariants as sections
 use Rattle.dns_reply.specs.Owners.{is_within}
 use Rattle.dns_reply.specs.Records.{Records, IsReadable, IsUnreadable, opt_count, owns_asked, asked_records, least_ttl, dname_above, soa_for, ns_for, has_ns, negative_ttl, target_in}
-use Rattle.dns_reply.specs.Chains.{ChainEnds}
+use Rattle.dns_reply.specs.Chains.{ChainEnds, ttl_of_aliases}
 use Rattle.dns_reply.specs.Said.{Said}
 use Rattle.dns_reply.specs.Said.Said.{Answered, NoData, NoName, Referred, Aliased, Redirected, Truncated, Failed, Done, Unreadable, ManyOpts, Looping, Lame}
 
@@ -38,23 +37,26 @@ IsNoError rcode = rcode ≡ 0
 abbrev pub IsNameError : ℕ → Type 0
 IsNameError rcode = rcode ≡ 3
 
--- What the authority section says of a name that owns no record asked for, in the classes of the question. The name is within the zone. `aliased` says whether it isn't the question's own.
-pub data SaysNone (authorities : Records) (rcode qclass : ℕ) (zone name : Labels) (aliased : Bool) : Said → Type 0 where
+-- What the authority section says of a name that owns no record asked for, in the classes of the question. The name is within the zone. `aliases` is for how long the aliases that lead to it may be
+-- cached (RFC 2181 section 5.2), if there are any.
+pub data SaysNone (authorities : Records) (rcode qclass : ℕ) (zone name : Labels) (aliases : Option ℕ) : Said → Type 0 where
   -- RFC 2308 section 2.1, types 1 to 4: the RCODE is name error, whatever the authority section has
-  no_name : (soa : Option RecordItem) → IsNameError rcode → soa_for qclass zone authorities name ≡ soa → SaysNone authorities rcode qclass zone name aliased (NoName name soa (negative_ttl soa))
+  no_name : (soa : Option RecordItem) → IsNameError rcode → soa_for qclass zone authorities name ≡ soa
+      → SaysNone authorities rcode qclass zone name aliases (NoName name soa (negative_ttl soa) aliases)
   -- RFC 2308 section 2.2, types 1 and 2: an SOA record
   no_data : (soa : RecordItem) → IsNoError rcode → soa_for qclass zone authorities name ≡ Some soa
-      → SaysNone authorities rcode qclass zone name aliased (NoData name (Some soa) (negative_ttl (Some soa)))
-  -- RFC 2308 section 2.2, type 3: no NS records, and no SOA record of a zone that the name is in. If an alias led to the name, NS records of no zone below it don't count: the server has
-  -- perhaps sent the alias alone (RFC 1034 section 5.3.3, step 4c).
-  no_authority : IsNoError rcode → soa_for qclass zone authorities name ≡ None → (has_ns qclass authorities ≡ false) ⊎ ((aliased ≡ true) × (ns_for qclass zone authorities name ≡ None))
-      → SaysNone authorities rcode qclass zone name aliased (NoData name None (negative_ttl None))
+      → SaysNone authorities rcode qclass zone name aliases (NoData name (Some soa) (negative_ttl (Some soa)) aliases)
+  -- RFC 2308 section 2.2, type 3: no NS records (`has_ns`), and no SOA record of a zone that the name is in. If an alias led to the name, NS records of no zone below it don't count: the server
+  -- has perhaps sent the alias alone (RFC 1034 section 5.3.3, step 4c).
+  no_authority : IsNoError rcode → soa_for qclass zone authorities name ≡ None
+      → (has_ns qclass zone authorities name ≡ false) ⊎ ((is_some aliases ≡ true) × (ns_for qclass zone authorities name ≡ None))
+      → SaysNone authorities rcode qclass zone name aliases (NoData name None (negative_ttl None) aliases)
   -- RFC 1034 section 4.3.2, step 3b, and RFC 2308 section 2.2: NS records of a zone below, without an SOA record
   referral : (ns : RecordItem) → IsNoError rcode → soa_for qclass zone authorities name ≡ None → ns_for qclass zone authorities name ≡ Some ns
-      → SaysNone authorities rcode qclass zone name aliased (Referred name ns.owner)
+      → SaysNone authorities rcode qclass zone name aliases (Referred name ns.owner aliases)
   -- RFC 1034 section 5.3.3, step 4: NS records, but no better delegation
-  lame : IsNoError rcode → soa_for qclass zone authorities name ≡ None → has_ns qclass authorities ≡ true → ns_for qclass zone authorities name ≡ None → aliased ≡ false
-      → SaysNone authorities rcode qclass zone name aliased Lame
+  lame : IsNoError rcode → soa_for qclass zone authorities name ≡ None → has_ns qclass zone authorities name ≡ true → ns_for qclass zone authorities name ≡ None → is_some aliases ≡ false
+      → SaysNone authorities rcode qclass zone name aliases Lame
 
 -- What a reply says of the name at the end of the chain, which is within the zone. `ttl` is the least of the aliases that lead to it.
 pub data SaysAt (answers authorities : Records) (rcode : ℕ) (zone : Labels) (q : QuestionItem) (name : Labels) (ttl : ℕ) : Said → Type 0 where
@@ -66,15 +68,17 @@ pub data SaysAt (answers authorities : Records) (rcode : ℕ) (zone : Labels) (q
       → SaysAt answers authorities rcode zone q name ttl (Redirected name x.owner target (min ttl x.ttl))
   -- neither
   none : {x : Said} → (IsNoError rcode → owns_asked q answers name ≡ false) → dname_above q.class zone answers name ≡ None
-      → SaysNone authorities rcode q.class zone name (not (names_equal name q.name)) x
+      → SaysNone authorities rcode q.class zone name (ttl_of_aliases q name ttl) x
       → SaysAt answers authorities rcode zone q name ttl x
 
 -- What a reply says of its question.
 pub data SaysOf (answers authorities : Records) (rcode : ℕ) (zone : Labels) (q : QuestionItem) : Said → Type 0 where
   -- RFC 1034 section 3.6.2: the chain of aliases loops, or is too long
   loop : ChainEnds zone q answers None → SaysOf answers authorities rcode zone q Looping
-  -- The chain leads out of the zone (RFC 1034 section 5.3.3, step 4c). The RCODE is that of the name where it ends (RFC 6604 section 3), of which the server says nothing.
-  alias : (name : Labels) (ttl : ℕ) → ChainEnds zone q answers (Some (name, ttl)) → is_within name zone ≡ false → SaysOf answers authorities rcode zone q (Aliased name ttl)
+  -- The chain leads out of the zone (RFC 1034 section 5.3.3, step 4c). The RCODE is that of the name where it ends (RFC 6604 section 3), of which the server says nothing. If
+  -- that is the question's own name, no alias may be cached.
+  alias : (name : Labels) (ttl : ℕ) → ChainEnds zone q answers (Some (name, ttl)) → is_within name zone ≡ false
+      → SaysOf answers authorities rcode zone q (Aliased name (unwrap_or (ttl_of_aliases q name ttl) 0))
   -- the chain ends within the zone
   named : (name : Labels) (ttl : ℕ) {x : Said} → ChainEnds zone q answers (Some (name, ttl)) → is_within name zone ≡ true → SaysAt answers authorities rcode zone q name ttl x
       → SaysOf answers authorities rcode zone q x

@@ -26,8 +26,8 @@ pub(crate) enum Owner {
     OfZone,
     /// The name or one above it, below the zone.
     OfCut,
-    /// Any name.
-    Any,
+    /// The name, one above it, or one within the zone.
+    Related,
 }
 
 impl Owner {
@@ -40,7 +40,7 @@ impl Owner {
             Owner::Above => is_below(name, owner) && is_within(owner, zone),
             Owner::OfZone => is_within(name, owner) && is_within(owner, zone),
             Owner::OfCut => is_within(name, owner) && is_below(owner, zone),
-            Owner::Any => true,
+            Owner::Related => is_within(name, owner) || is_within(owner, zone),
         }
     }
 }

@@ -113,11 +113,12 @@ impl<'a> Answer<'a> {
 pub struct Denial<'a> {
     pub(crate) name: ParsedName<'a>,
     pub(crate) soa: Option<Record<ParsedName<'a>, Soa<ParsedName<'a>>>>,
+    pub(crate) alias_ttl: Option<u32>,
 }
 
 impl<'a> Denial<'a> {
     ghost use Rattle.dns_reply.specs.Records.{negative_ttl};
-    ghost use Rattle.dns_reply.specs.Replies.{denial_name, denial_soa, denial_item};
+    ghost use Rattle.dns_reply.specs.Replies.{denial_name, denial_soa, denial_item, denial_alias_ttl};
 
     /// The name that has no records, or doesn't exist.
     pub fn name(&self) -> ParsedName<'a>
@@ -136,7 +137,7 @@ impl<'a> Denial<'a> {
     /// For how long the denial may be cached: the lesser of the SOA record's TTL and its MINIMUM
     /// (RFC 2308 section 5). Without an SOA record it is 0, and shouldn't be cached.
     ///
-    /// The aliases that lead to the name have TTLs of their own.
+    /// The aliases that lead to the name have a TTL of their own.
     pub fn ttl(&self) -> Ttl
         ensures { result ≡ negative_ttl (denial_item self.now) }
     {
@@ -145,6 +146,14 @@ impl<'a> Denial<'a> {
             None => Ttl::ZERO,
         }
     }
+
+    /// The least TTL of the CNAME records that lead to the name (RFC 2181 section 5.2), or `None` if
+    /// the name is the question's own.
+    pub fn alias_ttl(&self) -> Option<Ttl>
+        ensures { result ≡ denial_alias_ttl self.now }
+    {
+        ttl_from(self.alias_ttl)
+    }
 }
 
 /// A delegation.
@@ -152,10 +161,11 @@ impl<'a> Denial<'a> {
 pub struct Referral<'a> {
     pub(crate) name: ParsedName<'a>,
     pub(crate) cut: ParsedName<'a>,
+    pub(crate) alias_ttl: Option<u32>,
 }
 
 impl<'a> Referral<'a> {
-    ghost use Rattle.dns_reply.specs.Replies.{referral_name, referral_cut};
+    ghost use Rattle.dns_reply.specs.Replies.{referral_name, referral_cut, referral_alias_ttl};
 
     /// The name that is delegated.
     pub fn name(&self) -> ParsedName<'a>
@@ -170,6 +180,14 @@ impl<'a> Referral<'a> {
         ensures { result ≡ referral_cut self.now }
     {
         self.cut
+    }
+
+    /// The least TTL of the CNAME records that lead to the name, or `None` if the name is the
+    /// question's own.
+    pub fn alias_ttl(&self) -> Option<Ttl>
+        ensures { result ≡ referral_alias_ttl self.now }
+    {
+        ttl_from(self.alias_ttl)
     }
 }
 
@@ -190,8 +208,8 @@ impl<'a> Alias<'a> {
         self.name
     }
 
-    /// The least TTL of the CNAME records that lead to the name. It is `Ttl::MAX` if there are
-    /// none, as the question's own name isn't within the zone.
+    /// The least TTL of the CNAME records that lead to the name. It is 0 if there are none, as the
+    /// question's own name isn't within the zone.
     pub fn ttl(&self) -> Ttl
         ensures { result ≡ alias_ttl self.now }
     {
@@ -238,5 +256,15 @@ impl<'a> Redirection<'a> {
         ensures { result ≡ redirection_ttl self.now }
     {
         Ttl::from_secs(self.ttl)
+    }
+}
+
+/// Seconds as a TTL.
+fn ttl_from(seconds: Option<u32>) -> Option<Ttl>
+    ensures { result ≡ seconds }
+{
+    match seconds {
+        Some(seconds) => Some(Ttl::from_secs(seconds)),
+        None => None,
     }
 }

@@ -5,6 +5,7 @@ ghost use Rattle.dns_name.specs.ParsedName.{labels};
 ghost use Rattle.dns_read.specs.Message.{message_octets};
 ghost use Rattle.dns_read.specs.RecordSection.{BeginsSection, records_left};
 ghost use Rattle.dns_read.specs.declared.section.Section.TheVariants as sections;
+ghost use Rattle.dns_reply.specs.Chains.{ttl_of_aliases};
 ghost use Rattle.dns_reply.specs.Matches.{IsReply, IsNotReply};
 ghost use Rattle.dns_reply.specs.Records.{has_ns, owns_asked, soa_for};
 ghost use Rattle.dns_reply.specs.Replies.{said_of};
@@ -29,8 +30,8 @@ use dns_read::{Message, RecordSection};
 /// whatever the letter case of its question.
 ///
 /// `zone` is the name of the zone that the server was asked about: the root for a server that
-/// resolves, else the zone of the server. No record whose owner isn't within it counts, but any NS
-/// record of the authority section can make the reply `Lame`, and any malformed one `Unreadable`.
+/// resolves, else the zone of the server. No record whose owner isn't within it counts, but NS
+/// records of a zone above can make the reply `Lame`, and any malformed record `Unreadable`.
 ///
 /// Ask `is_regular` of the module `edit` first: a message that isn't regular can take seconds.
 pub fn reply_to<'a, Asked: Octets, Received: Octets, N: ToName>(
@@ -166,7 +167,11 @@ fn said_of_question<'a>(
         return Reply::Unusable(Unusable::Loop);
     };
     if !is_within(&name, zone) {
-        return Reply::Alias(Alias { name, ttl });
+        let alias_ttl = ttl_of_aliases(question, &name, ttl);
+        return Reply::Alias(Alias {
+            name,
+            ttl: alias_ttl.unwrap_or(0),
+        });
     }
     said_at(answers, authorities, rcode, zone, question, name, ttl)
 }
@@ -202,9 +207,25 @@ fn said_at<'a>(
             ttl: ttl.min(record.ttl().as_secs()),
         }),
         None => {
-            let aliased = name != *question.qname();
-            said_none(authorities, rcode, qclass, zone, name, aliased)
+            let alias_ttl = ttl_of_aliases(question, &name, ttl);
+            said_none(authorities, rcode, qclass, zone, name, alias_ttl)
         }
+    }
+}
+
+/// The least TTL of the aliases that lead to a name, which is `ttl` unless the name is the
+/// question's own.
+fn ttl_of_aliases(
+    question: &Question<ParsedName<'_>>,
+    name: &ParsedName<'_>,
+    ttl: u32,
+) -> Option<u32>
+    ensures { result ≡ ttl_of_aliases (parsed_question question.now) (labels name.now) ttl }
+{
+    if *name == *question.qname() {
+        None
+    } else {
+        Some(ttl)
     }
 }
 
@@ -221,28 +242,33 @@ fn is_answered(
     rcode == OptRcode::NOERROR && owns_asked(answers, question, name)
 }
 
-/// What the authority section says of a name that owns no record asked for. `aliased` says whether it
-/// isn't the question's own.
+/// What the authority section says of a name that owns no record asked for. `alias_ttl` is the least
+/// TTL of the aliases that lead to it, if there are any.
 fn said_none<'a>(
     authorities: RecordSection<'a>,
     rcode: OptRcode,
     qclass: Class,
     zone: &ParsedName<'_>,
     name: ParsedName<'a>,
-    aliased: bool,
+    alias_ttl: Option<u32>,
 ) -> Reply<'a>
     requires { (rcode ≡ 0) ⊎ (rcode ≡ 3) }
     ensures { SaysNone (records_left authorities.entry) rcode qclass (labels zone.now)
-        (labels name.entry) aliased (said_of result) }
+        (labels name.entry) alias_ttl (said_of result) }
 {
     let soa = first_found::<Soa<ParsedName<'a>>>(authorities, Owner::OfZone, qclass, zone, &name);
+    let denial = Denial {
+        name,
+        soa,
+        alias_ttl,
+    };
     if rcode == OptRcode::NXDOMAIN {
-        return Reply::NoName(Denial { name, soa });
+        return Reply::NoName(denial);
     }
     if soa.is_some() {
-        return Reply::NoData(Denial { name, soa });
+        return Reply::NoData(denial);
     }
-    said_by_servers(authorities, qclass, zone, name, aliased)
+    said_by_servers(authorities, qclass, zone, name, alias_ttl)
 }
 
 /// What NS records say of a name that owns no record asked for, without an SOA record.
@@ -251,37 +277,44 @@ fn said_by_servers<'a>(
     qclass: Class,
     zone: &ParsedName<'_>,
     name: ParsedName<'a>,
-    aliased: bool,
+    alias_ttl: Option<u32>,
 ) -> Reply<'a>
     requires { soa_for qclass (labels zone.now) (records_left authorities) (labels name) ≡ None }
     ensures { SaysNone (records_left authorities.entry) 0 qclass (labels zone.now)
-        (labels name.entry) aliased (said_of result) }
+        (labels name.entry) alias_ttl (said_of result) }
 {
+    let no_data = Reply::NoData(Denial {
+        name,
+        soa: None,
+        alias_ttl,
+    });
     if !has_ns(authorities, qclass, zone, &name) {
-        return Reply::NoData(Denial { name, soa: None });
+        return no_data;
     }
     match first_found::<Ns<ParsedName<'a>>>(authorities, Owner::OfCut, qclass, zone, &name) {
         Some(record) => Reply::Referral(Referral {
             name,
             cut: *record.owner(),
+            alias_ttl,
         }),
         None => {
-            if aliased {
-                return Reply::NoData(Denial { name, soa: None });
+            if alias_ttl.is_some() {
+                return no_data;
             }
             Reply::Unusable(Unusable::Lame)
         }
     }
 }
 
-/// Whether there is an NS record in the classes of the question.
+/// Whether there is an NS record of a zone that the name is in, or of one within the zone.
 fn has_ns(
     authorities: RecordSection<'_>,
     qclass: Class,
     zone: &ParsedName<'_>,
     name: &ParsedName<'_>,
 ) -> bool
-    ensures { result ≡ has_ns qclass (records_left authorities.entry) }
+    ensures { result ≡ has_ns qclass (labels zone.now) (records_left authorities.entry)
+        (labels name.now) }
 {
-    first_found::<Ns<ParsedName<'_>>>(authorities, Owner::Any, qclass, zone, name).is_some()
+    first_found::<Ns<ParsedName<'_>>>(authorities, Owner::Related, qclass, zone, name).is_some()
 }

@@ -1,12 +1,19 @@
 -- What a reply tells a look-up to do next, by what it says (`Says` of dns_reply). RFC 1034 section 5.3.3, RFC 2181 section 9, RFC 6672 section 2.2.
 use Rattle.std.specs.Prelude.{◌≡◌, ◌+◌, ℕ, Bool, true, false, List, [], Option, Some, None, MatchBool, MatchOption}
+use Rattle.dns_message.specs.Builders.{encode}
 use Rattle.dns_message.specs.Names.{Labels, name_labels, names_equal}
 use Rattle.dns_message.specs.Replies.{Records, Said, Answered, NoData, NoName, Referred, Aliased, Redirected, Truncated, Failed, Done, Unreadable, ManyOpts, Looping, Lame}
 use Rattle.dns_message.specs.Replies.{Says, Substitutes, members, members_left, said_of}
+use Rattle.dns_message.specs.Targets.{Plain}
 use Rattle.dns_message.specs.declared.reply.Reply.TheVariants as replies
+use Rattle.example_resolve.specs.Queries.{asking, query_fields}
 use Rattle.example_resolve.specs.declared.resolving.Lookup.{Lookup}
 use Rattle.example_resolve.specs.declared.resolving.Next.{Next}
 use Rattle.example_resolve.specs.declared.resolving.Next.TheVariants as nexts
+
+-- the octets of a look-up's query with an ID (`IsQuery`)
+abbrev pub query_of : ℕ → Lookup → List ℕ
+query_of id old = (encode Plain (asking (query_fields id) (record { name = name_labels old.name; rtype = old.rtype; class = 1 }))).octets
 
 -- A look-up asks next for this name and the same type, at the servers of this zone, over TCP or not. That takes one of its budget.
 pub record AsksNext (old later : Lookup) (wanted at : Labels) (tcp : Bool) : Type 0 where
@@ -41,11 +48,11 @@ abbrev pub Tells : Lookup → Said → Next → Type 0
 -- the records of the type and of class IN (1) that the name at the end of the chain of aliases owns
 Tells old (Answered name answers ttl) next = Finds (members name 1 old.rtype answers) next
 -- with an SOA record it is a denial; without one, the server has perhaps sent the alias alone that leads to another name
-Tells old (NoData name (Some soa) ttl) next = next ≡ nexts.NoData
-Tells old (NoData name None ttl) next = MatchBool (names_equal name (name_labels old.name)) (next ≡ nexts.NoData) (Restarts old name next)
-Tells old (NoName name soa ttl) next = next ≡ nexts.NoName
+Tells old (NoData name (Some soa) ttl aliases) next = next ≡ nexts.NoData
+Tells old (NoData name None ttl aliases) next = MatchBool (names_equal name (name_labels old.name)) (next ≡ nexts.NoData) (Restarts old name next)
+Tells old (NoName name soa ttl aliases) next = next ≡ nexts.NoName
 -- the name at the end of the chain of aliases, at the servers of the zone to which it is delegated
-Tells old (Referred name cut) next = Asks old name cut false next
+Tells old (Referred name cut aliases) next = Asks old name cut false next
 Tells old (Aliased name ttl) next = Restarts old name next
 -- the name that the DNAME record leads to; YXDOMAIN (6) if that is too long
 Tells old (Redirected name owner target ttl) next =

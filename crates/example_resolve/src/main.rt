@@ -9,7 +9,8 @@
 //! The program prints the addresses, one a line, if the replies give them. Else it prints the next
 //! query in hexadecimal digits, and `over TCP` or `to the servers of` a zone if that has to be used
 //! or asked. If there are no addresses, it exits with status 1 and a reason on standard error. A
-//! reply that isn't regular is refused, unless it was truncated: its names may be dear to read.
+//! message that isn't regular is refused, as its names may be dear to read, unless it is the
+//! truncated response to the query: then its records aren't read.
 //!
 //! The contract of `resolving::query` says what a query is, and that of `resolving::Lookup::judge`
 //! what each reply tells to do.
@@ -40,11 +41,12 @@ fn main(rt: HostRuntime) -> Result<()> {
     for line in lines {
         let sent = query(ID, &lookup.name, lookup.rtype);
         let received = Message::from_octets(hex::decode(rt.alloc(), line.trim_ascii())?)?;
+        let truncated = received.header().tc() && received.is_answer(&sent);
         ensure!(
-            received.header().tc() || is_regular(&received),
+            truncated || is_regular(&received),
             "ask another server: the reply isn't regular"
         );
-        match lookup.judge(rt.alloc(), &sent, &received)? {
+        match lookup.judge(rt.alloc(), ID, &received)? {
             Next::Found(set) => return print_set(&rt, set),
             Next::Ask(later) => lookup = later,
             Next::NoData => bail!("no addresses"),

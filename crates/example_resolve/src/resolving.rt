@@ -8,7 +8,7 @@ ghost use Rattle.dns_message.specs.Sections.RecordSection.{records_left};
 ghost use Rattle.dns_message.specs.declared.reply.LetterCase.TheVariants.{Ignored};
 ghost use Rattle.dns_message.specs.declared.reply.Reply.TheVariants as replies;
 ghost use Rattle.example_resolve.specs.Queries.{IsQuery};
-ghost use Rattle.example_resolve.specs.Lookups.{Asks, Restarts, Tells, Told};
+ghost use Rattle.example_resolve.specs.Lookups.{Asks, Restarts, Tells, Told, query_of};
 
 use arrayvec::ArrayVec;
 use dns_message::builder::MessageBuilder;
@@ -72,22 +72,23 @@ pub enum Next<'a> {
 }
 
 impl Lookup {
-    /// What a received message tells to do, if it is a reply to the query that was sent.
+    /// What a received message tells to do, if it is a reply to this look-up's query with the ID.
     ///
     /// A message that is none may be forged: go on waiting for the reply.
-    pub fn judge<'a, Asked: Octets, Received: Octets>(
+    pub fn judge<'a, Received: Octets>(
         &self,
         alloc: Global,
-        query: &Message<Asked>,
+        id: u16,
         received: &'a Message<Received>,
     ) -> Result<Next<'a>, NotReply>
         ensures reply { OnOk result (IsReply Ignored (message_octets received.now)
-            (message_octets query.now)) }
+            (query_of id self.now)) }
         ensures told { IfOk result (λ next. Told (message_octets received.now) self.now next) }
         ensures reason { IfErr result (IsNotReply Ignored (message_octets received.now)
-            (message_octets query.now)) }
+            (query_of id self.now)) }
     {
-        match reply_to(query, received, &self.zone) {
+        let sent = query(id, &self.name, self.rtype);
+        match reply_to(&sent, received, &self.zone) {
             Ok(reply) => Ok(self.next(alloc, &reply)),
             Err(reason) => Err(reason),
         }

@@ -1,8 +1,7 @@
-use Rattle.std.proofs.Common.{[], ◌∷◌, ◌≡◌, Bool, arith, refl, rules, subst, sym, true}
-use Rattle.std.specs.Prelude.{None, Some, not}
-use Rattle.dns_item.specs.Question.{parsed_question, qclass_of, qname_of}
+use Rattle.std.proofs.Common.{[], ◌∷◌, ◌≡◌, ℕ, refl, subst, sym, true}
+use Rattle.std.specs.Prelude.{None, Option, Some}
+use Rattle.dns_item.specs.Question.{parsed_question, qclass_of}
 use Rattle.dns_item.specs.Record.{data_of, record_item}
-use Rattle.dns_name.specs.NameOrders.{names_equal}
 use Rattle.dns_name.specs.ParsedName.{labels}
 use Rattle.dns_read.specs.RecordSection.{records_left}
 use Rattle.dns_wire.specs.Parts.Part.{UncompressedName}
@@ -32,8 +31,8 @@ pub returns-in-None : goal.returns-in-None
 returns-in-None c =
     let owns = owns_asked (parsed_question c.args.question.now) (records_left c.args.answers) (labels c.args.name) in
     let above = subst (λ k. dname_above k (labels c.args.zone.now) (records_left c.args.answers) (labels c.args.name) ≡ None) c.qclass-qclass.ensures (sym c.in-None.ensures) in
-    let says = subst (λ k. SaysNone (records_left c.args.authorities) c.args.rcode k (labels c.args.zone.now) (labels c.args.name) c.ne-aliased.result (said_of c.said_none.result))
+    let says = subst (λ k. SaysNone (records_left c.args.authorities) c.args.rcode k (labels c.args.zone.now) (labels c.args.name) c.ttl_of_aliases-alias_ttl.result (said_of c.said_none.result))
     c.qclass-qclass.ensures c.said_none.ensures in
-    let same : c.ne-aliased.result ≡ not (names_equal (labels c.args.name) (labels (qname_of c.args.question.now))) = first_of (search rules, grind (arith)) in
-    let says = subst (λ (a : Bool). SaysNone (records_left c.args.authorities) c.args.rcode (qclass_of c.args.question.now) (labels c.args.zone.now) (labels c.args.name) a (said_of c.said_none.result)) same says in
+    let says = subst (λ (a : Option ℕ). SaysNone (records_left c.args.authorities) c.args.rcode (qclass_of c.args.question.now) (labels c.args.zone.now)
+    (labels c.args.name) a (said_of c.said_none.result)) c.ttl_of_aliases-alias_ttl.ensures says in
     none (not_answered c.args.rcode owns (sym c.if-is_answered.ensures)) above says

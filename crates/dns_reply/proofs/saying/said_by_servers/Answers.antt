@@ -15,8 +15,8 @@ returns-in-Some c =
     let ns = record_item labels (λ _. 2) (λ ns. CompressibleName (labels (nsdname_of ns)) ∷ []) c.in-Some.record in
     rw c.owner.ensures (referral ns refl c.requires (sym c.in-Some.ensures))
 
-pub returns-then-aliased : goal.returns-then-aliased
-returns-then-aliased c = no_authority refl c.requires (inr (c.if-aliased.true, sym c.in-None.ensures))
+pub returns-then-is_some : goal.returns-then-is_some
+returns-then-is_some c = no_authority refl c.requires (inr (sym c.if-is_some.ensures, sym c.in-None.ensures))
 
-pub returns-else-aliased : goal.returns-else-aliased
-returns-else-aliased c = lame refl c.requires (sym c.if-not-has_ns.ensures) (sym c.in-None.ensures) c.if-aliased.false
+pub returns-else-is_some : goal.returns-else-is_some
+returns-else-is_some c = lame refl c.requires (sym c.if-not-has_ns.ensures) (sym c.in-None.ensures) (sym c.if-is_some.ensures)

@@ -18,7 +18,7 @@ returns-then-eq c =
 pub returns-then-is_some : goal.returns-then-is_some
 returns-then-is_some c =
     let other : c.args.rcode ≢ 3 = first_of (search rules, grind (arith, nat_tests)) in
-    soa_found soa_item c.first_found-soa.result (records_left c.args.authorities) c.args.rcode c.args.qclass (labels c.args.zone.now) (labels c.args.name) c.args.aliased
+    soa_found soa_item c.first_found-soa.result (records_left c.args.authorities) c.args.rcode c.args.qclass (labels c.args.zone.now) (labels c.args.name) c.args.alias_ttl
     (no_error c.args.rcode c.requires other) (sym c.if-is_some.ensures) c.first_found-soa.ensures
 
 pub said_by_servers-requires : goal.said_by_servers-requires
