@@ -9,7 +9,8 @@ mod WriteLemmas
 mod StayLemmas
 mod ReadLemmas
 mod MinLemmas
-mod NamedTypes
+pub mod theory
+mod NameStarts
 mod DataLemmas
 mod OffsetLemmas
 mod FollowLemmas
@@ -21,6 +22,7 @@ mod RegularTtls
 mod CaseLemmas
 mod AskedLemmas
 mod OptLemmas
+mod RcodeLemmas
 mod CoverLemmas
 mod OptionLemmas
 mod ReplaceLemmas

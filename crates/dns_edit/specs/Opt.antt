@@ -4,8 +4,10 @@ use Rattle.std.specs.Int.{w16}
 use Rattle.dns_octets.specs.declared.error.ParseError.{ParseError}
 use Rattle.dns_name.specs.Names.{fault_of}
 use Rattle.dns_name.specs.Parsers.{number_at}
+use Rattle.dns_code.specs.Header.{fields_in}
 use Rattle.dns_code.specs.HeaderSection.{header_size}
 use Rattle.dns_item.specs.Items.{SkipsRecord, RecordSkipFaultAt}
+use Rattle.dns_read.specs.OptSearches.{opt_rcode_of}
 use Rattle.dns_read.specs.Reading.{Skipped, StopsSkipping}
 use Rattle.dns_read.specs.RecordsFrom.{records_from}
 use Rattle.dns_read.specs.Sections.{additional_count, AdditionalsStart, AdditionalsFault}
@@ -85,6 +87,10 @@ pub record FewerAdditionals (b c : List ℕ) (p : ℕ) : Type 0 where
 -- If the last record of a regular message is removed, all others read the same: those of `b`, by its counts, read the same in `c`, which has one record fewer.
 abbrev pub RemovedReadsAlike : Type 0
 RemovedReadsAlike = (b c : List ℕ) → IsRegular b → header_size ≤ length b → header_size ≤ length c → LosesLast b c → EntriesSame b c × ((p : ℕ) × FewerAdditionals b c p)
+
+-- If the OPT record of a regular message is removed, the RCODE is that of the header alone: RFC 6891 section 6.1.3.
+abbrev pub RemovedRcode : Type 0
+RemovedRcode = (b c : List ℕ) → IsRegular b → header_size ≤ length b → header_size ≤ length c → RemovesOpt b c (Ok true) → opt_rcode_of c ≡ (fields_in (take 4 c)).rcode
 
 -- If the last record of a regular message is removed, it stays regular.
 abbrev pub RemovedStaysRegular : Type 0

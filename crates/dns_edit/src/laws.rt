@@ -4,9 +4,9 @@ ghost use Rattle.std.specs.Prelude.{◌≡◌, ◌↔◌, IsTrue};
 ghost use Rattle.dns_edit.specs.Acceptance.{NeverBoth};
 ghost use Rattle.dns_edit.specs.Alike.{CaseReadsAlike, CaseStaysRegular, HeaderReadsAlike, HeaderStaysRegular, TtlsStayRegular};
 ghost use Rattle.dns_edit.specs.Case.{AsksForNames};
-ghost use Rattle.dns_edit.specs.Fields.{NamesAreFields, NamesAreOfFields};
+ghost use Rattle.dns_edit.specs.Fields.{NamesAreFields, NamesAreOfFields, NamesBeginAfterFields};
 ghost use Rattle.dns_edit.specs.Following.{NamesFollowFew};
-ghost use Rattle.dns_edit.specs.Opt.{RemovedReadsAlike, RemovedStaysRegular};
+ghost use Rattle.dns_edit.specs.Opt.{RemovedRcode, RemovedReadsAlike, RemovedStaysRegular};
 ghost use Rattle.dns_edit.specs.Options.{ReplacedReadsAlike, ReplacedReadsBack, ReplacedStaysRegular};
 ghost use Rattle.dns_edit.specs.Readings.{ChangedReadsAlike, NamesReadAlike, RdataReadsAlike};
 
@@ -43,9 +43,11 @@ pub fn case_reads_alike()
     ensures { CaseReadsAlike }
 {}
 
-/// After [`crate::remove_opt`] a regular message reads as before, without its last record.
+/// After [`crate::remove_opt`] a regular message reads as before, without its last record. Its rcode
+/// is that of the header.
 pub fn removed_reads_alike()
-    ensures { RemovedReadsAlike }
+    ensures alike { RemovedReadsAlike }
+    ensures rcode { RemovedRcode }
 {}
 
 /// After [`crate::replace_option`] the questions and records of a regular message read as before,
@@ -89,11 +91,12 @@ pub fn names_follow_few()
     ensures { NamesFollowFew }
 {}
 
-/// The names in RDATA of each record type of `fields_table` are those among its fields, but of NAPTR
-/// only their number. This crate knows of names in RDATA of no other type.
+/// The names in RDATA of each record type of `fields_table` are those among its fields, and begin
+/// where these do. This crate knows of names in RDATA of no other type.
 #[tactic(auto, unfolding(fields_table::specs::RecordTypes::record_types))]
 pub fn names_are_fields()
     ensures types { NamesAreFields }
+    ensures starts { NamesBeginAfterFields }
     ensures others { NamesAreOfFields }
 {}
 

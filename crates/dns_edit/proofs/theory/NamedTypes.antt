@@ -12,7 +12,8 @@ by_first : (test : ℕ → Bool) (n m : ℕ) (ms : List ℕ) (b : Bool) → nat_
 by_first test n m ms true e first later among = subst (λ (k : ℕ). test k ≡ true) (sym (eqb-true n m e)) first
 by_first test n m ms false e first later among = later among
 
-among_passes : (test : ℕ → Bool) (n : ℕ) (ms : List ℕ) → list_all test ms ≡ true → is_among n ms ≡ true → test n ≡ true
+-- A number among those that pass a test passes it.
+pub among_passes : (test : ℕ → Bool) (n : ℕ) (ms : List ℕ) → list_all test ms ≡ true → is_among n ms ≡ true → test n ≡ true
 among_passes test n [] all among = absurd (cc among)
 among_passes test n (m ∷ ms) all among =
     let both = and_parts (test m) (list_all test ms) all in
