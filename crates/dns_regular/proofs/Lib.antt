@@ -1,0 +1,6 @@
+mod Origins
+mod Names
+mod Data
+mod Items
+mod Regular
+mod Layouts
