@@ -22,7 +22,7 @@ use Rattle.dns_transfer.specs.declared.grammar.Kind.{Kind}
 use Rattle.dns_transfer.specs.declared.grammar.Kind.TheVariants.{Soa, Other}
 use Rattle.dns_transfer.specs.declared.grammar.Act.{Act}
 use Rattle.dns_transfer.specs.declared.grammar.Act.TheVariants as acts
-use Rattle.dns_transfer.proofs.FormLemmas.{ends, runs, one_taken, falls, chosen, not_chosen, same_serial, ok_of, rest_of, rest_steps, rest_records, rest_of_steps}
+use Rattle.dns_transfer.proofs.theory.FormLemmas.{ends, runs, one_taken, falls, chosen, not_chosen, same_serial, ok_of, rest_of, rest_steps, rest_records, rest_of_steps}
 use Rattle.dns_transfer.proofs.ReadForms.{IsDirect, EndsFrom, pair_of, chosen_pair, direct_pair, no_end, step_first, first_of, ends_from, ended_rest}
 use Rattle.dns_transfer.proofs.ReadForms.EndsFrom.{ended, whole_add, whole_end, remove, newer, add, older, add_end}
 use Rattle.dns_transfer.proofs.SerialLemmas.{is_greater-Decides}

@@ -1,10 +1,9 @@
+pub mod theory
 mod SerialLemmas
 mod OwnerLemmas
 mod KindLemmas
-mod RunLemmas
 mod StepLemmas
 mod MessageLemmas
-mod FormLemmas
 mod ZoneLemmas
 mod TransferLemmas
 mod ReadForms

@@ -7,6 +7,7 @@ use Rattle.dns_code.specs.Header.{HeaderFields, fields_in}
 use Rattle.dns_name.specs.Names.{Fault, fault_of}
 use Rattle.dns_name.specs.declared.parsed_name.ParsedName.{ParsedName}
 use Rattle.dns_item.specs.declared.question.Question.{Question}
+use Rattle.dns_read.specs.OptSearches.{opt_rcode_of}
 use Rattle.dns_read.specs.QuestionSection.{question_result, questions_left}
 use Rattle.dns_read.specs.declared.question_section.QuestionSection.{QuestionSection}
 use Rattle.dns_item.specs.Question.{parsed_question}
@@ -73,7 +74,7 @@ module _ (old new : QuestionSection) (given : Option (Result (Question ParsedNam
   pub given_no_question : given ≡ None → questions_left old ≡ []
   given_no_question is = (subst (λ (o : Option (Result (Question ParsedName) ParseError)). YieldsFirstBy question_result questions_left old o new) is yields).0
 
--- The error of a message, by what was read of its header and questions.
-pub error_of_message : (asked : Asked) (state : State) (b : List ℕ) (f : HeaderFields) (items : List (Result QuestionItem Fault)) → f ≡ fields_in (take 4 b) → items ≡ questions_of b
-    → message_error asked state f items ≡ error_before_answers asked state b
-error_of_message asked state b f items header questions = λ i. message_error asked state (header i) (questions i)
+-- The error of a message, by what was read of its header, its RCODE and its questions.
+pub error_of_message : (asked : Asked) (state : State) (b : List ℕ) (f : HeaderFields) (rcode : ℕ) (items : List (Result QuestionItem Fault)) → f ≡ fields_in (take 4 b) → rcode ≡ opt_rcode_of b
+    → items ≡ questions_of b → message_error asked state f rcode items ≡ error_before_answers asked state b
+error_of_message asked state b f rcode items header extended questions = λ i. message_error asked state (header i) (extended i) (questions i)

@@ -19,8 +19,8 @@ use Rattle.dns_transfer.specs.declared.grammar.Kind.{Kind}
 use Rattle.dns_transfer.specs.declared.grammar.Kind.TheVariants.{Soa, Other}
 use Rattle.dns_transfer.specs.declared.grammar.Act.{Act}
 use Rattle.dns_transfer.specs.declared.grammar.Act.TheVariants as acts
-use Rattle.dns_transfer.proofs.FormLemmas.{ends, runs}
-use Rattle.dns_transfer.proofs.RunLemmas.{run-known}
+use Rattle.dns_transfer.proofs.theory.FormLemmas.{ends, runs}
+use Rattle.dns_transfer.proofs.theory.RunLemmas.{run-known}
 use Rattle.dns_transfer.proofs.SerialLemmas.{is_greater-Decides}
 
 -- an outcome doesn't fall back

@@ -23,7 +23,7 @@ use Rattle.dns_transfer.specs.declared.grammar.State.{State}
 use Rattle.dns_transfer.specs.declared.steps.Step.{Step}
 use Rattle.dns_transfer.specs.declared.steps.Steps.{Steps}
 use Rattle.dns_transfer.proofs.KindLemmas.{error_of-fault_of}
-use Rattle.dns_transfer.proofs.RunLemmas.{run-known, run-again}
+use Rattle.dns_transfer.proofs.theory.RunLemmas.{run-known, run-again}
 
 -- The RDATA of a record that was read lies within the octets.
 pub read_span : (b : List ℕ) (p q : ℕ) (shown : ParsedRecord) → ReadsRecord b p q (parsed_entry shown) → octets_of shown ≡ b → HasSpan (encoded_record shown)

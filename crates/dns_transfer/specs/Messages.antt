@@ -4,6 +4,7 @@ use Rattle.dns_octets.specs.declared.error.ParseError.{ParseError}
 use Rattle.dns_name.specs.Names.{Fault, fault_of}
 use Rattle.dns_code.specs.Header.{HeaderFields, fields_in}
 use Rattle.dns_item.specs.Questions.{QuestionItem}
+use Rattle.dns_read.specs.OptSearches.{opt_rcode_of}
 use Rattle.dns_read.specs.SameQuestions.{same_question}
 use Rattle.dns_read.specs.Searches.{questions_of}
 use Rattle.dns_read.specs.Sections.{AnswersFault}
@@ -32,11 +33,12 @@ is_ended (Removing old last) = false
 is_ended (Adding new last) = false
 is_ended Ended = true
 
--- The first error of a header: the ID isn't the query's; the message is no response to a QUERY; the RCODE isn't NOERROR; the message is truncated.
-abbrev pub header_error : ℕ → HeaderFields → Option TransferError
-header_error id f =
+-- The first error of a header, with the message's RCODE, whose higher bits are in its OPT record (RFC 6891 section 6.1.3): the ID isn't the query's; the message is no response to a QUERY; the RCODE
+-- isn't NOERROR; the message is truncated.
+abbrev pub header_error : ℕ → HeaderFields → ℕ → Option TransferError
+header_error id f rcode =
     if f.id == id
-    then (if f.qr && (f.opcode == 0) then (if f.rcode == 0 then (if f.tc then Some Truncated else None) else Some (Rcode f.rcode)) else Some NoResponse)
+    then (if f.qr && (f.opcode == 0) then (if rcode == 0 then (if f.tc then Some Truncated else None) else Some (Rcode rcode)) else Some NoResponse)
     else Some WrongId
 
 -- The error of the questions: they are the query's one question, or once a record was read perhaps none. RFC 5936 section 2.2.2.
@@ -52,13 +54,13 @@ first_error (Some e) later = Some e
 first_error None later = later
 
 -- the first error of a message before its answer section, if it has one
-abbrev pub message_error : Asked → State → HeaderFields → List (Result QuestionItem Fault) → Option TransferError
-message_error asked state f questions =
-    if is_ended state then Some AfterEnd else first_error (header_error asked.id f) (question_error asked state questions)
+abbrev pub message_error : Asked → State → HeaderFields → ℕ → List (Result QuestionItem Fault) → Option TransferError
+message_error asked state f rcode questions =
+    if is_ended state then Some AfterEnd else first_error (header_error asked.id f rcode) (question_error asked state questions)
 
 -- the same of the octets of a message
 abbrev pub error_before_answers : Asked → State → List ℕ → Option TransferError
-error_before_answers asked state b = message_error asked state (fields_in (take 4 b)) (questions_of b)
+error_before_answers asked state b = message_error asked state (fields_in (take 4 b)) (opt_rcode_of b) (questions_of b)
 
 -- Why nothing is taken from a message: it has an error before its answer section, or that has no start.
 pub data RefusesMessage (asked : Asked) (state : State) (b : List ℕ) : TransferError → Type 0 where

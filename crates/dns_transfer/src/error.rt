@@ -13,9 +13,10 @@ pub enum TransferError {
     /// The message isn't a response, or its opcode isn't QUERY.
     #[error("no response to a query")]
     NoResponse,
-    /// The RCODE isn't `NOERROR`. This is its number.
+    /// The RCODE isn't `NOERROR`. This is its number, with the higher bits of the OPT record (RFC
+    /// 6891 section 6.1.3).
     #[error("rcode {0}")]
-    Rcode(u8),
+    Rcode(u16),
     /// The TC flag is set.
     #[error("truncated message")]
     Truncated,

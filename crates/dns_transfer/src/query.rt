@@ -18,7 +18,7 @@ use crate::grammar::{Kind, Request, State, is_ended};
 use crate::kind::kind_within;
 use arrayvec::ArrayVec;
 use dns_code::Header;
-use dns_iana::{Class, Opcode, Rcode, Rtype};
+use dns_iana::{Class, Opcode, OptRcode, Rtype};
 use dns_item::{ParsedRecord, Question};
 use dns_name::{Name, ParsedName, ToName};
 use dns_read::QuestionSection;
@@ -66,20 +66,21 @@ impl Query {
         kind_within(&self.zone.as_parsed(), shown)
     }
 
-    /// Checks the header and the questions of a message that comes in this state.
+    /// Checks the header, the RCODE and the questions of a message that comes in this state.
     pub(crate) fn check(
         &self,
         state: State,
         header: Header,
+        rcode: OptRcode,
         questions: QuestionSection<'_>,
     ) -> Result<(), TransferError>
-        ensures { Reports result (message_error (asked_by self.now) state (fields header)
+        ensures { Reports result (message_error (asked_by self.now) state (fields header) rcode
             (questions_left questions.entry)) }
     {
         if is_ended(state) {
             return Err(TransferError::AfterEnd);
         }
-        if let Err(error) = check_header(self.id, header) {
+        if let Err(error) = check_header(self.id, header, rcode) {
             return Err(error);
         }
         self.check_questions(state, questions)
@@ -138,9 +139,9 @@ fn qtype_of(request: Request) -> Rtype
     }
 }
 
-/// Checks the header of a response to the query with this ID.
-fn check_header(id: u16, header: Header) -> Result<(), TransferError>
-    ensures { Reports result (header_error id (fields header)) }
+/// Checks the header and the RCODE of a response to the query with this ID.
+fn check_header(id: u16, header: Header, rcode: OptRcode) -> Result<(), TransferError>
+    ensures { Reports result (header_error id (fields header) rcode) }
 {
     if header.id() != id {
         return Err(TransferError::WrongId);
@@ -148,8 +149,8 @@ fn check_header(id: u16, header: Header) -> Result<(), TransferError>
     if !header.qr() || header.opcode() != Opcode::QUERY {
         return Err(TransferError::NoResponse);
     }
-    if header.rcode() != Rcode::NOERROR {
-        return Err(TransferError::Rcode(header.rcode().to_int()));
+    if rcode != OptRcode::NOERROR {
+        return Err(TransferError::Rcode(rcode.to_int()));
     }
     if header.tc() {
         return Err(TransferError::Truncated);

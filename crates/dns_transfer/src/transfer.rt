@@ -62,9 +62,10 @@ impl Transfer {
     /// The steps of the next message.
     ///
     /// Errors, checked in this order: `AfterEnd` if the transfer has ended; `WrongId`,
-    /// `NoResponse`, `Rcode` and `Truncated` for the header (RFC 5936 section 2.2.1); `Parse` if a
-    /// question can't be read, and `WrongQuestion` if there is another one than the query's, or
-    /// none before the first record (section 2.2.2); `Parse` if a question can't be skipped.
+    /// `NoResponse`, `Rcode` and `Truncated` for the header (RFC 5936 section 2.2.1), with the higher
+    /// bits of the rcode (RFC 6891 section 6.1.3); `Parse` if a question can't be read, and
+    /// `WrongQuestion` if there is another one than the query's, or none before the first record
+    /// (section 2.2.2); `Parse` if a question can't be skipped.
     pub fn take<'a, Octs: Octets>(
         self,
         message: &'a Message<Octs>,
@@ -75,7 +76,8 @@ impl Transfer {
             (message_octets message.now)) }
     {
         let Transfer { query, state } = self;
-        if let Err(error) = query.check(state, message.header(), message.question()) {
+        let rcode = message.opt_rcode();
+        if let Err(error) = query.check(state, message.header(), rcode, message.question()) {
             return Err(error);
         }
         match message.answer() {

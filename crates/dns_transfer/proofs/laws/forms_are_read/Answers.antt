@@ -1,4 +1,4 @@
-use Rattle.dns_transfer.proofs.FormLemmas.{forms_are_read}
+use Rattle.dns_transfer.proofs.theory.FormLemmas.{forms_are_read}
 use Rattle.dns_transfer.proofs.FormShapes.{only_forms_are_read}
 use Rattle.dns_transfer.proofs.laws.forms_are_read.Goals as goal
 

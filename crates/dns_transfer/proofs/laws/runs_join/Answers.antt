@@ -1,4 +1,4 @@
-use Rattle.dns_transfer.proofs.RunLemmas.{runs_join}
+use Rattle.dns_transfer.proofs.theory.RunLemmas.{runs_join}
 use Rattle.dns_transfer.proofs.laws.runs_join.Goals as goal
 
 pub returns : goal.returns

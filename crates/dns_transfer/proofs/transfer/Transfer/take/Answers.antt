@@ -18,13 +18,14 @@ use Rattle.dns_transfer.proofs.transfer.Transfer.take.Goals as goal
 
 pub returns-in-Err-clause-refuses : goal.returns-in-Err-clause-refuses
 returns-in-Err-clause-refuses g c =
-    before (sym (error_of_message (asked_of c.args.self) (state_of c.args.self) (message_octets c.args.message.now) (fields c.header.result) (questions_left c.question.result)
-    (ap fields_in c.header.ensures) c.question.ensures.questions) ∙ c.in-Err.ensures)
+    before (sym (error_of_message (asked_of c.args.self) (state_of c.args.self) (message_octets c.args.message.now) (fields c.header.result) c.opt_rcode-rcode.result (questions_left c.question.result)
+    (ap fields_in c.header.ensures) c.opt_rcode-rcode.ensures c.question.ensures.questions) ∙ c.in-Err.ensures)
 
 pub returns-in-Err-answer-clause-refuses : goal.returns-in-Err-answer-clause-refuses
 returns-in-Err-answer-clause-refuses g c =
-    no_start (sym (error_of_message (asked_of c.args.self) (state_of c.args.self) (message_octets c.args.message.now) (fields c.header.result) (questions_left c.question.result)
-    (ap fields_in c.header.ensures) c.question.ensures.questions) ∙ c.in_default.ensures) c.in-Err-answer.ensures.fault
+    no_start (sym (error_of_message (asked_of c.args.self) (state_of c.args.self) (message_octets c.args.message.now) (fields c.header.result)
+    c.opt_rcode-rcode.result (questions_left c.question.result)
+    (ap fields_in c.header.ensures) c.opt_rcode-rcode.ensures c.question.ensures.questions) ∙ c.in_default.ensures) c.in-Err-answer.ensures.fault
 
 pub returns-in-Ok-clause-takes : goal.returns-in-Ok-clause-takes
 returns-in-Ok-clause-takes g c =
@@ -32,7 +33,8 @@ returns-in-Ok-clause-takes g c =
     let state = state_of c.args.self in
     let b = message_octets c.args.message.now in
     record {
-      no_error = sym (error_of_message asked state b (fields c.header.result) (questions_left c.question.result) (ap fields_in c.header.ensures) c.question.ensures.questions) ∙ c.in_default.ensures;
+      no_error = sym (error_of_message asked state b (fields c.header.result) c.opt_rcode-rcode.result (questions_left c.question.result)
+          (ap fields_in c.header.ensures) c.opt_rcode-rcode.ensures c.question.ensures.questions) ∙ c.in_default.ensures;
       asks = c.new.ensures.asked;
       begins = c.new.ensures.state;
       records = subst (λ (cursor : RecordSection). BeginsSection Answer b cursor) (sym c.new.ensures.records) c.in-Ok.ensures.starts;

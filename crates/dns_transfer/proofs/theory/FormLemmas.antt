@@ -23,7 +23,7 @@ use Rattle.dns_transfer.specs.declared.grammar.Kind.{Kind}
 use Rattle.dns_transfer.specs.declared.grammar.Kind.TheVariants.{Soa, Other}
 use Rattle.dns_transfer.specs.declared.grammar.Act.{Act}
 use Rattle.dns_transfer.specs.declared.grammar.Act.TheVariants as acts
-use Rattle.dns_transfer.proofs.RunLemmas.{run-known, run-taken, run-again}
+use Rattle.dns_transfer.proofs.theory.RunLemmas.{run-known, run-taken, run-again}
 use Rattle.dns_transfer.proofs.SerialLemmas.{is_greater-Decides}
 
 -- steps before what a run gives

@@ -1,0 +1,6 @@
+mod FillLemmas
+mod MessageLemmas
+mod RunMaps
+mod SentKinds
+mod ReadLemmas
+mod WrittenRead

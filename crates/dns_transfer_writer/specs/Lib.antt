@@ -1,0 +1,6 @@
+pub mod Sequences
+pub mod Queue
+pub mod Filling
+pub mod Messages
+pub mod Writer
+pub mod Reading
