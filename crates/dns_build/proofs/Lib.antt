@@ -13,6 +13,9 @@ mod KnownByState
 mod AnswerLemmas
 mod FirstItems
 mod SetLemmas
+mod FitLemmas
+mod FittedSets
+mod PaddingLemmas
 mod CopyLemmas
 mod CopySections
 mod KeptLemmas

@@ -20,8 +20,8 @@ use Rattle.dns_build.specs.declared.push_error.PushError.TheVariants.{CountOverf
 use Rattle.dns_build.proofs.Messages.{restored, taken_back}
 use Rattle.dns_build.proofs.theory.Encodings.{encode-message}
 
--- if n octets exceed the capacity, so do more
-exceeds_more : (capacity : Option ℕ) (n m : ℕ) → n ≤ m → Exceeds capacity n → Exceeds capacity m
+-- If n octets exceed the capacity, so do more.
+pub exceeds_more : (capacity : Option ℕ) (n m : ℕ) → n ≤ m → Exceeds capacity n → Exceeds capacity m
 exceeds_more None n m l h = h
 exceeds_more (Some most) n m l h = omega arith
 
@@ -30,6 +30,7 @@ pub fits_at : (capacity : Option ℕ) (n : ℕ) → Fits capacity n → (most : 
 fits_at None n h most is = absurd (cc)
 fits_at (Some c) n h most is = let same : c ≡ most = cc in omega arith
 
+-- octets within the capacity fit
 pub fits_of : (capacity : Option ℕ) (n : ℕ) → ((most : ℕ) → capacity ≡ Some most → n ≤ most) → Fits capacity n
 fits_of None n h = tt
 fits_of (Some c) n h = h c refl
@@ -164,6 +165,7 @@ reserves capacity old mid new r limit same then fits within small =
 
 module _ (capacity : Option ℕ) (from to : Stage) (rule : Rule) (old new : Built) (r : ℕ) (same : (s : State) → encode rule (move_to to (up_to from s)) ≡ encode rule (up_to from s))
     (limited : (s : State) → (move_to to s).limit ≡ s.limit) where
+  -- a builder that moved to a later section has the octets reserved that it had
   pub moved-reserved : RepresentsSome from rule old → MovesState from to rule (move_to to) old new → IsReserved capacity (record { built = old; reserved = r })
       → IsReserved capacity (record { built = new; reserved = r })
   moved-reserved some moves is =

@@ -4,18 +4,19 @@ use Rattle.std.proofs.Math.Logic.{∥∥₁_elim}
 use Rattle.std.proofs.lemmas.Bool.{eqb-true}
 use Rattle.std.specs.Prelude.{Option, Result, Err, ◌==◌}
 use Rattle.dns_wire.specs.Encoders.{CompressionTable, Rule, Plain, Static, Tree, Hash, encode_name}
-use Rattle.dns_wire.specs.Targets.{Written}
+use Rattle.dns_wire.specs.Targets.{Fits, Written}
 use Rattle.dns_wire.specs.Parts.{encode_parts}
 use Rattle.dns_item.specs.Items.{encode_record}
 use Rattle.dns_edns_builder.specs.Gathered.{Gathered, opt_size}
 use Rattle.dns_read.specs.declared.section.Section.TheVariants.{Additional}
 use Rattle.dns_build.specs.State.{State, InAdditional, encode, no_limit, with_limit, with_record}
-use Rattle.dns_build.specs.BuilderStates.{Built, InEach, PushReturns, RepresentsSome, size_after}
+use Rattle.dns_build.specs.BuilderStates.{Built, InEach, PushReturns, Represents, RepresentsSome, size_after}
 use Rattle.dns_build.specs.Opt.{opt_record, PushesOptRecord}
 use Rattle.dns_build.specs.ReservedOpt.{Reservation, limit_left, OptsAddTheirSize}
 use Rattle.dns_build.specs.declared.push_error.PushError.{PushError}
-use Rattle.dns_build.specs.declared.push_error.PushError.TheVariants.{LimitExceeded}
+use Rattle.dns_build.specs.declared.push_error.PushError.TheVariants.{LimitExceeded, ShortBuf}
 use Rattle.dns_build.proofs.theory.Encodings.{encode-message}
+use Rattle.dns_build.proofs.ReservedLemmas.{not-for-room, size-limited}
 use Rattle.dns_build.proofs.Sections.{Records, encode-size}
 
 -- an OPT record is encoded in these octets, whatever was written before
@@ -52,3 +53,19 @@ not_exceeded capacity grows rule r old new result each some long short within is
     let n = opts_add_their_size rule r.opt s in
     let fits = within_limit (opt_size r.opt) (length old.written.octets) r.limit (r.limit == no_limit) refl (omega arith) (omega (arith, few, short)) within in
     omega (arith, exceeds.1, same, n, fits))
+
+-- An OPT record for which octets are left free isn't refused for capacity or limit.
+pub opt_not_for_room : (capacity : Option ℕ) (grows : Bool) (rule : Rule) (g : Gathered) (limit free : ℕ) (old new : Built) (e : PushError) → RepresentsSome InAdditional rule old
+    → ((n : ℕ) → n ≤ length old.written.octets + free → Fits capacity n × (n ≤ limit))
+    → InEach InAdditional rule old (λ s. PushesOptRecord capacity grows rule g (with_limit limit s) new (Err e))
+    → opt_size g ≤ free → (e ≢ ShortBuf) × (e ≢ LimitExceeded)
+opt_not_for_room capacity grows rule g limit free old new e some room pushes small =
+    (λ is. ∥∥₁_elim some (λ x y. absurd x) (λ p. (why p.0 p.1).0 is), λ is. ∥∥₁_elim some (λ x y. absurd x) (λ p. (why p.0 p.1).1 is))
+  where
+    why : (s : State) → Represents InAdditional rule s old → (e ≢ ShortBuf) × (e ≢ LimitExceeded)
+    why s h =
+        let size = size-limited rule (opt_record g) limit s in
+        let added = opts_add_their_size rule g s in
+        let own = ap (λ (w : Written). length w.octets) h.written in
+        let fits = room (size_after rule (with_record InAdditional (opt_record g)) s) (omega (arith, added, own, small)) in
+        not-for-room capacity grows limit _ _ e fits.0 fits.1 (subst (λ m. PushReturns capacity grows limit m (length s.additionals) (Err e)) size (pushes s h).outcome)

@@ -96,6 +96,7 @@ pub record Splits (k : Kind) (rule : Rule) (s : State) : Type 0 where
   pub grow : Every IsGrowing (encoders (sections k rule s (map (encode_item k rule) (items k s))))
   pub front : Every IsGrowing (encoders (sections k rule s []))
 
+-- each section splits the octets of its message
 pub splits : (k : Kind) (rule : Rule) (s : State) → Splits k rule s
 splits Questions rule s =
     record {

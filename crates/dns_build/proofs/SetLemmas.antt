@@ -160,28 +160,36 @@ module _ (stage : Stage) (k : Section) (is : stage ≡ stage_of k) (rule : Rule)
       subst (λ t. Represents t rule p.0 old → Represents t rule (with_records t xs.0 p.0) now → n ≡ length (records_at t p.0) → new ≡ old) (sym is)
       (λ h g m. back xs.0 end n old now new p.0 h g ends m then) p.1 xs.1 (all p.0 p.1))
 
+-- A rewind to a mark undoes pushes.
+pub set-undone : (stage : Stage) (k : Section) → stage ≡ stage_of k → (rule : Rule) (xs : List RecordItem) (n : ℕ) (old now mid new : Built) → RepresentsSome stage rule old
+    → InEach stage rule old (λ s. n ≡ length (records_at stage s)) → MovesState stage stage rule (with_records stage xs) old now → mid ≡ now
+    → MovesState stage stage rule (with_first stage n) mid new → new ≡ old
+set-undone stage k is rule xs n old now mid new some all moves same back =
+    ∥∥₁_elim some (Coded-set built_code _ _) (λ p.
+    let s : State = p.0 in
+    let pushed = subst (Represents stage rule (with_records stage xs s)) (sym same) (moves s p.1) in
+    let first = subst (λ t. with_first t (length (records_at t s)) (with_records t xs s) ≡ s) (sym is) (first-pushed k xs s) in
+    let kept : with_first stage n (with_records stage xs s) ≡ s = ap (λ m. with_first stage m (with_records stage xs s)) (all s p.1) ∙ first in
+    builders_are_known stage rule s new old (subst (λ (t : State). Represents stage rule t new) kept (back (with_records stage xs s) pushed)) p.1)
+
 -- A rewind to a mark undoes a push.
 pub push-undone : (stage : Stage) (k : Section) → stage ≡ stage_of k → (rule : Rule) (x : RecordItem) (n : ℕ) (old now mid new : Built) → RepresentsSome stage rule old
     → InEach stage rule old (λ s. n ≡ length (records_at stage s)) → MovesState stage stage rule (with_record stage x) old now → mid ≡ now
     → MovesState stage stage rule (with_first stage n) mid new → new ≡ old
-push-undone stage k is rule x n old now mid new some all moves same back =
-    ∥∥₁_elim some (Coded-set built_code _ _) (λ p.
-    let s : State = p.0 in
-    let pushed = subst (Represents stage rule (with_record stage x s)) (sym same) (moves s p.1) in
-    let first = subst (λ t. with_first t (length (records_at t s)) (with_record t x s) ≡ s) (sym is) (first-pushed k (x ∷ []) s) in
-    let kept : with_first stage n (with_record stage x s) ≡ s = ap (λ m. with_first stage m (with_record stage x s)) (all s p.1) ∙ first in
-    builders_are_known stage rule s new old (subst (λ (t : State). Represents stage rule t new) kept (back (with_record stage x s) pushed)) p.1)
+push-undone stage k is rule x = set-undone stage k is rule (x ∷ [])
 
 -- Records that are pushed in order.
 
-with-none : (stage : Stage) (s : State) → with_records stage [] s ≡ s
+-- No records.
+pub with-none : (stage : Stage) (s : State) → with_records stage [] s ≡ s
 with-none InBuilder s = refl
 with-none InQuestion s = refl
 with-none InAnswer s = λ i. record s { answers = append-nil s.answers i }
 with-none InAuthority s = λ i. record s { authorities = append-nil s.authorities i }
 with-none InAdditional s = λ i. record s { additionals = append-nil s.additionals i }
 
-with-more : (stage : Stage) (xs : List RecordItem) (x : RecordItem) (s : State) → with_record stage x (with_records stage xs s) ≡ with_records stage (xs ++ x ∷ []) s
+-- Records after others.
+pub with-more : (stage : Stage) (xs : List RecordItem) (x : RecordItem) (s : State) → with_record stage x (with_records stage xs s) ≡ with_records stage (xs ++ x ∷ []) s
 with-more InBuilder xs x s = refl
 with-more InQuestion xs x s = refl
 with-more InAnswer xs x s = λ i. record s { answers = append_assoc s.answers xs (x ∷ []) i }

@@ -44,19 +44,19 @@ impl<T: Composer> Builder<T, AtAdditional> {
     {
         let mut gathered = OptBuilder::new(alloc, self.header());
         gather(&mut gathered)?;
-        self.push_gathered(&gathered)
+        self.push_opt(&gathered)
     }
 
-    /// Appends the OPT record of `builder`. On success the header takes the rcode of its copy.
+    /// Appends the OPT record of `opt`. On success the header takes the rcode of its copy.
     ///
     /// Returns what `push` returns. Nothing changes on error.
-    pub(crate) fn push_gathered(&mut self, builder: &OptBuilder) -> Result<(), PushError>
+    pub fn push_opt(&mut self, opt: &OptBuilder) -> Result<(), PushError>
         ensures pushes { InEach InAdditional T.rule self.old (λ s. PushesOptRecord T.capacity
-            T.grows T.rule (gathered builder.now) s self.new result) }
+            T.grows T.rule (gathered opt.now) s self.new result) }
         ensures refused { OnErr result (self.new ≡ self.old) }
     {
-        self.push(record_of(builder))?;
-        self.set_header(with_rcode(self.header(), builder.header().rcode()));
+        self.push(record_of(opt))?;
+        self.set_header(with_rcode(self.header(), opt.header().rcode()));
         Ok(())
     }
 }

@@ -21,8 +21,8 @@ use std::marker::Model;
 /// builder.
 #[derive(Debug, Drop)]
 pub struct ReservedBuilder<T: Composer, S: BuilderStage> {
-    builder: Builder<T, S>,
-    reserved: u16,
+    pub(crate) builder: Builder<T, S>,
+    pub(crate) reserved: u16,
 }
 
 impl<T: Composer, S: BuilderStage> Model for ReservedBuilder<T, S> {
@@ -69,7 +69,7 @@ impl<T: Composer, S: BuilderStage> Builder<T, S> {
     }
 
     /// Checks that the target has capacity for further octets. Nothing changes.
-    fn fits(&mut self, octets: u16) -> Result<(), AppendError>
+    pub(crate) fn fits(&mut self, octets: u16) -> Result<(), AppendError>
         ensures unchanged { self.new ≡ self.old }
         ensures outcome { ComposeReturns T.capacity T.grows
             (length self.old.written.octets + octets) result }
@@ -78,14 +78,14 @@ impl<T: Composer, S: BuilderStage> Builder<T, S> {
     }
 
     /// Returns the push limit in octets. `usize::MAX` is no limit.
-    fn most(&self) -> usize
+    pub(crate) fn most(&self) -> usize
         ensures { result ≡ self.now.limit }
     {
         self.draft.most()
     }
 
     /// Sets the push limit, and changes nothing else.
-    fn limit_to(&mut self, limit: usize)
+    pub(crate) fn limit_to(&mut self, limit: usize)
         ensures moves { MovesState S.stage S.stage T.rule (with_limit limit) self.old self.new }
         ensures alone { self.new ≡ record self.old { limit = limit } }
     {

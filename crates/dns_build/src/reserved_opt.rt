@@ -80,6 +80,6 @@ impl<T: Composer> Builder<T, AtAdditional> {
         // Shows that the record fits without a limit: the message so far is a slice.
         let _so_far = self.as_slice();
         self.set_push_limit(reserved.limit);
-        self.push_gathered(&reserved.opt)
+        self.push_opt(&reserved.opt)
     }
 }

@@ -33,4 +33,4 @@ returns-clause-pushes g c = λ s represents.
       called = record { shown = _; shows = refl; left = _; met = c.gather.ensures; leaves = refl };
       left = refl;
     })
-    (c.push_gathered.ensures.pushes s represents)
+    (c.push_opt.ensures.pushes s represents)

@@ -11,13 +11,13 @@ returns-clause-fits g c =
     let so_far = c.as_slice-so_far.ensures in
     let same = ap length so_far.octets in
     let short : length c.as_slice-so_far.result.now < 9223372036854775808 = search rules in
-    not_exceeded _ _ _ (reservation c.args.reserved) c.args.self.now _ _ (λ s h. c.push_gathered.ensures.pushes _ (c.set_push_limit.ensures s h)) so_far.state
+    not_exceeded _ _ _ (reservation c.args.reserved) c.args.self.now _ _ (λ s h. c.push_opt.ensures.pushes _ (c.set_push_limit.ensures s h)) so_far.state
     (omega (arith, same, so_far.long)) (omega (arith, same, short))
 
 pub returns-clause-pushes : goal.returns-clause-pushes
-returns-clause-pushes g c = λ s h. c.push_gathered.ensures.pushes _ (c.set_push_limit.ensures s h)
+returns-clause-pushes g c = λ s h. c.push_opt.ensures.pushes _ (c.set_push_limit.ensures s h)
 
 pub returns-clause-refused : goal.returns-clause-refused
 returns-clause-refused g c =
-    on_err_weaker c.push_gathered.result
-    (λ same s h. subst (λ (b : Built). Represents InAdditional g.T.Composer.rule (with_limit c.args.reserved.limit s) b) (sym same) (c.set_push_limit.ensures s h)) c.push_gathered.ensures.refused
+    on_err_weaker c.push_opt.result
+    (λ same s h. subst (λ (b : Built). Represents InAdditional g.T.Composer.rule (with_limit c.args.reserved.limit s) b) (sym same) (c.set_push_limit.ensures s h)) c.push_opt.ensures.refused

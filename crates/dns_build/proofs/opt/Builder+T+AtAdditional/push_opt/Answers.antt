@@ -9,14 +9,14 @@ use Rattle.dns_build.specs.Opt.{opt_record, with_rcode}
 use Rattle.dns_build.specs.State.{State, InAdditional, with_record, with_header}
 use Rattle.dns_build.specs.BuilderStates.{PushReturns, size_after, Represents}
 use Rattle.dns_build.proofs.OptLemmas.{same_item}
-use Rattle.dns_build.proofs.opt.Builder+T+AtAdditional.push_gathered.Goals as goal
+use Rattle.dns_build.proofs.opt.Builder+T+AtAdditional.push_opt.Goals as goal
 
 pub returns-in_err-push-clause-pushes : goal.returns-in_err-push-clause-pushes
 returns-in_err-push-clause-pushes g c = λ s represents.
     let p = err_from_is_err_and c.from_residual.result c.from_residual.ensures.1 in
     let e = c.in_err-push.field-0.0 in
     let made = c.record_of.ensures in
-    let same = same_item _ (gathered c.args.builder.now) made.owner refl made.class made.ttl (ap (λ os. Octets os ∷ []) made.options) in
+    let same = same_item _ (gathered c.args.opt.now) made.owner refl made.class made.ttl (ap (λ os. Octets os ∷ []) made.options) in
     let size : RecordItem → ℕ = λ x. size_after g.T.Composer.rule (with_record InAdditional x) s in
     rw (p.1, p.2) (record {
       outcome = subst (λ x. PushReturns g.T.Composer.capacity g.T.Composer.grows s.limit (size x) (length s.additionals) (Err e)) same (c.in_err-push.ensures.outcome.each s represents);
@@ -26,7 +26,7 @@ returns-in_err-push-clause-pushes g c = λ s represents.
 
 pub returns-clause-pushes : goal.returns-clause-pushes
 returns-clause-pushes g c = λ s represents.
-    let all = gathered c.args.builder.now in
+    let all = gathered c.args.opt.now in
     let made = c.record_of.ensures in
     let same = same_item _ all made.owner refl made.class made.ttl (ap (λ os. Octets os ∷ []) made.options) in
     let size : RecordItem → ℕ = λ x. size_after g.T.Composer.rule (with_record InAdditional x) s in
