@@ -16,6 +16,7 @@
  *     14. Writing a message item by item
  *     15. Responses, and items of other messages
  *     16. Replies, and what a cache asks of them
+ *     17. Responses from a cache
  *
  * and each begins with an example. There `message` are the `message_len` octets of a message, and `record` is its first record, as
  * dnsm_next wrote it. Each call is in an example.
@@ -24,8 +25,8 @@
  * prints, blocks, or ends the process.
  *
  * Threads. No call keeps state, so any thread may make any call at any time, if no other thread changes what the call uses.
- * Only dnsm_build, dnsm_data_from_text and dnsm_record_from_text allocate, by malloc, realloc and free. Don't call them from a
- * signal handler, nor in the forked child of a process with threads. All other calls may be made in both.
+ * Only dnsm_build, dnsm_data_from_text, dnsm_record_from_text and dnsm_age allocate, by malloc, realloc and free. Don't call them
+ * from a signal handler, nor in the forked child of a process with threads. All other calls may be made in both.
  *
  * Lifetimes. No call keeps a pointer that it was passed, and none returns memory that the caller has to free. Items, options
  * and cursors contain offsets into a message, no pointers: they stay valid as long as the message does, also if it is moved.
@@ -858,13 +859,14 @@ enum {
 };
 
 /* What a reply says, and of which name. Numbers and lengths that don't belong to its kind are 0. Names are uncompressed octets, for
- * dnsm_name_equal with a record's owner; a length of 0 is no name. DNSM_REPLY_NO_DATA without an owner, of another name than the
- * question's, may come of a server that sends the alias alone: ask for the name. */
+ * dnsm_name_equal with a record's owner; a length of 0 is no name. The octets after a name are 0. DNSM_REPLY_NO_DATA without an
+ * owner, of another name than the question's, may come of a server that sends the alias alone: ask for the name. */
 typedef struct dnsm_saying {
     uint32_t ttl;       /* for how many seconds it may be cached. Of DNSM_REPLY_ANSWER it is the least TTL of its records and the
-                         * aliases, of _NO_DATA and _NO_NAME by the SOA record (RFC 2308 section 5), without which it shouldn't be:
-                         * their aliases have TTLs of their own. Of _ALIAS it is the least TTL of the aliases, or 4294967295 without
-                         * one, as the question's own name isn't within the zone. A TTL with its highest bit set is a large number */
+                         * aliases, of _NO_DATA and _NO_NAME by the SOA record (RFC 2308 section 5), without which it shouldn't be.
+                         * Of _ALIAS it is the least TTL of the aliases, or 0 without one, as the question's own name isn't within
+                         * the zone. A TTL with its highest bit set is a large number */
+    uint32_t alias_ttl; /* of _NO_DATA, _NO_NAME and _REFERRAL: for how many seconds the aliases may be cached, or 0 without one */
     uint16_t rcode;     /* of DNSM_REPLY_FAILED, of twelve bits as that of dnsm_find_opt */
     uint8_t kind;       /* DNSM_REPLY_ANSWER, or one of those after it */
     uint8_t name_len;
@@ -878,8 +880,8 @@ typedef struct dnsm_saying {
 /* Sets `*saying` to what a received message says of the first question of a query, if it is a reply to that: QR is set, and ID,
  * opcode and questions are those of the query, but for ASCII case. A reply that reports an error, or to an UPDATE, may have no
  * question. `zone` is the name of the zone that the server was asked about, as uncompressed octets: the root for a server that
- * resolves, and after DNSM_REPLY_REFERRAL the owner. Only records whose owners are within it count, but any NS record in the
- * authority section can make it DNSM_REPLY_LAME, and any malformed record DNSM_REPLY_UNREADABLE.
+ * resolves, and after DNSM_REPLY_REFERRAL the owner. Only records whose owners are within it count, but NS records of a
+ * zone above can make it DNSM_REPLY_LAME, and any malformed record DNSM_REPLY_UNREADABLE.
  *
  * Ask dnsm_is_regular first: a message that isn't regular can take seconds. Takes 7 KB of stack.
  *
@@ -909,6 +911,24 @@ dnsm_status dnsm_min_ttl(const uint8_t *message, size_t message_len, uint32_t *t
  *
  * Errors: those of dnsm_min_ttl. Then `*end` isn't written. */
 dnsm_status dnsm_records_end(const uint8_t *message, size_t message_len, size_t *end);
+
+/* 17. Responses from a cache
+ *
+ *     uint8_t cached[512];
+ *     uint32_t ttl;
+ *     memcpy(cached, message, message_len);
+ *     if (dnsm_age(cached, message_len, 600) == DNSM_OK && dnsm_min_ttl(cached, message_len, &ttl) == DNSM_OK)
+ *         printf("for %lu seconds more\n", (unsigned long)ttl);
+ */
+
+/* Lowers the TTL of each record of a message by `seconds`, but not below 0, in place: for a response that was in a cache for so long.
+ * The records of OPT, TSIG, TKEY and SIG have none. No other octet changes, and what is read of the message stays the same, but for the
+ * TTLs. A TTL with its highest bit set is a large number. The call allocates, and frees all that it allocated.
+ *
+ * Errors: DNSM_SHORT_INPUT if the message has fewer than 12 octets; DNSM_NO_MEMORY; else the error of the first question or record that
+ * isn't as dnsm_is_regular wants it: DNSM_BAD_POINTER if a pointer leads to anything but a label of an earlier name. Then nothing has
+ * changed. */
+dnsm_status dnsm_age(uint8_t *message, size_t message_len, uint32_t seconds);
 
 #ifdef __cplusplus
 }

@@ -27,9 +27,10 @@ const (
 type Reply struct {
 	Kind ReplyKind
 	// TTL is for how many seconds it may be cached: of ReplyAnswer the least TTL of its records and the aliases; of ReplyNoData and
-	// ReplyNoName by the SOA record (RFC 2308 section 5), without which they shouldn't be: the aliases have TTLs of their own; of
-	// ReplyAlias the least TTL of the aliases, or 4294967295 without one.
+	// ReplyNoName by the SOA record (RFC 2308 section 5), without which they shouldn't be; of ReplyAlias the least TTL of the aliases.
 	TTL uint32
+	// AliasTTL is for how many seconds the aliases may be cached, of ReplyNoData, ReplyNoName and ReplyReferral.
+	AliasTTL uint32
 	// Rcode is that of ReplyFailed, of twelve bits.
 	Rcode Rcode
 	// Name is the name, of the kinds up to ReplyDNAME.
@@ -43,8 +44,8 @@ type Reply struct {
 }
 
 // ReplyTo is what the message says of the first question of a query, if it is a reply to that. The zone is the name of the zone that the
-// server was asked about: the root, one zero octet, for a server that resolves. Only records whose owners are within it count, but any NS
-// record of the authority section can make it ReplyLame. Ask IsRegular first: another message can take seconds. The error is
+// server was asked about: the root, one zero octet, for a server that resolves. Only records whose owners are within it count, but NS
+// records of a zone above can make it ReplyLame. Ask IsRegular first: another message can take seconds. The error is
 // ShortInput if the query has fewer than 12 octets, BadText if the zone isn't exactly one uncompressed name, and NoResponse or OtherQuery
 // if the message is no such reply.
 func (m *Message) ReplyTo(query, zone []byte) (*Reply, error) {
@@ -55,12 +56,13 @@ func (m *Message) ReplyTo(query, zone []byte) (*Reply, error) {
 		return nil, Status(status)
 	}
 	return &Reply{
-		Kind:   ReplyKind(saying.kind),
-		TTL:    uint32(saying.ttl),
-		Rcode:  Rcode(saying.rcode),
-		Name:   nameIn(saying.name[:saying.name_len]),
-		Owner:  nameIn(saying.owner[:saying.owner_len]),
-		Target: nameIn(saying.target[:saying.target_len]),
+		Kind:     ReplyKind(saying.kind),
+		TTL:      uint32(saying.ttl),
+		AliasTTL: uint32(saying.alias_ttl),
+		Rcode:    Rcode(saying.rcode),
+		Name:     nameIn(saying.name[:saying.name_len]),
+		Owner:    nameIn(saying.owner[:saying.owner_len]),
+		Target:   nameIn(saying.target[:saying.target_len]),
 	}, nil
 }
 
@@ -100,4 +102,11 @@ func (m *Message) RecordsEnd() (int, error) {
 	var end C.size_t
 	status := C.dnsm_records_end(pointer(m.octets), C.size_t(len(m.octets)), &end)
 	return int(end), failure(status)
+}
+
+// AgeTTLs lowers the TTL of each record of a message by some seconds, but not below 0, in place: for a response that was in a cache for so
+// long. Records of OPT, TSIG, TKEY and SIG have none. No other octet changes. With an error nothing does: ShortInput for fewer than 12
+// octets, NoMemory, or why the message isn't regular: that of the first item that can't be skipped, or BadPointer.
+func AgeTTLs(octets []byte, seconds uint32) error {
+	return failure(C.dnsm_age(pointer(octets), C.size_t(len(octets)), C.uint32_t(seconds)))
 }

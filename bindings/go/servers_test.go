@@ -356,24 +356,30 @@ func parsed(t *testing.T, octets []byte) *Message {
 // RFC 2308 sections 2.1, 2.2 and 5: the lesser of the SOA record's TTL and its MINIMUM, 600. RFC 6672 section 2.2.
 func TestRepliesSayOneThing(t *testing.T) {
 	name, zone, other := octetsOf(t, "a.example"), octetsOf(t, "example"), octetsOf(t, "b.other")
+	target := octetsOf(t, "b.example")
 	address, soa := []byte{192, 0, 2, 1}, []byte("\x02ns\x00\x01h\x00"+strings.Repeat("\x00", 18)+"\x02\x58")
 	query, err := Query(9, true, "a.example", TypeA)
 	if err != nil {
 		t.Fatal(err)
 	}
+	found := NewItem{Answer, "a.example", nil, TypeA, ClassIN, 300, address}
+	alias := NewItem{Answer, "a.example", nil, TypeCNAME, ClassIN, 60, target}
+	start := func(ttl uint32) NewItem { return NewItem{Authority, "example", nil, TypeSOA, ClassIN, ttl, soa} }
 	for _, each := range []struct {
-		flags  uint16
-		record NewItem
-		wanted Reply
+		flags   uint16
+		records []NewItem
+		wanted  Reply
 	}{
-		{0, NewItem{Answer, "a.example", nil, TypeA, ClassIN, 300, address}, Reply{Kind: ReplyAnswer, TTL: 300, Name: name}},
-		{0, NewItem{Authority, "example", nil, TypeSOA, ClassIN, 900, soa}, Reply{Kind: ReplyNoData, TTL: 600, Name: name, Owner: zone}},
-		{3, NewItem{Authority, "example", nil, TypeSOA, ClassIN, 100, soa}, Reply{Kind: ReplyNoName, TTL: 100, Name: name, Owner: zone}},
-		{0, NewItem{Answer, "example", nil, TypeDNAME, ClassIN, 50, other},
+		{0, []NewItem{found}, Reply{Kind: ReplyAnswer, TTL: 300, Name: name}},
+		{0, []NewItem{start(900)}, Reply{Kind: ReplyNoData, TTL: 600, Name: name, Owner: zone}},
+		{0, []NewItem{alias, start(900)}, Reply{Kind: ReplyNoData, TTL: 600, AliasTTL: 60, Name: target, Owner: zone}},
+		{3, []NewItem{start(100)}, Reply{Kind: ReplyNoName, TTL: 100, Name: name, Owner: zone}},
+		{0, []NewItem{{Answer, "example", nil, TypeDNAME, ClassIN, 50, other}},
 			Reply{Kind: ReplyDNAME, TTL: 50, Name: name, Owner: zone, Target: other}},
-		{2, NewItem{Answer, "a.example", nil, TypeA, ClassIN, 300, address}, Reply{Kind: ReplyFailed, Rcode: RcodeSERVFAIL}},
+		{2, []NewItem{found}, Reply{Kind: ReplyFailed, Rcode: RcodeSERVFAIL}},
 	} {
-		octets, err := Build(9, QR|each.flags, []NewItem{{Section: Question, Name: "a.example", Type: TypeA, Class: ClassIN}, each.record})
+		question := NewItem{Section: Question, Name: "a.example", Type: TypeA, Class: ClassIN}
+		octets, err := Build(9, QR|each.flags, append([]NewItem{question}, each.records...))
 		if err != nil {
 			t.Fatal(err)
 		}
@@ -416,5 +422,24 @@ func TestACacheAsksOfAllRecords(t *testing.T) {
 	}
 	if ttl, found, err := parsed(t, make([]byte, 12)).MinTTL(); found || err != nil {
 		t.Error(ttl, found, err)
+	}
+}
+
+func TestTTLsAreLowered(t *testing.T) {
+	octets, wanted := []byte(mailResponse), []byte(mailResponse)
+	copy(wanted[35:], []byte{0, 0, 0x0b, 0xb8})
+	wanted[59], wanted[80] = 0, 0
+	if err := AgeTTLs(octets, 600); err != nil || !bytes.Equal(octets, wanted) {
+		t.Error(octets, err)
+	}
+	if err := AgeTTLs(octets[:len(octets)-1], 600); !errors.Is(err, ShortInput) || !bytes.Equal(octets, wanted) {
+		t.Error(octets, err)
+	}
+	octets[51] = 35
+	if err := AgeTTLs(octets, 600); !errors.Is(err, BadPointer) || octets[37] != 0x0b {
+		t.Error(octets, err)
+	}
+	if err := AgeTTLs(nil, 600); !errors.Is(err, ShortInput) {
+		t.Error(err)
 	}
 }

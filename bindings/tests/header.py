@@ -40,6 +40,8 @@ STRUCTS = {
     "dnsm_data_field": _calls.DataField,
     "dnsm_saying": _calls.Saying,
 }
+# The names of buffers for octets.
+BUFFERS = {"message", "out"}
 # In Python a buffer for octets has the same type as one for text. The other pointers to an octet lead to a number.
 PYTHON_POINTERS = {
     "*mut c_char": ctypes.POINTER(ctypes.c_char),
@@ -102,7 +104,7 @@ def read_rust(text):
 
 
 def python_type(name, kind):
-    if kind == "*mut u8" and name != "out":
+    if kind == "*mut u8" and name not in BUFFERS:
         return ctypes.POINTER(ctypes.c_uint8)
     if kind in PYTHON or kind in PYTHON_POINTERS:
         return {**PYTHON, **PYTHON_POINTERS}[kind]

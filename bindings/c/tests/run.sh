@@ -185,7 +185,7 @@ checked() {
 }
 
 # The calls that allocate, with the first allocation refused, then with the second, and so on until none is. A smaller allocation may
-# take the place of a refused one. Else the call has to tell, and each of the three calls does once.
+# take the place of a refused one. Else the call has to tell, and each of the four calls does once.
 refuses() {
   local place status refused told=0
   "$1" -O1 -shared -fPIC -o "$build/refuse.so" "$here/../../../campaigns/refuse.c" &&
@@ -198,7 +198,7 @@ refuses() {
     [ "$refused" = 1 ] || break
     told=$((told + status))
   done
-  [ $told -ge 3 ]
+  [ $told -ge 4 ]
 }
 
 # The version check of dnsm.h, without the library, and that of a header of version 2.1.3.

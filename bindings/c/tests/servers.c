@@ -286,24 +286,28 @@ static void replies(void)
         dnsm_new_item records[2];
         size_t count;
         uint8_t kind;
-        uint32_t ttl;
+        uint32_t ttl, alias_ttl;
         const char *name, *owner, *target;
     } each[] = {
-        {0, {ADDRESS(300, "a.example"), ADDRESS(60, "A.example")}, 2, DNSM_REPLY_ANSWER, 60, "a.example.", NULL, NULL},
-        {0, {ALIAS(60, "a.example", "\1b\7example\0"), ADDRESS(300, "b.example")}, 2, DNSM_REPLY_ANSWER, 60, "b.example.", NULL, NULL},
-        {0, {ADDRESS(300, "b.example")}, 1, DNSM_REPLY_NO_DATA, 0, "a.example.", NULL, NULL},
-        {0, {RECORD(DNSM_AUTHORITY, DNSM_TYPE_SOA, 900, "example", SOA)}, 1, DNSM_REPLY_NO_DATA, 600, "a.example.", "example.", NULL},
-        {3, {RECORD(DNSM_AUTHORITY, DNSM_TYPE_SOA, 100, "example", SOA)}, 1, DNSM_REPLY_NO_NAME, 100, "a.example.", "example.", NULL},
-        {0, {RECORD(DNSM_AUTHORITY, DNSM_TYPE_NS, 7, "a.example", "\2ns\0")}, 1, DNSM_REPLY_REFERRAL, 0, "a.example.", "a.example.",
+        {0, {ADDRESS(300, "a.example"), ADDRESS(60, "A.example")}, 2, DNSM_REPLY_ANSWER, 60, 0, "a.example.", NULL, NULL},
+        {0, {ALIAS(60, "a.example", "\1b\7example\0"), ADDRESS(300, "b.example")}, 2, DNSM_REPLY_ANSWER, 60, 0, "b.example.", NULL, NULL},
+        {0, {ADDRESS(300, "b.example")}, 1, DNSM_REPLY_NO_DATA, 0, 0, "a.example.", NULL, NULL},
+        {0, {RECORD(DNSM_AUTHORITY, DNSM_TYPE_SOA, 900, "example", SOA)}, 1, DNSM_REPLY_NO_DATA, 600, 0, "a.example.", "example.", NULL},
+        {0, {ALIAS(60, "a.example", "\1b\7example\0"), RECORD(DNSM_AUTHORITY, DNSM_TYPE_SOA, 900, "example", SOA)}, 2,
+         DNSM_REPLY_NO_DATA, 600, 60, "b.example.", "example.", NULL},
+        {3, {RECORD(DNSM_AUTHORITY, DNSM_TYPE_SOA, 100, "example", SOA)}, 1, DNSM_REPLY_NO_NAME, 100, 0, "a.example.", "example.", NULL},
+        {0, {RECORD(DNSM_AUTHORITY, DNSM_TYPE_NS, 7, "a.example", "\2ns\0")}, 1, DNSM_REPLY_REFERRAL, 0, 0, "a.example.", "a.example.",
          NULL},
-        {0, {ALIAS(60, "a.example", "\5other\0")}, 1, DNSM_REPLY_ALIAS, 60, "other.", NULL, NULL},
-        {0, {RECORD(DNSM_ANSWER, DNSM_TYPE_DNAME, 50, "example", "\5other\0")}, 1, DNSM_REPLY_DNAME, 50, "a.example.", "example.",
+        {0, {ALIAS(60, "a.example", "\1b\7example\0"), RECORD(DNSM_AUTHORITY, DNSM_TYPE_NS, 7, "b.example", "\2ns\0")}, 2,
+         DNSM_REPLY_REFERRAL, 0, 60, "b.example.", "b.example.", NULL},
+        {0, {ALIAS(60, "a.example", "\5other\0")}, 1, DNSM_REPLY_ALIAS, 60, 0, "other.", NULL, NULL},
+        {0, {RECORD(DNSM_ANSWER, DNSM_TYPE_DNAME, 50, "example", "\5other\0")}, 1, DNSM_REPLY_DNAME, 50, 0, "a.example.", "example.",
          "other."},
-        {DNSM_TC, {ADDRESS(300, "a.example")}, 1, DNSM_REPLY_TRUNCATED, 0, NULL, NULL, NULL},
-        {2, {ADDRESS(300, "a.example")}, 1, DNSM_REPLY_FAILED, 0, NULL, NULL, NULL},
-        {0, {OPT, OPT}, 2, DNSM_REPLY_MANY_OPTS, 0, NULL, NULL, NULL},
-        {0, {ALIAS(60, "a.example", "\1a\7example\0")}, 1, DNSM_REPLY_LOOP, 0, NULL, NULL, NULL},
-        {0, {RECORD(DNSM_AUTHORITY, DNSM_TYPE_NS, 7, "example", "\2ns\0")}, 1, DNSM_REPLY_LAME, 0, NULL, NULL, NULL},
+        {DNSM_TC, {ADDRESS(300, "a.example")}, 1, DNSM_REPLY_TRUNCATED, 0, 0, NULL, NULL, NULL},
+        {2, {ADDRESS(300, "a.example")}, 1, DNSM_REPLY_FAILED, 0, 0, NULL, NULL, NULL},
+        {0, {OPT, OPT}, 2, DNSM_REPLY_MANY_OPTS, 0, 0, NULL, NULL, NULL},
+        {0, {ALIAS(60, "a.example", "\1a\7example\0")}, 1, DNSM_REPLY_LOOP, 0, 0, NULL, NULL, NULL},
+        {0, {RECORD(DNSM_AUTHORITY, DNSM_TYPE_NS, 7, "example", "\2ns\0")}, 1, DNSM_REPLY_LAME, 0, 0, NULL, NULL, NULL},
     };
     dnsm_saying saying;
     uint8_t asked[DNSM_MADE];
@@ -314,13 +318,18 @@ static void replies(void)
         memcpy(items + 1, each[i].records, sizeof each[i].records);
         assert(dnsm_build(9, (uint16_t)(DNSM_QR | each[i].flags), items, 1 + each[i].count, out, sizeof out, &made) == DNSM_OK);
         assert(dnsm_reply(asked, asked_len, out, made, OCTETS("\7example\0"), &saying) == DNSM_OK && saying.kind == each[i].kind);
-        assert(saying.ttl == each[i].ttl && saying.rcode == (each[i].kind == DNSM_REPLY_FAILED ? 2 : 0));
+        assert(saying.ttl == each[i].ttl && saying.alias_ttl == each[i].alias_ttl);
+        assert(saying.rcode == (each[i].kind == DNSM_REPLY_FAILED ? 2 : 0));
         assert(is_name(saying.name, saying.name_len, each[i].name) && is_name(saying.owner, saying.owner_len, each[i].owner));
         assert(is_name(saying.target, saying.target_len, each[i].target));
         if (each[i].kind != DNSM_REPLY_TRUNCATED)
             assert(dnsm_reply(asked, asked_len, out, made - 1, OCTETS("\0"), &saying) == DNSM_OK &&
                    saying.kind == DNSM_REPLY_UNREADABLE);
     }
+    /* A question outside the zone: no alias, and so nothing to be cached. */
+    assert(dnsm_reply(OCTETS("\0\1\1\0\0\1\0\0\0\0\0\0\0\0\1\0\1"), OCTETS("\0\1\x81\0\0\1\0\0\0\0\0\0\0\0\1\0\1"),
+                      OCTETS("\7example\0"), &saying) == DNSM_OK);
+    assert(saying.kind == DNSM_REPLY_ALIAS && saying.name_len == 1 && saying.ttl == 0 && saying.alias_ttl == 0);
     /* RFC 2136 section 3.8: the response to an UPDATE may have no sections. */
     assert(dnsm_reply(OCTETS("\0\1\x28\0\0\1\0\0\0\0\0\0\0\0\6\0\1"), OCTETS("\0\1\xa8\0\0\0\0\0\0\0\0\0"), OCTETS("\0"), &saying) ==
            DNSM_OK);
@@ -370,6 +379,31 @@ static void cached(void)
     assert(dnsm_records_end(response, 12, &end) == DNSM_SHORT_INPUT && end == QUERY);
     longer[12] = 0x40;
     assert(dnsm_records_end(longer, sizeof longer, &end) == DNSM_BAD_LABEL && end == QUERY);
+}
+
+/* TTLs lowered in place, but not below 0, and no other octet changed. The field of OPT is no TTL (RFC 6891 section 6.1.3). */
+static void aged(void)
+{
+    uint8_t octets[RESPONSE], wanted[RESPONSE];
+    memcpy(octets, response, RESPONSE);
+    memcpy(wanted, response, RESPONSE);
+    assert(dnsm_age(octets, RESPONSE, 0) == DNSM_OK && memcmp(octets, wanted, RESPONSE) == 0);
+    wanted[37] = 0xb; /* MX: 3600 - 600 = 3000 */
+    wanted[38] = 0xb8;
+    wanted[59] = wanted[80] = 0; /* SRV and MINFO: from 7 to 0 */
+    assert(dnsm_age(octets, RESPONSE, 600) == DNSM_OK && memcmp(octets, wanted, RESPONSE) == 0);
+    wanted[37] = wanted[38] = 0;
+    assert(dnsm_age(octets, RESPONSE, UINT32_MAX) == DNSM_OK && memcmp(octets, wanted, RESPONSE) == 0);
+    /* Refused messages stay as they are. */
+    memcpy(octets, response, RESPONSE);
+    assert(dnsm_age(octets, 11, 600) == DNSM_SHORT_INPUT && dnsm_age(octets, RESPONSE - 1, 600) == DNSM_SHORT_INPUT);
+    assert(memcmp(octets, response, RESPONSE) == 0);
+    octets[51] = 35; /* the owner of SRV leads to the TTL of MX, which a reader takes for the root */
+    memcpy(wanted, octets, RESPONSE);
+    assert(dnsm_age(octets, RESPONSE, 600) == DNSM_BAD_POINTER && memcmp(octets, wanted, RESPONSE) == 0);
+    octets[51] = 12;
+    octets[89] = 0x40; /* the owner of OPT */
+    assert(dnsm_age(octets, RESPONSE, 600) == DNSM_BAD_LABEL && octets[37] == 0xe);
 }
 
 /* The response to the query, with items of the other response. */
@@ -438,6 +472,7 @@ int main(void)
     replies();
     no_replies();
     cached();
+    aged();
     responses();
     refused();
     puts("ok");

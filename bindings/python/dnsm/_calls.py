@@ -93,6 +93,7 @@ class PutItem(ctypes.Structure):
 class Saying(ctypes.Structure):
     _fields_ = [
         ("ttl", c_uint32),
+        ("alias_ttl", c_uint32),
         ("rcode", c_uint16),
         ("kind", c_uint8),
         ("name_len", c_uint8),
@@ -160,6 +161,7 @@ _CALLS = {
     "dnsm_is_regular": [*_OCTETS, POINTER(c_uint8)],
     "dnsm_min_ttl": [*_OCTETS, POINTER(c_uint32)],
     "dnsm_records_end": [*_OCTETS, POINTER(c_size_t)],
+    "dnsm_age": [*_BUFFER, c_uint32],
     "dnsm_version": [],
 }
 

@@ -1,6 +1,6 @@
 """Messages that are read."""
 
-from ctypes import byref, c_size_t, c_uint8, c_uint16, c_uint32
+from ctypes import byref, c_char, c_size_t, c_uint8, c_uint16, c_uint32
 from itertools import chain, islice
 from typing import Iterator, NamedTuple, Optional, Tuple, Union
 
@@ -25,8 +25,8 @@ class Reply(NamedTuple):
     """What a reply says, and of which name.
 
     `ttl` is for how many seconds it may be cached: of `ANSWER` the least TTL of its records and the aliases; of `NO_DATA` and `NO_NAME` by
-    the SOA record (RFC 2308 section 5), without which they shouldn't be: the aliases have TTLs of their own; of `ALIAS` the least TTL of
-    the aliases, or 4294967295 without one. `rcode` is that of `FAILED`, of twelve bits. `name` is there for the kinds up to `DNAME`.
+    the SOA record (RFC 2308 section 5), without which they shouldn't be; of `ALIAS` the least TTL of the aliases. `alias_ttl` is this TTL
+    for `NO_DATA`, `NO_NAME` and `REFERRAL`. `rcode` is that of `FAILED`, of twelve bits. `name` is there for the kinds up to `DNAME`.
     `owner` is that of the records that say so: the SOA record of `NO_DATA` and `NO_NAME` if there is one, the NS records of `REFERRAL`, or
     the DNAME record of `DNAME`; then `target` is its target. Without them the numbers are 0, and the names None.
 
@@ -35,6 +35,7 @@ class Reply(NamedTuple):
 
     kind: ReplyKind
     ttl: int
+    alias_ttl: int
     rcode: int
     name: Optional[str]
     owner: Optional[str]
@@ -152,7 +153,7 @@ class Message:
         """What this says of the first question of a query, or None if it is no reply to that, by QR, ID, opcode and questions.
 
         `zone` is the zone that the server was asked about: the root for a server that resolves. Only records whose owners are within it
-        count, but any NS record of the authority section can make it `LAME`. Ask `is_regular` first: another message can take seconds.
+        count, but NS records of a zone above can make it `LAME`. Ask `is_regular` first: another message can take seconds.
         Raises `MalformedMessage` if the query has fewer than 12 octets, and what other calls raise if the zone is no name.
         """
         query, zone, saying = _calls.octets_of(query), name_octets(zone), _calls.Saying()
@@ -163,7 +164,7 @@ class Message:
         _calls.check(status)
         pairs = ((saying.name, saying.name_len), (saying.owner, saying.owner_len), (saying.target, saying.target_len))
         name, owner, target = (name_to_text(bytes(buffer[:length])) if length else None for buffer, length in pairs)
-        return Reply(ReplyKind(saying.kind), saying.ttl, saying.rcode, name, owner, target)
+        return Reply(ReplyKind(saying.kind), saying.ttl, saying.alias_ttl, saying.rcode, name, owner, target)
 
     def is_regular(self) -> bool:
         """Whether all items can be skipped, and each pointer of a name leads to a label of an earlier name (RFC 1035 section 4.1.4).
@@ -187,6 +188,15 @@ class Message:
         end = c_size_t()
         _calls.check(_calls.library.dnsm_records_end(self._octets, len(self._octets), byref(end)))
         return end.value
+
+    def aged(self, seconds: int) -> "Message":
+        """The message with each TTL lowered by some seconds, but not below 0: for a response that was in a cache for so long.
+
+        Records of OPT, TSIG, TKEY and SIG have none. No other octet differs. Raises `MalformedMessage` unless the message `is_regular`.
+        """
+        octets = (c_char * len(self._octets)).from_buffer_copy(self._octets)
+        _calls.check(_calls.library.dnsm_age(octets, len(octets), _calls.number(seconds, 32, "an age")))
+        return type(self)(octets.raw)
 
     def find_opt(self) -> Optional[FoundOpt]:
         """The only OPT record of the message, anywhere in the additional section, or None.

@@ -267,23 +267,26 @@ class Replies(unittest.TestCase):
     def setUp(self) -> None:
         self.query = query("a.example", Type.A, id=9)
 
-    def said(self, rcode: int, section: str, *record: object) -> Reply:
-        octets = build(9, Flag.QR, questions=[("a.example", Type.A)], rcode=rcode, **{section: [NewRecord(*record)]})
+    def said(self, rcode: int, section: str, *record: object, **others: object) -> Reply:
+        octets = build(9, Flag.QR, questions=[("a.example", Type.A)], rcode=rcode, **{section: [NewRecord(*record)]}, **others)
         return Message(octets).reply_to(self.query, "example")
 
     def test_each(self) -> None:
         address, soa = bytes([192, 0, 2, 1]), b"\2ns\0\1h\0" + bytes(18) + bytes([2, 88])
         a, example = "a.example.", "example."
         found = self.said(0, "answer", a, Type.A, address, 300)
-        self.assertEqual(found, Reply(ReplyKind.ANSWER, 300, 0, a, None, None))
+        self.assertEqual(found, Reply(ReplyKind.ANSWER, 300, 0, 0, a, None, None))
         none = self.said(0, "authority", example, Type.SOA, soa, 900)
-        self.assertEqual(none, Reply(ReplyKind.NO_DATA, 600, 0, a, example, None))
+        self.assertEqual(none, Reply(ReplyKind.NO_DATA, 600, 0, 0, a, example, None))
+        aliases = [NewRecord(a, Type.CNAME, name_from_text("b.example"), 60)]
+        none = self.said(0, "authority", example, Type.SOA, soa, 900, answer=aliases)
+        self.assertEqual(none, Reply(ReplyKind.NO_DATA, 600, 60, 0, "b.example.", example, None))
         none = self.said(Rcode.NXDOMAIN, "authority", example, Type.SOA, soa, 100)
-        self.assertEqual(none, Reply(ReplyKind.NO_NAME, 100, 0, a, example, None))
+        self.assertEqual(none, Reply(ReplyKind.NO_NAME, 100, 0, 0, a, example, None))
         redirected = self.said(0, "answer", example, Type.DNAME, name_from_text("b.other"), 50)
-        self.assertEqual(redirected, Reply(ReplyKind.DNAME, 50, 0, a, example, "b.other."))
+        self.assertEqual(redirected, Reply(ReplyKind.DNAME, 50, 0, 0, a, example, "b.other."))
         failed = self.said(Rcode.SERVFAIL, "answer", a, Type.A, address, 300)
-        self.assertEqual(failed, Reply(ReplyKind.FAILED, 0, 2, None, None, None))
+        self.assertEqual(failed, Reply(ReplyKind.FAILED, 0, 0, 2, None, None, None))
 
     def test_none(self) -> None:
         self.assertIsNone(Message(self.query).reply_to(self.query))
@@ -299,6 +302,19 @@ class Replies(unittest.TestCase):
         self.assertRaises(MalformedMessage, cut.min_ttl)
         self.assertRaises(MalformedMessage, cut.records_end)
         self.assertIsNone(Message(self.query).min_ttl())
+
+    def test_aged(self) -> None:
+        message, wanted = Message(RESPONSE), bytearray(RESPONSE)
+        wanted[35:39], wanted[59], wanted[80] = (3000).to_bytes(4, "big"), 0, 0
+        self.assertEqual((message.aged(600).to_wire(), message.to_wire()), (bytes(wanted), RESPONSE))
+        self.assertEqual([record.ttl for record in message.aged(600).records], [3000, 0, 0])
+        self.assertEqual(message.aged(0).to_wire(), RESPONSE)
+        self.assertRaises(MalformedMessage, Message(RESPONSE[:-1]).aged, 600)
+        wanted[51] = 35
+        with self.assertRaises(MalformedMessage) as raised:
+            Message(wanted).aged(600)
+        self.assertEqual(raised.exception.status, Status.BAD_POINTER)
+        self.assertRaises(ValueError, message.aged, 1 << 32)
 
 
 class Versions(unittest.TestCase):

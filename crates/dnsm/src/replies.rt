@@ -1,16 +1,20 @@
-//! What a reply says, and what is asked of a message before it is served from a cache.
+//! What a reply says, what is asked of a message before it is served from a cache, and its TTLs then.
 ghost use Rattle.std.specs.Prelude.{◌≡◌, ◌≢◌, ◌<◌, ◌≤◌, length, None, Some};
 ghost use Rattle.dns_code.specs.HeaderSection.{header_size};
 ghost use Rattle.dns_edit.specs.Acceptance.{IsRegular};
-ghost use Rattle.dns_edit.specs.Edits.{IsLeastTtl};
+ghost use Rattle.dns_edit.specs.Edits.{ChangesTtls, IsLeastTtl};
 ghost use Rattle.dns_edit.specs.Ends.{RecordsEndAt};
+ghost use Rattle.dns_edit.specs.Readings.{ReadsAlike};
+ghost use Rattle.dns_edit.specs.declared.change.TtlChange.TheVariants.{Age};
 ghost use Rattle.dnsm_status.specs.Codes.{number_of};
 ghost use Rattle.dnsm_text.specs.NamePairs.{IsFlagOf};
+ghost use Rattle.dnsm_replies.specs.Ages.{RefusesAge};
 ghost use Rattle.dnsm_replies.specs.Faults.{LacksRecords};
 ghost use Rattle.dnsm_replies.specs.Replies.{LacksReply, SaysReply};
 
-use dnsm_replies::{Saying, reply, whole};
+use dnsm_replies::{Saying, age, reply, whole};
 use dnsm_status::{CallError, code};
+use std::alloc::Global;
 
 /// Sets `regular` to 1 if all entries can be skipped and each pointer of a name leads to a label of an
 /// earlier name (RFC 1035 section 4.1.4), else to 0.
@@ -80,6 +84,24 @@ pub extern "C" fn dnsm_reply(query: &[u8], received: &[u8], zone: &[u8], saying:
             *saying = found;
             0
         }
+        Err(fault) => code::of_fault(fault),
+    }
+}
+
+/// Lowers the TTL of each record by `seconds`, but not below 0. Returns the number of the error of
+/// the first question or record that isn't as `dnsm_is_regular` wants it. Allocates.
+#[unsafe(no_mangle)]
+pub extern "C" fn dnsm_age(alloc: Global, message: &mut [u8], seconds: u32) -> u32
+    ensures changes { result ≡ 0 → ChangesTtls (Age seconds) message.old message.new }
+    ensures reads { result ≡ 0 → ReadsAlike (Age seconds) message.old message.new }
+    ensures regular { result ≡ 0 → IsRegular message.old }
+    ensures long { result ≡ 0 → header_size ≤ length message.old }
+    ensures refused { result ≢ 0 → result ≢ number_of CallError.NoMemory
+        → RefusesAge message.old result }
+    ensures unchanged { result ≢ 0 → message.new ≡ message.old }
+{
+    match age::age(alloc, message, seconds) {
+        Ok(()) => 0,
         Err(fault) => code::of_fault(fault),
     }
 }

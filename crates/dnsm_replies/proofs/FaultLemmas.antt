@@ -8,7 +8,8 @@ use Rattle.dns_edit.specs.Edits.{RecordsFault}
 use Rattle.dnsm_status.specs.Codes.{IsReported, ReportsFault}
 use Rattle.dnsm_status.proofs.theory.FaultLemmas.{reported_name}
 
-reported_skip : (b : List ℕ) (Lacks : ℕ → Type 0) (p : ℕ) (f : Fault) → FieldsSkipFaultAt b Lacks p f → IsReported f
+-- The fault of an entry that can't be skipped has a number.
+pub reported_skip : (b : List ℕ) (Lacks : ℕ → Type 0) (p : ℕ) (f : Fault) → FieldsSkipFaultAt b Lacks p f → IsReported f
 reported_skip b Lacks p f (FieldsSkipFaultAt.name h) = reported_name (skip_faults b p f h)
 reported_skip b Lacks p f (FieldsSkipFaultAt.short ends lacks) = (2, ReportsFault.missing)
 

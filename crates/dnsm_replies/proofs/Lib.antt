@@ -1,2 +1,3 @@
 mod FaultLemmas
+mod AgeLemmas
 mod ReplyLemmas

@@ -1,3 +1,4 @@
 pub mod Faults
+pub mod Ages
 pub mod Sayings
 pub mod Replies

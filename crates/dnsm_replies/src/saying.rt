@@ -1,9 +1,11 @@
 //! What a reply says, as C gets it.
-ghost use Rattle.std.specs.Prelude.{◌≡◌, option_map};
+ghost use Rattle.std.specs.Prelude.{◌≡◌, None, Some, option_map, unwrap_or};
 ghost use Rattle.dns_name.specs.ParsedName.{labels};
-ghost use Rattle.dns_reply.specs.Replies.{denial_item, reason_of, said_of};
+ghost use Rattle.dns_reply.specs.Records.{negative_ttl};
+ghost use Rattle.dns_reply.specs.Replies.{denial_alias_ttl, denial_item, denial_name, reason_of, said_of};
 ghost use Rattle.dnsm_replies.specs.Sayings.{Holds, HoldsName, Reports, kind_of, soa_owner};
 
+use dns_code::Ttl;
 use dns_name::ParsedName;
 use dns_reply::{Denial, Reply, Unusable};
 
@@ -13,6 +15,9 @@ use dns_reply::{Denial, Reply, Unusable};
 pub struct Saying {
     /// For how long it may be cached, in seconds.
     pub ttl: u32,
+    /// For how long the aliases may be cached that lead to the name of `NO_DATA`, `NO_NAME` and
+    /// `REFERRAL`, in seconds, or 0 without one.
+    pub alias_ttl: u32,
     /// The rcode of 12 bits, of `FAILED`.
     pub rcode: u16,
     /// Which of the constants below.
@@ -72,18 +77,20 @@ fn octets_of(name: Option<ParsedName<'_>>) -> ([u8; 255], u8)
 fn of_name(
     kind: u8,
     ttl: u32,
+    alias_ttl: u32,
     name: ParsedName<'_>,
     owner: Option<ParsedName<'_>>,
     target: Option<ParsedName<'_>>,
 ) -> Saying
-    ensures { Holds result kind 0 ttl (Some (labels name.entry)) (option_map labels owner.entry)
-        (option_map labels target.entry) }
+    ensures { Holds result kind 0 ttl alias_ttl (Some (labels name.entry))
+        (option_map labels owner.entry) (option_map labels target.entry) }
 {
     let (name, name_len) = octets_of(Some(name));
     let (owner, owner_len) = octets_of(owner);
     let (target, target_len) = octets_of(target);
     Saying {
         ttl,
+        alias_ttl,
         rcode: 0,
         kind,
         name_len,
@@ -97,10 +104,11 @@ fn of_name(
 
 /// What is said of no name.
 fn of_none(kind: u8, rcode: u16) -> Saying
-    ensures { Holds result kind rcode 0 None None None }
+    ensures { Holds result kind rcode 0 0 None None None }
 {
     Saying {
         ttl: 0,
+        alias_ttl: 0,
         rcode,
         kind,
         name_len: 0,
@@ -122,6 +130,26 @@ fn zone_of<'a>(denial: &Denial<'a>) -> Option<ParsedName<'a>>
     }
 }
 
+/// What is said of a name by a denial.
+fn of_denial(kind: u8, denial: &Denial<'_>) -> Saying
+    ensures { Holds result kind 0 (negative_ttl (denial_item denial.now))
+        (unwrap_or (denial_alias_ttl denial.now) 0) (Some (labels (denial_name denial.now)))
+        (soa_owner (denial_item denial.now)) None }
+{
+    let (ttl, alias_ttl) = (denial.ttl().as_secs(), seconds_of(denial.alias_ttl()));
+    of_name(kind, ttl, alias_ttl, denial.name(), zone_of(denial), None)
+}
+
+/// The seconds of a TTL, or 0 if there is none.
+fn seconds_of(ttl: Option<Ttl>) -> u32
+    ensures { result ≡ unwrap_or ttl 0 }
+{
+    match ttl {
+        Some(ttl) => ttl.as_secs(),
+        None => 0,
+    }
+}
+
 /// The kind of an unusable reply.
 fn kind_of(why: Unusable) -> u8
     ensures { result ≡ kind_of (reason_of why) }
@@ -139,14 +167,17 @@ pub(crate) fn saying_of(reply: &Reply<'_>) -> Saying
     ensures { Reports result (said_of reply.now) }
 {
     match reply {
-        Reply::Answer(it) => of_name(ANSWER, it.ttl().as_secs(), it.name(), None, None),
-        Reply::NoData(it) => of_name(NO_DATA, it.ttl().as_secs(), it.name(), zone_of(it), None),
-        Reply::NoName(it) => of_name(NO_NAME, it.ttl().as_secs(), it.name(), zone_of(it), None),
-        Reply::Referral(it) => of_name(REFERRAL, 0, it.name(), Some(it.cut()), None),
-        Reply::Alias(it) => of_name(ALIAS, it.ttl().as_secs(), it.name(), None, None),
+        Reply::Answer(it) => of_name(ANSWER, it.ttl().as_secs(), 0, it.name(), None, None),
+        Reply::NoData(it) => of_denial(NO_DATA, it),
+        Reply::NoName(it) => of_denial(NO_NAME, it),
+        Reply::Referral(it) => {
+            let alias_ttl = seconds_of(it.alias_ttl());
+            of_name(REFERRAL, 0, alias_ttl, it.name(), Some(it.cut()), None)
+        }
+        Reply::Alias(it) => of_name(ALIAS, it.ttl().as_secs(), 0, it.name(), None, None),
         Reply::Dname(it) => {
             let (owner, target) = (Some(it.owner()), Some(it.target()));
-            of_name(DNAME, it.ttl().as_secs(), it.name(), owner, target)
+            of_name(DNAME, it.ttl().as_secs(), 0, it.name(), owner, target)
         }
         Reply::Truncated => of_none(TRUNCATED, 0),
         Reply::Failed(rcode) => of_none(FAILED, rcode.to_int()),

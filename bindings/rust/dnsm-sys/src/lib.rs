@@ -364,6 +364,7 @@ pub struct dnsm_put_item {
 #[derive(Debug, Clone, Copy)]
 pub struct dnsm_saying {
     pub ttl: u32,
+    pub alias_ttl: u32,
     pub rcode: u16,
     pub kind: u8,
     pub name_len: u8,
@@ -623,4 +624,5 @@ extern "C" {
     pub fn dnsm_is_regular(message: *const u8, message_len: usize, regular: *mut u8) -> dnsm_status;
     pub fn dnsm_min_ttl(message: *const u8, message_len: usize, ttl: *mut u32) -> dnsm_status;
     pub fn dnsm_records_end(message: *const u8, message_len: usize, end: *mut usize) -> dnsm_status;
+    pub fn dnsm_age(message: *mut u8, message_len: usize, seconds: u32) -> dnsm_status;
 }

@@ -32,7 +32,7 @@ struct Page;
 pub use builder::{Builder, Mark};
 pub use error::Error;
 pub use item::{NewItem, NewName, NewOpt};
-pub use message::{DataText, Field, Fields, Header, Item, Items, Message, Name};
+pub use message::{age_ttls, DataText, Field, Fields, Header, Item, Items, Message, Name};
 pub use number::{library_version, Class, ExtendedErrorCode, Opcode, OptionCode, Rcode, Rtype, Section};
 pub use number::{AA, AD, CD, QR, RA, RD, TC};
 pub use opt::{EdnsOption, Opt, Options};

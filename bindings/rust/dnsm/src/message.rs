@@ -65,7 +65,7 @@ impl<'a> Message<'a> {
 
     /// What this says of the first question of a query, if it is a reply to that. `zone` is the name of the zone that the server was
     /// asked about, as octets: the root, one zero octet, for a server that resolves. Only records whose owners are within it count, but
-    /// any NS record of the authority section can make it [`ReplyKind::Lame`](crate::ReplyKind::Lame).
+    /// NS records of a zone above can make it [`ReplyKind::Lame`](crate::ReplyKind::Lame).
     ///
     /// Ask [`is_regular`](Self::is_regular) first: another message can take seconds.
     ///
@@ -164,6 +164,18 @@ impl<'a> Message<'a> {
         }
         Ok(None)
     }
+}
+
+/// Lowers the TTL of each record of a message by some seconds, but not below 0, in place: for a response that was in a cache for so long.
+/// Records of OPT, TSIG, TKEY and SIG have none. No other octet changes.
+///
+/// # Errors
+///
+/// `ShortInput` if there are fewer than 12 octets, `NoMemory`, and why the message isn't [regular](Message::is_regular): the error of the
+/// first item that can't be skipped, or `BadPointer`. Then nothing has changed.
+pub fn age_ttls(octets: &mut [u8], seconds: u32) -> Result<(), Error> {
+    // SAFETY: the pointer and the length are those of the octets.
+    Error::check(unsafe { dnsm_age(octets.as_mut_ptr(), octets.len(), seconds) })
 }
 
 /// An iterator over the questions and records of a message.

@@ -66,8 +66,8 @@ pub struct Reply(dnsm_saying);
 impl Reply {
     pub(crate) fn read(query: &[u8], received: &[u8], zone: &[u8]) -> Result<Self, Error> {
         let [name, owner, target] = [[0; DNSM_NAME_OCTETS]; 3];
-        let (ttl, rcode, kind, name_len, owner_len, target_len) = (0, 0, 0, 0, 0, 0);
-        let mut saying = dnsm_saying { ttl, rcode, kind, name_len, owner_len, target_len, name, owner, target };
+        let (ttl, alias_ttl, rcode, kind, name_len, owner_len, target_len) = (0, 0, 0, 0, 0, 0, 0);
+        let mut saying = dnsm_saying { ttl, alias_ttl, rcode, kind, name_len, owner_len, target_len, name, owner, target };
         // SAFETY: the pointers and the lengths are those of the octets, and the reference is to a live value.
         let status = unsafe {
             let (received, received_len) = (received.as_ptr(), received.len());
@@ -82,10 +82,15 @@ impl Reply {
     }
 
     /// For how many seconds it may be cached: of `Answer` the least TTL of its records and the aliases; of `NoData` and `NoName` by the
-    /// SOA record (RFC 2308 section 5), without which they shouldn't be: the aliases have TTLs of their own; of `Alias` the least TTL of
-    /// the aliases, or `u32::MAX` without one. It is 0 for the kinds that have no TTL.
+    /// SOA record (RFC 2308 section 5), without which they shouldn't be; of `Alias` the least TTL of the aliases. It is 0 for the kinds
+    /// that have no TTL.
     pub fn ttl(&self) -> u32 {
         self.0.ttl
+    }
+
+    /// For how many seconds the aliases may be cached, of `NoData`, `NoName` and `Referral`. It is 0 without one.
+    pub fn alias_ttl(&self) -> u32 {
+        self.0.alias_ttl
     }
 
     /// The rcode of `Failed`, of twelve bits.

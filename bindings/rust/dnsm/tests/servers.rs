@@ -1,7 +1,7 @@
 //! What servers and forwarders use.
 use dnsm::{
-    build, data_from_text, library_version, name_from_text, query, record_from_text, Builder, Class, Error, Field, Item, Message,
-    Name, NewItem, Opcode, OptionCode, Rcode, ReplyKind, Rtype, Section, QR, RD,
+    age_ttls, build, data_from_text, library_version, name_from_text, query, record_from_text, Builder, Class, Error, Field,
+    Item, Message, Name, NewItem, Opcode, OptionCode, Rcode, ReplyKind, Rtype, Section, QR, RD,
 };
 use std::cmp::Ordering;
 use std::collections::HashSet;
@@ -245,6 +245,13 @@ fn replies_say_one_thing() {
     assert_eq!(said(&redirected), (ReplyKind::Dname, 50, 0, "a.example. example. b.other.".to_string()));
     let failed = replied(2, answer, "a.example", Rtype::A, 300, &[192, 0, 2, 1]);
     assert_eq!(said(&failed), (ReplyKind::Failed, 0, 2, "  ".to_string()));
+    let alias = NewItem::record(answer, "a.example", Rtype::CNAME, 60, b"\x01b\x07example\0");
+    let (question, start) =
+        (NewItem::question("a.example", Rtype::A, Class::IN), NewItem::record(authority, "example", Rtype::SOA, 900, &soa));
+    let aliased = build(9, QR, &[question, alias, start]).unwrap();
+    assert_eq!(said(&aliased), (ReplyKind::NoData, 600, 0, "b.example. example. ".to_string()));
+    let alias_ttl = |octets: &[u8]| Message::new(octets).unwrap().reply_to(&asked, &zone).unwrap().alias_ttl();
+    assert_eq!((alias_ttl(&aliased), alias_ttl(&none)), (60, 0));
     assert_eq!(said(&found[..found.len() - 1]), (ReplyKind::Unreadable, 0, 0, "  ".to_string()));
     let refused = |received: &[u8], query: &[u8], zone: &[u8]| Message::new(received).unwrap().reply_to(query, zone).err();
     assert_eq!(refused(&found, &asked, b""), Some(Error::BadText));
@@ -262,4 +269,18 @@ fn a_cache_asks_of_all_records() {
     let cut = Message::new(&RESPONSE[..RESPONSE.len() - 1]).unwrap();
     assert_eq!((cut.is_regular(), cut.min_ttl(), cut.records_end()), (false, Err(Error::ShortInput), Err(Error::ShortInput)));
     assert_eq!(Message::new(&build(1, 0, &[]).unwrap()).unwrap().min_ttl(), Ok(None));
+}
+
+#[test]
+fn ttls_are_lowered() {
+    let (mut octets, mut wanted) = (RESPONSE.to_vec(), RESPONSE.to_vec());
+    wanted[35..39].copy_from_slice(&3000_u32.to_be_bytes());
+    (wanted[59], wanted[80]) = (0, 0);
+    assert_eq!((age_ttls(&mut octets, 600), &octets), (Ok(()), &wanted));
+    assert_eq!(items(&octets).iter().map(Item::ttl).collect::<Vec<_>>(), [0, 3000, 0, 0]);
+    let last = octets.len() - 1;
+    assert_eq!((age_ttls(&mut octets[..last], 600), &octets), (Err(Error::ShortInput), &wanted));
+    (octets[51], wanted[51]) = (35, 35);
+    assert_eq!((age_ttls(&mut octets, 600), octets), (Err(Error::BadPointer), wanted));
+    assert_eq!(age_ttls(&mut [], 600), Err(Error::ShortInput));
 }
