@@ -1,6 +1,7 @@
 //! What a message says of the question of another, and names that DNAME records redirect, as text.
 use crate::message::Call;
 use crate::run::Run;
+use dns_code::Ttl;
 use dns_name::{Name, ParsedName};
 use dns_read::Message;
 use dns_reply::{Denial, Redirection, Reply, reply_to, reply_to_exact, substitute};
@@ -59,7 +60,8 @@ fn write_reply(text: &mut String, reply: &Reply<'_>) -> Result<(), AllocError> {
         Reply::NoData(denial) => write_denial(text, "no-data", denial),
         Reply::NoName(denial) => write_denial(text, "no-name", denial),
         Reply::Referral(referral) => {
-            write_names(text, "referral", &[referral.name(), referral.cut()])
+            write_names(text, "referral", &[referral.name(), referral.cut()])?;
+            write_alias_ttl(text, referral.alias_ttl())
         }
         Reply::Alias(alias) => {
             write_names(text, "alias", &[alias.name()])?;
@@ -82,14 +84,23 @@ fn write_names(text: &mut String, word: &str, names: &[ParsedName<'_>]) -> Resul
     Ok(())
 }
 
-/// Writes a denial: the name, the owner of the SOA record or "none", and the TTL.
+/// Writes a denial: the name, the owner of the SOA record or "none", and its TTLs.
 fn write_denial(text: &mut String, word: &str, denial: &Denial<'_>) -> Result<(), AllocError> {
     write_names(text, word, &[denial.name()])?;
     match denial.soa() {
         Some(soa) => write!(text, " {}", soa.owner().fmt_with_dot())?,
         None => text.push_str(" none")?,
     }
-    write!(text, " {}", denial.ttl().as_secs())
+    write!(text, " {}", denial.ttl().as_secs())?;
+    write_alias_ttl(text, denial.alias_ttl())
+}
+
+/// Writes the TTL of the aliases, if there are any.
+fn write_alias_ttl(text: &mut String, ttl: Option<Ttl>) -> Result<(), AllocError> {
+    match ttl {
+        Some(ttl) => write!(text, " after {}", ttl.as_secs()),
+        None => Ok(()),
+    }
 }
 
 /// Writes a redirection: the name, the owner, the target, the TTL and the new name or "none".

@@ -1,4 +1,20 @@
-//! A run of a program.
+//! A run of a program, by these lines of a case:
+//!
+//! - `run PROGRAM WORDS`: `dnsmsg` or `dnsview`, and its arguments.
+//! - `< TEXT`, `<. TEXT`: a line of the input; one without line feed.
+//! - `<*9 TEXT`, `<x DIGITS`: nine lines of the input; octets of it.
+//! - `> TEXT`, `>. TEXT`, `>x DIGITS`: what is printed, in the same forms.
+//! - `skip NUMBER`: how many of the first printed lines `>` leaves out; fewer are an error.
+//! - `2> TEXT`: a line of standard error.
+//! - `status NUMBER`: the exit status; 0 if no line says it.
+//!
+//! A run says what is printed to its end, or, by these lines and without `>` and `skip`, parts of
+//! it. In their `TEXT`, `\n` is a line feed, `\t` a tab and `\s` a space.
+//!
+//! - `starts TEXT`, `ends TEXT`, `has TEXT`: the text is at the start, at the end, or anywhere.
+//! - `count NUMBER TEXT`: how often it is printed. `line NUMBER TEXT`: the line of this number,
+//!   from 1 on.
+//! - `most NUMBER`: how many octets are printed at most.
 use crate::message::Call;
 use cases_files::{Report, key_of, octets_of, push_times};
 use std::alloc::{AllocError, Global};

@@ -10,21 +10,15 @@ pub(crate) fn assert_holds(rt: &impl Abort, row: &str, holds: bool) {
 
 /// Fails unless the octets equal the expected ones.
 pub(crate) fn assert_octets(rt: &impl Abort, row: &str, octets: &[u8], expected: &[u8]) {
-    assert_eq!(rt; octets, expected, "{row}");
+    assert!(rt; octets == expected, "{row}: {octets:?}");
 }
 
 /// The message in these octets.
 pub(crate) fn message_of<'a>(rt: &impl Abort, octets: &'a [u8]) -> Message<&'a [u8]> {
-    match Message::from_octets(octets) {
-        Ok(message) => message,
-        Err(_) => panic!(rt; "short message"),
-    }
+    Message::from_octets(octets).expect(rt, "a message")
 }
 
 /// The answer section of a message whose questions can be skipped.
 pub(crate) fn answers_of<'a>(rt: &impl Abort, message: &'a Message<&[u8]>) -> RecordSection<'a> {
-    match message.answer() {
-        Ok(answers) => answers,
-        Err(_) => panic!(rt; "no answer section"),
-    }
+    message.answer().expect(rt, "an answer section")
 }

@@ -52,45 +52,38 @@ fn digits_of(octets: &[u8]) -> ArrayVec<u8, 1024> {
 }
 
 /// Fails unless `dnsmsg show` prints the expected lines.
-fn assert_shows(rt: &impl Abort, alloc: Global, row: &str, plain: &Plain<'_>) {
-    let word = String::from_str(alloc, "show").expect(rt, row);
-    let digits = digits_of(plain.octets);
+fn assert_shows(rt: &impl Abort, alloc: Global, plain: &Plain<'_>) {
+    let word = String::from_str(alloc, "show").expect(rt, "memory");
+    let (words, digits) = (slice::from_ref(&word), digits_of(plain.octets));
     let mut output = Vec::new(alloc);
-    let status = tool(
-        alloc,
-        slice::from_ref(&word),
-        digits.as_slice(),
-        &mut output,
-    );
-    let text = str::from_utf8(&output).expect(rt, row);
+    let status = tool(alloc, words, digits.as_slice(), &mut output);
+    let text = str::from_utf8(&output).expect(rt, plain.name);
     let expected = lines_of(alloc, plain);
-    assert_same(rt, row, "status", status, 0);
-    assert_same(rt, row, "text", text, expected.as_str());
+    assert_same(rt, plain, "text", (status, text), (0, expected.as_str()));
 }
 
 /// Fails unless each result of the library is that of the plain reader.
-fn assert_all(rt: &impl Abort, alloc: Global, row: &str, octets: &[u8]) {
-    let message = Message::from_octets(octets).expect(rt, row);
-    let plain = Plain::of(rt, alloc, octets);
-    assert_questions(rt, row, &message, &plain);
-    assert_sections(rt, row, &message, &plain);
-    assert_iter(rt, row, &message, &plain);
-    assert_question_searches(rt, row, &message, &plain);
-    assert_record_searches(rt, row, &message, &plain);
-    assert_distinguished(rt, alloc, row, &message);
-    assert_copies(rt, alloc, row, &message, &plain);
-    assert_walks(rt, alloc, row, octets);
-    assert_shows(rt, alloc, row, &plain);
+fn assert_all(rt: &impl Abort, alloc: Global, name: &str, octets: &[u8]) {
+    let message = Message::from_octets(octets).expect(rt, name);
+    let plain = Plain::of(rt, alloc, name, octets);
+    assert_questions(rt, &message, &plain);
+    assert_sections(rt, &message, &plain);
+    assert_iter(rt, &message, &plain);
+    assert_question_searches(rt, &message, &plain);
+    assert_record_searches(rt, &message, &plain);
+    assert_distinguished(rt, alloc, &message, &plain);
+    assert_copies(rt, alloc, &message, &plain);
+    assert_walks(rt, &plain);
+    assert_shows(rt, alloc, &plain);
 }
 
 /// Replaces each octet of a message in turn.
-fn assert_replaced<const N: usize>(rt: &impl Abort, alloc: Global, octets: [u8; N]) {
+fn assert_replaced<const N: usize>(rt: &impl Abort, alloc: Global, name: &str, octets: [u8; N]) {
     for offset in 0..N {
         for octet in REPLACEMENTS {
-            let row = format!(in alloc; "octet {offset} replaced with {octet}");
             let mut replaced = octets;
             replaced[offset] = octet;
-            assert_all(rt, alloc, &row.expect(rt, "memory"), &replaced);
+            assert_all(rt, alloc, name, &replaced);
         }
     }
 }
@@ -98,57 +91,46 @@ fn assert_replaced<const N: usize>(rt: &impl Abort, alloc: Global, octets: [u8; 
 /// OPT with one option: each octet is replaced in turn.
 #[test]
 fn reads_an_option_with_replaced_octets(rt: HostRuntime) {
-    assert_replaced(&rt, rt.alloc(), *OPT);
+    assert_replaced(&rt, rt.alloc(), "OPT with one option, replaced", *OPT);
 }
 
 /// Name in data: each octet is replaced in turn.
 #[test]
 fn reads_a_name_in_data_with_replaced_octets(rt: HostRuntime) {
-    assert_replaced(&rt, rt.alloc(), *NAME_IN_DATA);
+    assert_replaced(&rt, rt.alloc(), "Name in data, replaced", *NAME_IN_DATA);
 }
 
 /// Cut in the header, Cut in the question, Cut in the answer: the message is cut after each octet.
 /// Without a header section there is no message.
 #[test]
 fn reads_messages_that_are_cut(rt: HostRuntime) {
-    let alloc = rt.alloc();
-    for len in 0..=45 {
-        let row = format!(in alloc; "cut after {len} octets");
-        let row = row.expect(&rt, "memory");
+    for len in 0..12 {
+        let refused = Message::from_octets(&POSITIVE_RESPONSE[..len]).is_err();
+        assert!(rt; refused, "cut after {len} octets");
+    }
+    for len in 12..=45 {
         let octets = &POSITIVE_RESPONSE[..len];
-        if len < 12 {
-            let is_short = Message::from_octets(octets).is_err();
-            assert_same(&rt, &row, "no message", is_short, true);
-        } else {
-            assert_all(&rt, alloc, &row, octets);
-        }
+        assert_all(&rt, rt.alloc(), "Positive response, cut", octets);
     }
 }
 
-/// Longest name, One octet too long: names of at most 255 octets, and of more.
-#[test]
-fn reads_long_questions(rt: HostRuntime) {
-    let alloc = rt.alloc();
-    for last in 59..=63 {
-        let row = format!(in alloc; "a last label of {last} octets");
-        let row = row.expect(&rt, "memory");
-        assert_all(&rt, alloc, &row, &long_question(last));
-    }
-}
-
+/// Longest name, One octet too long: names of at most 255 octets, and of more. And other messages at
+/// a bound.
 #[test]
 fn reads_messages_at_the_bounds(rt: HostRuntime) {
+    let alloc = rt.alloc();
+    for last in 59..=63 {
+        assert_all(&rt, alloc, "a long question", &long_question(last));
+    }
     for bound in BOUNDS {
-        assert_all(&rt, rt.alloc(), bound.name, bound.octets);
+        assert_all(&rt, alloc, bound.name, bound.octets);
     }
 }
 
 #[test]
 fn reads_messages_drawn_at_random(rt: HostRuntime) {
-    let alloc = rt.alloc();
     for seed in 1..=64 {
-        let row = format!(in alloc; "random message {seed}");
-        let row = row.expect(&rt, "memory");
-        assert_all(&rt, alloc, &row, random_message(seed).as_slice());
+        let message = random_message(seed);
+        assert_all(&rt, rt.alloc(), "random octets", message.as_slice());
     }
 }

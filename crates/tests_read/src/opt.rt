@@ -2,8 +2,6 @@
 use crate::asserts::{assert_holds, assert_octets};
 use dns_edit::{EditError, remove_opt};
 use dns_read::Message;
-use dns_wire::ParseError;
-use std::process::Abort;
 
 /// A message whose additional section has an OPT record alone, for UDP payloads of 1,232 octets.
 const OPT_ALONE: [u8; 23] = [
@@ -32,9 +30,9 @@ fn keeps_a_record_before_others(rt: HostRuntime) {
     octets[33] = 4;
     let mut message = Message::from_octets(octets).expect(&rt, "a message");
     let error = remove_opt(&mut message) == Err(EditError::NotLast);
-    assert_holds(&rt, "a record after the OPT record", error);
-    assert_octets(&rt, "octets that stay", message.as_octets(), &octets);
-    let mut message = Message::from_octets([1; 12]).expect(&rt, "a message");
-    let error = remove_opt(&mut message) == Err(EditError::Parse(ParseError::ShortInput));
-    assert_holds(&rt, "questions that aren't there", error);
+    assert_holds(
+        &rt,
+        "a record after it",
+        error && *message.as_octets() == octets,
+    );
 }

@@ -3,7 +3,6 @@ use crate::asserts::{assert_holds, assert_octets};
 use dns_stream::{FrameError, MAX_FRAME, StreamReader, first_message, missing_octets};
 use dns_target::StreamTarget;
 use dns_wire::{AppendError, Composer};
-use std::alloc::Global;
 use std::process::Abort;
 
 /// A query for the address of example.com, a header section alone, and a query for the name servers
@@ -18,20 +17,8 @@ const MESSAGES: [&[u8]; 3] = [
 const STREAM: &[u8; 64] =
     b"\x00\x1D\x12\x34\x01\x00\x00\x01\x00\x00\x00\x00\x00\x00\x07example\x03com\x00\x00\x01\x00\x01\x00\x0C\x12\x35\x80\x02\x00\x00\x00\x00\x00\x00\x00\x00\x00\x11\x12\x36\x00\x00\x00\x01\x00\x00\x00\x00\x00\x00\x00\x00\x02\x00\x01";
 
-/// Takes messages until there is none. Fails unless they are those of `MESSAGES` from index `from`
-/// on. Returns the index of the next one.
-fn take_messages(rt: &impl Abort, row: &str, reader: &mut StreamReader, from: usize) -> usize {
-    for index in from..MESSAGES.len() {
-        match reader.next() {
-            Ok(Some(message)) => assert_octets(rt, row, message.as_slice(), MESSAGES[index]),
-            Ok(None) => return index,
-            Err(error) => panic!(rt; "{row}: {error}"),
-        }
-    }
-    MESSAGES.len()
-}
-
-/// Pushes a piece and takes the messages that are complete then. Returns the index of the next one.
+/// Pushes a piece and takes the messages that are complete then: those of `MESSAGES` from index
+/// `from` on. Returns the index of the next one.
 fn push_piece(
     rt: &impl Abort,
     row: &str,
@@ -40,7 +27,13 @@ fn push_piece(
     from: usize,
 ) -> usize {
     reader.push(piece).expect(rt, row);
-    take_messages(rt, row, reader, from)
+    for index in from..MESSAGES.len() {
+        match reader.next().expect(rt, row) {
+            Some(message) => assert_octets(rt, row, message.as_slice(), MESSAGES[index]),
+            None => return index,
+        }
+    }
+    MESSAGES.len()
 }
 
 /// Every way to cut the stream into three pieces, of which some may be empty.
@@ -57,22 +50,6 @@ fn reads_any_three_pieces(rt: HostRuntime) {
             let taken = push_piece(&rt, row, &mut reader, last, taken);
             assert_holds(&rt, row, taken == 3 && reader.is_empty());
         }
-    }
-}
-
-/// Pieces of one octet up to the whole stream, by a reader that stores just the longest frame.
-#[test]
-fn reads_pieces_of_each_size(rt: HostRuntime) {
-    for size in 1..=31 {
-        let mut reader = StreamReader::new(rt.alloc(), 31);
-        let mut taken = 0;
-        for octets in STREAM.chunks(size) {
-            // A piece that doesn't fit is cut once more.
-            let (first, second) = octets.split_at(reader.spare_capacity().min(octets.len()));
-            taken = push_piece(&rt, "a piece", &mut reader, first, taken);
-            taken = push_piece(&rt, "its end", &mut reader, second, taken);
-        }
-        assert_holds(&rt, "all messages", taken == 3 && reader.is_empty());
     }
 }
 
@@ -130,29 +107,28 @@ const ROWS: [Row; 11] = [
     ),
 ];
 
+/// The length of what a reader has pushed, twice since an error stays, and of octets of the caller.
 #[test]
 fn reports_lengths(rt: HostRuntime) {
     for (row, most, octets, error, missing) in ROWS {
         let mut reader = StreamReader::new(rt.alloc(), most);
         reader.push(octets).expect(&rt, row);
-        assert_holds(&rt, row, reader.next().err() == error);
-        // The error stays, and so do the octets.
-        assert_holds(&rt, row, reader.next().err() == error);
-        assert_octets(&rt, row, reader.as_slice(), octets);
-        assert_holds(&rt, row, reader.missing_octets() == missing);
-        assert_holds(&rt, row, first_message(octets, most).err() == error);
-        assert_holds(&rt, row, missing_octets(octets) == missing);
+        let errors = [
+            reader.next().err(),
+            reader.next().err(),
+            first_message(octets, most).err(),
+        ];
+        let lengths = [reader.missing_octets(), missing_octets(octets)];
+        let is_reported = errors == [error; 3] && lengths == [missing; 2];
+        assert_holds(&rt, row, is_reported && reader.as_slice() == octets);
     }
-}
-
-/// The texts of the errors.
-#[test]
-fn prints_errors(rt: HostRuntime) {
-    let alloc = rt.alloc();
-    let short = format!(in alloc; "{}", FrameError::Short).expect(&rt, "memory");
-    let long = format!(in alloc; "{}", FrameError::Long).expect(&rt, "memory");
-    assert_holds(&rt, "Short", short.as_str() == "short message");
-    assert_holds(&rt, "Long", long.as_str() == "long message");
+    let (short, long) = (FrameError::Short, FrameError::Long);
+    let texts = format!(in rt.alloc(); "{short}, {long}").expect(&rt, "memory");
+    assert_holds(
+        &rt,
+        "texts",
+        texts.as_str() == "short message, long message",
+    );
 }
 
 /// A push that exceeds what the reader stores appends nothing, and loses nothing.
@@ -162,31 +138,14 @@ fn refuses_what_exceeds_it(rt: HostRuntime) {
     let mut reader = StreamReader::new(rt.alloc(), 40);
     reader.push(frame).expect(&rt, "a frame");
     let refused = reader.push(&after[..10]).err();
-    assert_holds(
-        &rt,
-        "ten octets more",
-        refused == Some(AppendError::ShortBuf),
-    );
-    assert_octets(&rt, "the frame", reader.as_slice(), frame);
-    reader.push(&after[..9]).expect(&rt, "nine octets more");
-    assert_holds(
-        &rt,
-        "the first message",
-        take_messages(&rt, "it", &mut reader, 0) == 1,
-    );
-    reader.push(&after[9..]).expect(&rt, "the other octets");
-    assert_holds(
-        &rt,
-        "all messages",
-        take_messages(&rt, "others", &mut reader, 1) == 3,
-    );
+    let is_same = refused == Some(AppendError::ShortBuf) && reader.as_slice() == frame;
+    assert_holds(&rt, "ten octets more", is_same);
+    let taken = push_piece(&rt, "nine octets more", &mut reader, &after[..9], 0);
+    let taken = push_piece(&rt, "the other octets", &mut reader, &after[9..], taken);
     reader.push(frame).expect(&rt, "a further frame");
     reader.clear();
-    assert_holds(
-        &rt,
-        "no octets",
-        reader.is_empty() && reader.spare_capacity() == 40 && reader.capacity() == 40,
-    );
+    let is_clear = reader.is_empty() && reader.spare_capacity() == 40 && reader.capacity() == 40;
+    assert_holds(&rt, "all messages", taken == 3 && is_clear);
 }
 
 /// What stream targets hold, one after the other, in a buffer of the caller.
@@ -196,21 +155,16 @@ fn reads_what_targets_hold(rt: HostRuntime) {
     for message in MESSAGES {
         let mut target = StreamTarget::new_vec(rt.alloc()).expect(&rt, "memory");
         target.append_slice(message).expect(&rt, "memory");
-        stream
-            .extend_from_slice(target.as_stream_slice())
-            .expect(&rt, "memory");
+        let held = target.as_stream_slice();
+        stream.append_slice(held).expect(&rt, "memory");
     }
     assert_octets(&rt, "the stream", &stream, STREAM);
     let mut rest = stream.as_slice();
     for message in MESSAGES {
-        match first_message(rest, MAX_FRAME) {
-            Ok(Some((found, after))) => {
-                assert_octets(&rt, "a message", found.as_slice(), message);
-                rest = after;
-            }
-            Ok(None) => panic!(rt; "an incomplete frame"),
-            Err(error) => panic!(rt; "{error}"),
-        }
+        let first = first_message(rest, MAX_FRAME).expect(&rt, "a length");
+        let (found, after) = first.expect(&rt, "a frame");
+        assert_octets(&rt, "a message", found.as_slice(), message);
+        rest = after;
     }
     assert_holds(&rt, "no octet after the messages", rest.is_empty());
 }

@@ -14,11 +14,8 @@ use std::fmt::{Debug, Display};
 use std::hash::{DefaultHasher, Hash, Hasher};
 use std::process::Abort;
 
-/// A name over static octets.
-pub(crate) type SliceName = Name<&'static [u8]>;
-
 /// The uncompressed name in these octets.
-pub(crate) fn name_of(rt: &impl Abort, octets: &'static [u8]) -> SliceName {
+pub(crate) fn name_of(rt: &impl Abort, octets: &'static [u8]) -> Name<&'static [u8]> {
     Name::from_octets(octets).expect(rt, "a name")
 }
 
@@ -56,11 +53,6 @@ pub(crate) fn assert_octets(rt: &impl Abort, row: &str, octets: &[u8], expected:
     assert_same(rt, row, octets, expected);
 }
 
-/// Fails unless the numbers equal the expected ones.
-pub(crate) fn assert_numbers(rt: &impl Abort, row: &str, numbers: &[u32], expected: &[u32]) {
-    assert_same(rt, row, numbers, expected);
-}
-
 /// Fails unless the question has these octets.
 pub(crate) fn assert_question<Q: ComposeQuestion>(
     rt: &impl Abort,
@@ -69,8 +61,7 @@ pub(crate) fn assert_question<Q: ComposeQuestion>(
     expected: &[u8],
 ) {
     let mut target = ArrayVec::<u8, 64>::new();
-    let composed = question.compose_question(&mut target);
-    assert_holds(rt, row, composed.is_ok());
+    question.compose_question(&mut target).expect(rt, row);
     assert_octets(rt, row, target.as_slice(), expected);
 }
 
@@ -82,8 +73,7 @@ pub(crate) fn assert_record<R: ComposeRecord>(
     expected: &[u8],
 ) {
     let mut target = ArrayVec::<u8, 64>::new();
-    let composed = record.compose_record(&mut target);
-    assert_holds(rt, row, composed.is_ok());
+    record.compose_record(&mut target).expect(rt, row);
     assert_octets(rt, row, target.as_slice(), expected);
 }
 
@@ -95,8 +85,7 @@ pub(crate) fn assert_data<D: ComposeRecordData>(
     expected: &[u8],
 ) {
     let mut target = ArrayVec::<u8, 64>::new();
-    let composed = data.compose_rdata(&mut target);
-    assert_holds(rt, row, composed.is_ok());
+    data.compose_rdata(&mut target).expect(rt, row);
     assert_octets(rt, row, target.as_slice(), expected);
 }
 
@@ -108,8 +97,7 @@ pub(crate) fn assert_canonical_data<D: ComposeRecordData>(
     expected: &[u8],
 ) {
     let mut target = ArrayVec::<u8, 64>::new();
-    let composed = data.compose_canonical_rdata(&mut target);
-    assert_holds(rt, row, composed.is_ok());
+    data.compose_canonical_rdata(&mut target).expect(rt, row);
     assert_octets(rt, row, target.as_slice(), expected);
 }
 

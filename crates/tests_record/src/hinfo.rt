@@ -3,7 +3,7 @@ ghost use Rattle.std.proofs.Common.{rules};
 ghost use Rattle.std.specs.Prelude.{[], ◌∷◌};
 ghost use Rattle.dns_message.specs.Data.{Octets, CharacterString, End, only};
 
-use crate::asserts::{assert_answer, assert_octets, first_data, message_of, name_of};
+use crate::asserts::{assert_answer, assert_data, first_data, message_of, name_of};
 use crate::char_str::{CharStr, string};
 use crate::fields::compose_fields;
 use dns_message::code::{Class, Rtype};
@@ -71,6 +71,6 @@ fn composes_its_strings_and_reads_them_back(rt: HostRuntime) {
     assert_answer(&rt, rt.alloc(), "an answer", record, MESSAGE);
     let message = message_of(&rt, MESSAGE);
     let hinfo: Hinfo<'_> = first_data(&rt, &message);
-    assert_octets(&rt, "hardware", hinfo.cpu.as_slice(), b"\x08DEC-2060");
-    assert_octets(&rt, "system", hinfo.os.as_slice(), b"\x06TOPS20");
+    let rdata = b"\x08DEC-2060\x06TOPS20";
+    assert_data(&rt, "the data of a message", &hinfo, rdata);
 }

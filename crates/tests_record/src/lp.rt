@@ -5,13 +5,14 @@ ghost use Rattle.std.specs.Int.{to_be_bytes, w16};
 ghost use Rattle.dns_message.specs.Data.{Octets, UncompressedName, Fixed, UncompressedDomainName, End, only};
 
 use crate::asserts::{
-    assert_answer, assert_canonical_data, assert_holds, first_data, message_of, name_of,
+    assert_answer, assert_canonical_data, assert_data, assert_holds, first_data, message_of,
+    name_of,
 };
 use crate::fields::{compose_fields, number_of};
 use dns_message::code::{Class, Rtype};
 use dns_message::data::laws::names_are_bounded;
 use dns_message::data::{ComposeRecordData, ParseRecordData, RecordData};
-use dns_message::name::{ParsedName, ToName, ToNameExt};
+use dns_message::name::{ParsedName, ToName};
 use dns_message::record::{Record, Ttl};
 use dns_message::target::Composer;
 use dns_message::wire::{AppendError, FormError, ParseError, Parser};
@@ -77,6 +78,9 @@ impl<'a> ParseRecordData<'a> for Lp<ParsedName<'a>> {
 const MESSAGE: &[u8; 46] =
     b"\x00\x00\x00\x00\x00\x00\x00\x01\x00\x00\x00\x00\x07Example\x00\x00\x6B\x00\x01\x00\x00\x0E\x10\x00\x0F\x00\x0A\x03L64\x07Example\x00";
 
+/// The RDATA.
+const RDATA: &[u8] = b"\x00\x0A\x03L64\x07Example\x00";
+
 /// Its name is never compressed, and keeps its letter case in canonical form.
 #[test]
 fn composes_its_name_as_it_is(rt: HostRuntime) {
@@ -84,8 +88,7 @@ fn composes_its_name_as_it_is(rt: HostRuntime) {
         preference: 10,
         fqdn: name_of(&rt, b"\x03L64\x07Example\x00"),
     };
-    let canonical = b"\x00\x0A\x03L64\x07Example\x00";
-    assert_canonical_data(&rt, "canonical form", &lp, canonical);
+    assert_canonical_data(&rt, "canonical form", &lp, RDATA);
     let owner = name_of(&rt, b"\x07Example\x00");
     let record = Record::new(owner, Class::IN, Ttl::HOUR, lp);
     assert_answer(&rt, rt.alloc(), "an answer", record, MESSAGE);
@@ -95,17 +98,14 @@ fn composes_its_name_as_it_is(rt: HostRuntime) {
 fn reads_its_own_data_back(rt: HostRuntime) {
     let message = message_of(&rt, MESSAGE);
     let lp: Lp<ParsedName<'_>> = first_data(&rt, &message);
-    assert_holds(&rt, "preference", lp.preference == 10);
-    let fqdn = name_of(&rt, b"\x03L64\x07Example\x00");
-    assert_holds(&rt, "name", lp.fqdn.octets_eq(&fqdn));
+    assert_data(&rt, "the data of a message", &lp, RDATA);
 }
 
 #[test]
 fn refuses_a_pointer(rt: HostRuntime) {
     // A root at offset 0, then the RDATA, whose name ends with a pointer to that root.
     let mut parser = Parser::new(b"\x00\x00\x0A\x03L64\xC0\x00");
-    let advanced = parser.advance(1);
-    assert_holds(&rt, "advanced", advanced.is_ok());
+    parser.advance(1).expect(&rt, "an octet");
     let error = Lp::parse_rdata(Rtype::from_int(107), &mut parser).err();
     let is_form = error == Some(ParseError::Form(FormError::BAD_POINTER));
     assert_holds(&rt, "a pointer", is_form);

@@ -1,5 +1,5 @@
 //! Readers of many words and values, which take time and stack that don't grow faster.
-use crate::asserts::assert_octets;
+use crate::asserts::{assert_octets, assert_same};
 use fields_forms::read_host_identity;
 use fields_lists::{push_type_map, read_prefixes, read_small_type_map};
 use fields_parameters::read_parameters;
@@ -17,10 +17,10 @@ fn many_types(rt: HostRuntime) {
             .expect(&rt, "there is memory");
     }
     let mut map = Vec::new(rt.alloc());
-    let result = push_type_map(&mut map, &types);
-    assert!(rt; result.is_ok());
-    assert_eq!(rt; map.len(), 256 * 3);
-    assert_eq!(rt; &map[3..6], b"\x01\x01\x80".as_slice());
+    push_type_map(&mut map, &types).expect(&rt, "types");
+    assert_same(&rt, "the length of the map", map.len(), 256 * 3);
+    let block = map.get(3..6).unwrap_or(&[]);
+    assert_octets(&rt, "the second block", block, b"\x01\x01\x80");
 }
 
 /// A parameter for each key but those with a name, in rising order: four octets each.
@@ -37,7 +37,7 @@ fn many_parameters(rt: HostRuntime) {
         words.push(text.as_str()).expect(&rt, "there is memory");
     }
     let octets = read_parameters(alloc, &words).expect(&rt, "keys are there once");
-    assert_eq!(rt; octets.len(), 65527 * 4);
+    assert_same(&rt, "the length of parameters", octets.len(), 65527 * 4);
 }
 
 /// These words, and `MANY` times another one.
@@ -61,8 +61,13 @@ fn many_words(rt: HostRuntime) {
     assert_octets(&rt, "types", &map, b"\x40");
     let words = many(&rt, alloc, &[], "1:0.0.0.0/0");
     let prefixes = read_prefixes(alloc, &words).expect(&rt, "prefixes");
-    assert_eq!(rt; prefixes.len(), 1_200_000);
+    assert_same(&rt, "the length of prefixes", prefixes.len(), 1_200_000);
     let words = many(&rt, alloc, &["2", "20", "AwE="], ".");
     let identity = read_host_identity(alloc, &words).expect(&rt, "an identity");
-    assert_eq!(rt; identity.len(), 7 + 300_000);
+    assert_same(
+        &rt,
+        "the length of an identity",
+        identity.len(),
+        7 + 300_000,
+    );
 }

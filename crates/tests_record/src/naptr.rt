@@ -6,18 +6,16 @@ ghost use Rattle.dns_message.specs.Data.{Octets, UncompressedName, Fixed, Charac
 ghost use Rattle.tests_record.specs.Naptr.{naptr_parts};
 
 use crate::asserts::{
-    assert_answer, assert_canonical_data, assert_holds, assert_numbers, assert_octets, first_data,
-    message_of, name_of,
+    assert_answer, assert_canonical_data, assert_data, first_data, message_of, name_of,
 };
 use crate::char_str::{CharStr, string};
 use crate::fields::{compose_fields, number_of};
-use dns_message::builder::MessageBuilder;
 use dns_message::code::{Class, Rtype};
 use dns_message::data::laws::names_are_bounded;
-use dns_message::data::{ComposeRecordData, Ns, ParseRecordData, RecordData};
-use dns_message::name::{ParsedName, ToName, ToNameExt};
-use dns_message::record::{ComposeRecord, Record, Ttl};
-use dns_message::target::{Composer, TreeCompressor};
+use dns_message::data::{ComposeRecordData, ParseRecordData, RecordData};
+use dns_message::name::{ParsedName, ToName};
+use dns_message::record::{Record, Ttl};
+use dns_message::target::Composer;
 use dns_message::wire::{AppendError, ParseError, Parser};
 use std::process::Abort;
 
@@ -125,25 +123,21 @@ const MESSAGE: &[u8; 67] =
 const COMPRESSED: &[u8; 60] =
     b"\x00\x00\x00\x00\x00\x00\x00\x01\x00\x00\x00\x00\x07example\x00\x00\x23\x00\x01\x00\x00\x0E\x10\x00\x1D\x00\x64\x00\x32\x01s\x0Dz3950+N2L+N2C\x00\x05z3950\xC0\x0C";
 
-/// Fails unless the NAPTR data has these fields.
-fn assert_pointer(rt: &impl Abort, naptr: &Naptr<'_, ParsedName<'_>>) {
-    let numbers = [u32::from(naptr.order), u32::from(naptr.preference)];
-    assert_numbers(rt, "numbers", &numbers, &[100, 50]);
-    assert_octets(rt, "flags", naptr.flags.as_slice(), b"\x01s");
-    let services = naptr.services.as_slice();
-    assert_octets(rt, "services", services, b"\x0Dz3950+N2L+N2C");
-    assert_octets(rt, "expression", naptr.regexp.as_slice(), b"\x00");
-    let replacement = name_of(rt, b"\x05z3950\x07example\x00");
-    assert_holds(rt, "replacement", naptr.replacement.octets_eq(&replacement));
+/// The RDATA of both, uncompressed.
+const RDATA: &[u8] = b"\x00\x64\x00\x32\x01s\x0Dz3950+N2L+N2C\x00\x05z3950\x07example\x00";
+
+/// Fails unless the message has this data.
+fn assert_read(rt: &impl Abort, octets: &'static [u8]) {
+    let message = message_of(rt, octets);
+    let naptr: Naptr<'_, ParsedName<'_>> = first_data(rt, &message);
+    assert_data(rt, "the data of a message", &naptr, RDATA);
 }
 
 /// The replacement may be compressed.
 #[test]
 fn reads_its_own_data_back(rt: HostRuntime) {
-    let message = message_of(&rt, MESSAGE);
-    assert_pointer(&rt, &first_data(&rt, &message));
-    let message = message_of(&rt, COMPRESSED);
-    assert_pointer(&rt, &first_data(&rt, &message));
+    assert_read(&rt, MESSAGE);
+    assert_read(&rt, COMPRESSED);
 }
 
 /// The NAPTR data of the messages above.
@@ -166,40 +160,9 @@ fn never_compresses_its_replacement(rt: HostRuntime) {
     assert_answer(&rt, rt.alloc(), "an answer", record, MESSAGE);
 }
 
-/// The first message with a second answer: an NS record whose owner and server are the replacement.
-const SECOND: &[u8; 87] =
-    b"\x00\x00\x00\x00\x00\x00\x00\x02\x00\x00\x00\x00\x07example\x00\x00\x23\x00\x01\x00\x00\x0E\x10\x00\x24\x00\x64\x00\x32\x01s\x0Dz3950+N2L+N2C\x00\x05z3950\x07example\x00\x05z3950\xC0\x0C\x00\x02\x00\x01\x00\x00\x0E\x10\x00\x02\xC0\x43";
-
-/// Fails unless the message with these two answers has these octets.
-fn assert_answers<T: Composer, R: ComposeRecord + Drop, S: ComposeRecord + Drop>(
-    rt: &impl Abort,
-    target: T,
-    first: R,
-    second: S,
-    expected: &[u8],
-) {
-    let builder = MessageBuilder::from_target(target).expect(rt, "a capacity");
-    let mut builder = builder.answer();
-    builder.push(first).expect(rt, "the first answer");
-    builder.push(second).expect(rt, "the second answer");
-    assert_octets(rt, "two answers", builder.as_slice(), expected);
-}
-
-/// The owner of the second answer shares a suffix with the first owner, not with the replacement.
-#[test]
-fn shares_no_suffix_of_its_replacement(rt: HostRuntime) {
-    let zone = name_of(&rt, b"\x07example\x00");
-    let host = name_of(&rt, b"\x05z3950\x07example\x00");
-    let first = Record::new(zone, Class::IN, Ttl::HOUR, pointer_to(&rt, host));
-    let second = Record::new(host, Class::IN, Ttl::HOUR, Ns::new(host));
-    let target = TreeCompressor::new(rt.alloc(), Vec::new(rt.alloc()));
-    assert_answers(&rt, target, first, second, SECOND);
-}
-
 /// Only the name is lowercased.
 #[test]
 fn lowercases_its_replacement_in_canonical_form(rt: HostRuntime) {
     let naptr = pointer_to(&rt, name_of(&rt, b"\x05Z3950\x07Example\x00"));
-    let canonical = b"\x00\x64\x00\x32\x01s\x0Dz3950+N2L+N2C\x00\x05z3950\x07example\x00";
-    assert_canonical_data(&rt, "canonical form", &naptr, canonical);
+    assert_canonical_data(&rt, "canonical form", &naptr, RDATA);
 }

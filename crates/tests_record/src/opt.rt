@@ -1,6 +1,5 @@
-//! OPT records: their values, and what is gathered for one.
+//! OPT records: their options, and what is gathered for one. Their fields are in the messages of
+//! `cases_runs`.
 mod builder;
 mod data;
-mod header;
 mod known_options;
-mod read_options;

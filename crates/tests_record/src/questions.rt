@@ -1,34 +1,15 @@
-//! Questions: compared, composed of tuples, and errors. Their texts are in the cases of
-//! `cases_rdata`.
+//! Questions: composed of tuples, and errors. Their texts are in the cases of `cases_rdata`.
 use crate::asserts::{assert_holds, assert_prints, assert_question};
-use arrayvec::ArrayVec;
 use dns_code::{Class, Rtype};
 use dns_item::Question;
-use dns_item::question::{FromStrError, PresentationError, PresentationErrorEnum};
+use dns_item::question::{FromStrError, PresentationError};
 use dns_wire::{Name, ToName, name};
 use std::process::Abort;
-
-/// The question of this text.
-fn question_of(rt: &impl Abort, text: &str) -> Question<Name<ArrayVec<u8, 255>>> {
-    text.parse::<Question<Name<ArrayVec<u8, 255>>>>()
-        .expect(rt, text)
-}
-
-#[test]
-fn compares(rt: HostRuntime) {
-    let question = question_of(&rt, "example.com A");
-    let same = question_of(&rt, "EXAMPLE.com. IN a");
-    assert_holds(&rt, "another letter case", question == same);
-    let other = question_of(&rt, "example.com CH A");
-    assert_holds(&rt, "another class", question != other);
-}
 
 #[test]
 fn converts_errors(rt: HostRuntime) {
     let fault = name::PresentationError::LongName;
     let error = PresentationError::from(fault);
-    let is_kind = error.kind() == PresentationErrorEnum::BadName(fault);
-    assert_holds(&rt, "the kind of an error of a name", is_kind);
     let presentation = FromStrError::from(name::FromStrError::Presentation(fault));
     let is_same = presentation == FromStrError::Presentation(error);
     assert_holds(&rt, "an error of a name, in a text", is_same);

@@ -2,12 +2,13 @@
 //! 4.1.4).
 //!
 //! What is written is compared with the plain encoding of `tests_plain`, octet for octet, and its
-//! length with that of each compression. A compression is one free choice for each name: all its labels, or its first k >= 0 labels and a
-//! pointer to a suffix of an earlier name.
+//! length with that of each compression. A compression is one free choice for each name: all its
+//! labels, or its first k >= 0 labels and a pointer to a suffix of an earlier name.
+ghost use Rattle.std.specs.Prelude.{◌≤◌};
+
 use crate::asserts::{assert_octets, assert_same};
+use crate::compressors::{Check, Compressing, assert_on_each};
 use crate::steps::append_name;
-use dns_target::{FingerprintCompressor, HashCompressor, StaticCompressor, TreeCompressor};
-use dns_wire::Composer;
 use std::alloc::Global;
 use std::process::Abort;
 use tests_plain::{PlainRule, PlainTarget};
@@ -25,7 +26,7 @@ const A_B: &[u8] = b"\x01a\x01b\x00";
 const B_B: &[u8] = b"\x01b\x01b\x00";
 
 /// All names with at most two of the labels a, b and A. The letters a and A are two labels.
-const NAMES: &[&[u8]] = &[
+const NAMES: [&[u8]; 13] = [
     ROOT,
     A,
     B,
@@ -92,65 +93,58 @@ fn plain_octets(rt: &impl Abort, alloc: Global, rule: PlainRule, names: &[&[u8]]
     plain.octets
 }
 
-/// Fails unless the names take `len` octets on an empty target, and are the plain encoding.
-fn assert_written<T: Composer>(
-    rt: &impl Abort,
+/// A list of names, and the octets that they have to take.
+#[derive(Clone, Copy)]
+struct Names<'a> {
     alloc: Global,
-    rule: PlainRule,
-    mut target: T,
-    names: &[&[u8]],
+    names: &'a [&'a [u8]],
     len: Option<usize>,
-) {
-    for name in names {
-        append_name(rt, &mut target, name).expect(rt, "memory");
+}
+
+/// The names take so many octets on an empty target, and are the plain encoding.
+impl Check for Names<'_> {
+    fn assert_on<T: Compressing>(&self, rt: &impl Abort, rule: PlainRule, mut target: T) {
+        for name in self.names {
+            append_name(rt, &mut target, name).expect(rt, "memory");
+        }
+        let octets = target.as_slice();
+        let written = (self.names, Some(octets.len()));
+        assert_same(
+            rt,
+            "the shortest compression",
+            written,
+            (self.names, self.len),
+        );
+        let plain = plain_octets(rt, self.alloc, rule, self.names);
+        assert_octets(rt, "the plain encoding", octets, &plain);
     }
-    let octets = target.as_slice();
-    let written = (names, Some(octets.len()));
-    assert_same(rt, "the shortest compression", written, (names, len));
-    let plain = plain_octets(rt, alloc, rule, names);
-    assert_octets(rt, "the plain encoding", octets, &plain);
 }
 
 /// Checks that each compressor writes the names in as many octets as their shortest compression
 /// has. Returns the number of compressions.
 fn assert_shortest(rt: &impl Abort, alloc: Global, names: &[&[u8]]) -> usize {
     let lens = compression_lens(rt, alloc, names);
-    assert_len(rt, alloc, names, lens.iter().min().copied());
+    let len = lens.iter().min().copied();
+    assert_on_each(rt, alloc, &Vec::new(alloc), &Names { alloc, names, len });
     lens.len()
 }
 
-/// Fails unless the names take `len` octets on each compressor, and are the plain encoding.
-fn assert_len(rt: &impl Abort, alloc: Global, names: &[&[u8]], len: Option<usize>) {
-    let offsets = StaticCompressor::new(Vec::new(alloc));
-    assert_written(rt, alloc, PlainRule::Static, offsets, names, len);
-    let hash = HashCompressor::new(alloc, Vec::new(alloc));
-    assert_written(rt, alloc, PlainRule::Hash, hash, names, len);
-    let tree = TreeCompressor::new(alloc, Vec::new(alloc));
-    assert_written(rt, alloc, PlainRule::Tree, tree, names, len);
-    let fingerprints = FingerprintCompressor::new(alloc, Vec::new(alloc));
-    assert_written(rt, alloc, PlainRule::Tree, fingerprints, names, len);
-}
-
-/// Checks the same for each list of these two names and one more. Returns the number of their
-/// compressions.
-fn assert_three(rt: &impl Abort, alloc: Global, first: &[u8], second: &[u8]) -> usize {
+/// Checks the same for each list of `len` names, of which there are `lists`. Returns the number of
+/// their compressions.
+fn assert_all(rt: &impl Abort, alloc: Global, len: usize, lists: usize) -> usize
+    requires { len ≤ 3 }
+{
     let mut count: usize = 0;
-    for &third in NAMES {
-        count = count.saturating_add(assert_shortest(rt, alloc, &[first, second, third]));
+    for list in 0..lists {
+        let names = [
+            NAMES[list % 13],
+            NAMES[list / 13 % 13],
+            NAMES[list / 169 % 13],
+        ];
+        let compressions = assert_shortest(rt, alloc, &names[..len]);
+        count = count.saturating_add(compressions);
     }
     count
-}
-
-/// Checks the same for each list of this name and one more, and of these and yet another. Returns
-/// the numbers of their compressions.
-fn assert_two_and_three(rt: &impl Abort, alloc: Global, first: &[u8]) -> (usize, usize) {
-    let mut two: usize = 0;
-    let mut three: usize = 0;
-    for &second in NAMES {
-        two = two.saturating_add(assert_shortest(rt, alloc, &[first, second]));
-        three = three.saturating_add(assert_three(rt, alloc, first, second));
-    }
-    (two, three)
 }
 
 /// The number of compressions that all lists of no name, of one, of two and of three names have,
@@ -166,17 +160,12 @@ const COUNTS: [usize; 4] = [1, 13, 226, 4519];
 #[test]
 fn none_is_shorter_than_what_is_written(rt: HostRuntime) {
     let alloc = rt.alloc();
-    let none = assert_shortest(&rt, alloc, &[]);
-    let mut one: usize = 0;
-    let mut two: usize = 0;
-    let mut three: usize = 0;
-    for &first in NAMES {
-        one = one.saturating_add(assert_shortest(&rt, alloc, &[first]));
-        let (pairs, triples) = assert_two_and_three(&rt, alloc, first);
-        two = two.saturating_add(pairs);
-        three = three.saturating_add(triples);
-    }
-    let counts = [none, one, two, three];
+    let counts = [
+        assert_all(&rt, alloc, 0, 1),
+        assert_all(&rt, alloc, 1, 13),
+        assert_all(&rt, alloc, 2, 169),
+        assert_all(&rt, alloc, 3, 2197),
+    ];
     assert_same(&rt, "the numbers of compressions", counts, COUNTS);
 }
 

@@ -4,7 +4,7 @@ ghost use Rattle.dns_wire.specs.Encoders.{Plain};
 
 use crate::asserts::{assert_octets, assert_same};
 use crate::callers::HISTORY;
-use crate::steps::{Step, assert_row, assert_steps, take};
+use crate::steps::{Step, assert_steps, take};
 use crate::targets::{Refusing, WANT};
 use arrayvec::ArrayVec;
 use dns_target::{FingerprintCompressor, HashCompressor, StaticCompressor, TreeCompressor};
@@ -12,6 +12,7 @@ use dns_wire::{AppendError, CloneTarget, Composer, FreezeBuilder, Octets};
 use std::alloc::Global;
 use std::convert::AsSlice;
 use std::process::Abort;
+use tests_plain::PlainRule;
 
 const A: &[u8] = b"\x01a\x00";
 
@@ -171,74 +172,52 @@ const SHORT_CASES: &[Case] = &[
     HISTORY,
 ];
 
+/// On a target that refuses each growth.
+const WANT_CASES: &[Case] = &[Case {
+    name: "no memory",
+    steps: WANT,
+    ..ALIKE
+}];
+
 /// A compressor. No two are the same type, or the impls would overlap.
-trait Compressing: Composer {}
+pub(crate) trait Compressing: CloneTarget {}
 
-impl<T: Composer> Compressing for StaticCompressor<T> {}
+impl<T: CloneTarget> Compressing for StaticCompressor<T> {}
 
-impl<T: Composer> Compressing for TreeCompressor<T> {}
+impl<T: CloneTarget> Compressing for TreeCompressor<T> {}
 
-impl<T: Composer> Compressing for HashCompressor<T> {}
+impl<T: CloneTarget> Compressing for HashCompressor<T> {}
 
-impl<T: Composer> Compressing for FingerprintCompressor<T> {}
+impl<T: CloneTarget> Compressing for FingerprintCompressor<T> {}
 
-/// Takes the steps of a case on the target, and then other steps on a clone of it. The target
-/// doesn't change then.
-fn assert_case<T: Compressing + CloneTarget + FreezeBuilder>(
-    rt: &impl Abort,
-    case: &Case,
-    mut target: T,
-) {
-    assert_steps(rt, case.name, &mut target, case.steps);
-    let mut clone = target.clone_target().expect(rt, case.name);
-    assert_steps(rt, case.name, &mut clone, case.others);
-    clone.truncate(case.len);
-    let frozen = target.freeze();
-    assert_octets(rt, case.name, frozen.octets(), clone.as_slice());
-    assert_same(rt, case.name, frozen.octets().len(), case.len);
+/// What is tested on each compressor.
+pub(crate) trait Check {
+    /// Fails unless a compressor over an empty target writes what it has to. The plain encoding by
+    /// `rule` is that of the compressor.
+    fn assert_on<T: Compressing>(&self, rt: &impl Abort, rule: PlainRule, target: T);
 }
 
 fn clone_of<T: CloneTarget>(rt: &impl Abort, target: &T) -> T {
     target.clone_target().expect(rt, "a clone")
 }
 
-/// Takes the cases on each compressor over an empty target.
-fn assert_cases<T: CloneTarget + FreezeBuilder>(
+/// Tests each compressor over clones of an empty target.
+pub(crate) fn assert_on_each<T: CloneTarget, C: Check>(
     rt: &impl Abort,
     alloc: Global,
     empty: &T,
-    cases: &[Case],
+    check: &C,
 )
     requires { T.rule ≡ Plain }
 {
-    for case in cases {
-        let offsets = StaticCompressor::new(clone_of(rt, empty));
-        assert_case(rt, case, offsets);
-        let tree = TreeCompressor::new(alloc, clone_of(rt, empty));
-        assert_case(rt, case, tree);
-        let fingerprints = FingerprintCompressor::new(alloc, clone_of(rt, empty));
-        assert_case(rt, case, fingerprints);
-        let hash = HashCompressor::new(alloc, clone_of(rt, empty));
-        assert_case(rt, case, hash);
-    }
-}
-
-#[test]
-fn each_writes_these_names(rt: HostRuntime) {
-    assert_cases(&rt, rt.alloc(), &Vec::new(rt.alloc()), CASES);
-    assert_cases(&rt, rt.alloc(), &ArrayVec::<u8, 11>::new(), SHORT_CASES);
-}
-
-/// Each growth of the target is refused.
-#[test]
-fn out_of_memory_is_reported(rt: HostRuntime) {
-    let alloc = rt.alloc();
-    let offsets = StaticCompressor::new(Refusing);
-    assert_row(&rt, "a static compressor", offsets, WANT);
-    let tree = TreeCompressor::new(alloc, Refusing);
-    assert_row(&rt, "a tree compressor", tree, WANT);
-    let hash = HashCompressor::new(alloc, Refusing);
-    assert_row(&rt, "a hash compressor", hash, WANT);
+    let offsets = StaticCompressor::new(clone_of(rt, empty));
+    check.assert_on(rt, PlainRule::Static, offsets);
+    let tree = TreeCompressor::new(alloc, clone_of(rt, empty));
+    check.assert_on(rt, PlainRule::Tree, tree);
+    let fingerprints = FingerprintCompressor::new(alloc, clone_of(rt, empty));
+    check.assert_on(rt, PlainRule::Tree, fingerprints);
+    let hash = HashCompressor::new(alloc, clone_of(rt, empty));
+    check.assert_on(rt, PlainRule::Hash, hash);
 }
 
 /// Overwriting no octets is allowed everywhere, also inside a name in the compression table.
@@ -248,13 +227,52 @@ fn write_nothing<T: Composer>(target: &mut T) {
     }
 }
 
+/// Takes the steps of a case on the target, and then other steps on a clone of it. The target
+/// doesn't change then.
+impl Check for Case {
+    fn assert_on<T: Compressing>(&self, rt: &impl Abort, _rule: PlainRule, mut target: T) {
+        assert_steps(rt, self.name, &mut target, self.steps);
+        write_nothing(&mut target);
+        let mut clone = target.clone_target().expect(rt, self.name);
+        assert_steps(rt, self.name, &mut clone, self.others);
+        clone.truncate(self.len);
+        let octets = target.as_slice();
+        assert_octets(rt, self.name, octets, clone.as_slice());
+        let found = (octets.len(), target.can_compress());
+        assert_same(rt, self.name, found, (self.len, true));
+    }
+}
+
+/// Takes the cases on each compressor over an empty target.
+fn assert_cases<T: CloneTarget>(rt: &impl Abort, alloc: Global, empty: &T, cases: &[Case])
+    requires { T.rule ≡ Plain }
+{
+    for case in cases {
+        assert_on_each(rt, alloc, empty, case);
+    }
+}
+
+#[test]
+fn each_writes_these_names(rt: HostRuntime) {
+    let alloc = rt.alloc();
+    assert_cases(&rt, alloc, &Vec::new(alloc), CASES);
+    assert_cases(&rt, alloc, &ArrayVec::<u8, 11>::new(), SHORT_CASES);
+    assert_cases(&rt, alloc, &Refusing, WANT_CASES);
+}
+
+/// Fails unless a compressor over the empty target lends and gives it.
+fn assert_lends<T: FreezeBuilder>(rt: &impl Abort, target: T)
+    requires { T.rule ≡ Plain }
+{
+    let mut target = StaticCompressor::new(target);
+    take(rt, "a name", &mut target, Step::Name(DE, Ok(DE)));
+    assert_octets(rt, "AsSlice", AsSlice::as_slice(&target), DE);
+    assert_octets(rt, "as_target", target.as_target().as_slice(), DE);
+    let frozen = target.into_target().freeze();
+    assert_octets(rt, "the target", frozen.octets(), DE);
+}
+
 #[test]
 fn lends_and_gives_its_target(rt: HostRuntime) {
-    let mut target = StaticCompressor::new(ArrayVec::<u8, 4>::new());
-    take(&rt, "a name", &mut target, Step::Name(DE, Ok(DE)));
-    write_nothing(&mut target);
-    assert_octets(&rt, "AsSlice", AsSlice::as_slice(&target), DE);
-    assert_octets(&rt, "as_target", target.as_target().as_slice(), DE);
-    assert_same(&rt, "compression", target.can_compress(), true);
-    assert_octets(&rt, "the target", &target.into_target(), DE);
+    assert_lends(&rt, ArrayVec::<u8, 4>::new());
 }

@@ -3,7 +3,9 @@ use crate::asserts::assert_prints;
 use dns_code::{Flags, HeaderCounts, class, rtype};
 use dns_wire::name::{FromStrError, PresentationError};
 use dns_wire::{AppendError, FormError, ParseError, ShortBuf};
-use std::alloc::AllocError;
+use std::alloc::{AllocError, Global};
+use std::fmt::Display;
+use std::process::Abort;
 
 /// Errors of reading octets, and their texts.
 const FAULTS: &[(ParseError, &str)] = &[
@@ -48,25 +50,26 @@ const NAME_ERRORS: &[(FromStrError, &str)] = &[
     (FromStrError::OutOfMemory, "out of memory"),
 ];
 
+/// Fails unless each error is printed as the text after it.
+fn assert_all_print<T: Display>(rt: &impl Abort, alloc: Global, errors: &[(T, &str)]) {
+    for (error, text) in errors {
+        assert_prints(rt, alloc, text, error, text);
+    }
+}
+
 #[test]
 fn prints_errors(rt: HostRuntime) {
     let alloc = rt.alloc();
-    for (error, text) in FAULTS {
-        assert_prints(&rt, alloc, text, error, text);
-    }
-    for (error, text) in NAME_ERRORS {
-        assert_prints(&rt, alloc, text, error, text);
-    }
-    let text = "buffer size exceeded";
-    assert_prints(&rt, alloc, "no capacity", &ShortBuf, text);
-    let capacity = AppendError::from(ShortBuf);
-    assert_prints(&rt, alloc, "no capacity, of an append", &capacity, text);
-    let memory = AppendError::from(AllocError);
-    assert_prints(&rt, alloc, "no memory", &memory, "out of memory");
-    let error = rtype::FromStrError;
-    assert_prints(&rt, alloc, "no type", &error, "unknown record type");
-    let error = class::FromStrError;
-    assert_prints(&rt, alloc, "no class", &error, "unknown class");
+    assert_all_print(&rt, alloc, FAULTS);
+    assert_all_print(&rt, alloc, NAME_ERRORS);
+    assert_all_print(&rt, alloc, &[(ShortBuf, "buffer size exceeded")]);
+    let appends = [
+        (AppendError::from(ShortBuf), "buffer size exceeded"),
+        (AppendError::from(AllocError), "out of memory"),
+    ];
+    assert_all_print(&rt, alloc, &appends);
+    assert_all_print(&rt, alloc, &[(rtype::FromStrError, "unknown record type")]);
+    assert_all_print(&rt, alloc, &[(class::FromStrError, "unknown class")]);
 }
 
 #[test]

@@ -1,6 +1,5 @@
-//! Tests of the layers below messages: octets, names, rcodes, headers, TTLs and serials as they are
-//! read and printed, and targets to which names and octets are appended and from which they are cut
-//! away. The expected values come from outside this library.
+//! Tests of the layers below messages: octets, names, headers, TTLs and serials as they are read and
+//! printed, and targets to which names and octets are appended and from which they are cut away. The expected values come from outside this library.
 //!
 //! Nothing is exported. A module tests what it is named after; `asserts` and `steps` have what many
 //! tests use, and `callers` and `serials` proved callers. The rows of a table have names, which
@@ -11,8 +10,6 @@
 mod asserts;
 #[cfg(test)]
 mod callers;
-#[cfg(test)]
-mod codes;
 #[cfg(test)]
 mod comparisons;
 #[cfg(test)]
@@ -29,10 +26,6 @@ mod name_texts;
 mod names;
 #[cfg(test)]
 mod octets;
-#[cfg(test)]
-mod parser;
-#[cfg(test)]
-mod ranges;
 #[cfg(test)]
 mod serials;
 #[cfg(test)]

@@ -6,26 +6,17 @@ use dns_wire::name::{FromStrError, PresentationError};
 
 const EMPTY_LABEL: FromStrError = FromStrError::Presentation(PresentationError::EmptyLabel);
 
-const BAD_SYMBOL: FromStrError = FromStrError::Presentation(PresentationError::BadSymbol);
-
 const BAD_ESCAPE: FromStrError = FromStrError::Presentation(PresentationError::BadEscape);
-
-/// Texts, and why they are no names.
-const REFUSED: [(&str, FromStrError); 4] = [
-    ("a..b", EMPTY_LABEL),
-    ("a\\256", BAD_ESCAPE),
-    ("", EMPTY_LABEL),
-    ("a b", BAD_SYMBOL),
-];
 
 #[test]
 fn reads_and_prints(rt: HostRuntime) {
     let row = "Name text escapes";
     let alloc = rt.alloc();
-    for (text, error) in REFUSED {
-        let refused = Name::vec_from_str(alloc, text).err();
-        assert_same(&rt, text, refused, Some(error));
-    }
+    let refused = [
+        Name::vec_from_str(alloc, "a..b").err(),
+        Name::vec_from_str(alloc, "a\\256").err(),
+    ];
+    assert_same(&rt, row, refused, [Some(EMPTY_LABEL), Some(BAD_ESCAPE)]);
     let name = Name::vec_from_str(alloc, "a\\.\\200b.").expect(&rt, row);
     assert_octets(&rt, row, name.as_slice(), b"\x04\x61\x2e\xc8\x62\x00");
     assert_prints(&rt, alloc, row, &name, "a\\.\\200b");
@@ -39,6 +30,4 @@ fn prints_parsed_names_and_a_final_dot(rt: HostRuntime) {
     let name = name_of(&rt, b"\x02a.\x03COM\x00");
     let shown = name.fmt_with_dot();
     assert_prints(&rt, rt.alloc(), "a name", &shown, "a\\..COM.");
-    let root = Name::root_slice();
-    assert_prints(&rt, rt.alloc(), "the root", &root.fmt_with_dot(), ".");
 }

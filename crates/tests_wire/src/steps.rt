@@ -31,27 +31,36 @@ pub(crate) fn append_name<T: Composer>(
     target.append_compressed_name(&name_of(rt, name))
 }
 
-/// Takes a step. An append that fails writes nothing.
-pub(crate) fn take<T: Composer>(rt: &impl Abort, row: &str, target: &mut T, step: Step) {
-    let len = target.as_slice().len();
-    let (answer, written): (Result<(), AppendError>, Written) = match step {
+/// Appends what a step says, or cuts. Returns what the append returned, and what it has to write.
+fn append<T: Composer>(
+    rt: &impl Abort,
+    target: &mut T,
+    step: Step,
+) -> (Result<(), AppendError>, Written) {
+    match step {
         Step::Octets(octets, written) => (target.append_slice(octets), written),
         Step::Name(name, written) => (append_name(rt, target, name), written),
-        Step::Canonical(name, written) => {
-            let name = name_of(rt, name);
-            (name.compose_canonical(target), written)
-        }
+        Step::Canonical(name, written) => (name_of(rt, name).compose_canonical(target), written),
         Step::Cut(len) => {
             target.truncate(len);
-            return assert_same(rt, row, target.as_slice().len(), len);
+            (Ok(()), Ok(b""))
         }
         Step::History => {
             take_history(rt, target);
             (Ok(()), Ok(b""))
         }
+    }
+}
+
+/// Takes a step. An append that fails writes nothing.
+pub(crate) fn take<T: Composer>(rt: &impl Abort, row: &str, target: &mut T, step: Step) {
+    let start = match step {
+        Step::Cut(len) => len,
+        _ => target.as_slice().len(),
     };
+    let (answer, written) = append(rt, target, step);
     assert_same(rt, row, answer.err(), written.err());
-    let appended = target.as_slice().get(len..);
+    let appended = target.as_slice().get(start..);
     assert_same(rt, row, appended, Some(written.unwrap_or(b"")));
 }
 
@@ -65,9 +74,4 @@ pub(crate) fn assert_steps<T: Composer>(
     for step in steps {
         take(rt, row, target, *step);
     }
-}
-
-/// Takes the steps of a row on a target of its own.
-pub(crate) fn assert_row<T: Composer>(rt: &impl Abort, row: &str, mut target: T, steps: &[Step]) {
-    assert_steps(rt, row, &mut target, steps);
 }

@@ -1,11 +1,9 @@
-//! Targets: octets and names that are appended, cut and overwritten, and appends that fail.
-ghost use Rattle.std.specs.Prelude.{◌≤◌, length};
-ghost use Rattle.dns_wire.specs.Encoders.{IsClear};
-
-use crate::asserts::{assert_octets, assert_same};
-use crate::steps::{Step, assert_row, assert_steps};
+//! Targets: octets and names that are appended and cut, and appends that fail.
+use crate::asserts::assert_same;
+use crate::steps::{Step, assert_steps};
 use arrayvec::ArrayVec;
 use dns_wire::{AppendError, CloneTarget, Composer, FreezeBuilder, Octets, ToName};
+use std::alloc::AllocError;
 use std::process::Abort;
 
 const AB: &[u8] = b"\x02Ab\x00";
@@ -25,30 +23,15 @@ const WRITES: &[Step] = &[
 /// Takes the steps on an empty target, and freezes a clone of it.
 fn assert_writes<T: CloneTarget + FreezeBuilder>(rt: &impl Abort, row: &str, mut target: T) {
     assert_steps(rt, row, &mut target, WRITES);
-    assert_same(rt, row, target.can_compress(), false);
-    let frozen = target.clone_target().expect(rt, "a clone").freeze();
-    assert_octets(rt, row, frozen.octets(), b"\x00\x01\x02");
-    assert_octets(rt, row, target.as_slice(), b"\x00\x01\x02");
+    let frozen = target.clone_target().expect(rt, row).freeze();
+    let found = (target.can_compress(), frozen.octets());
+    assert_same(rt, row, found, (false, b"\x00\x01\x02".as_slice()));
 }
 
 #[test]
 fn writes_to_a_vec_and_to_an_array_vec(rt: HostRuntime) {
     assert_writes(&rt, "a vector", Vec::new(rt.alloc()));
     assert_writes(&rt, "an array vector", ArrayVec::<u8, 12>::new());
-}
-
-fn assert_written_over<T: Composer>(rt: &impl Abort, row: &str, target: &mut T)
-    requires within { 4 ≤ length (T.written target.old).octets }
-    requires clear { IsClear (T.written target.old).table 1 2 }
-{
-    target.write_at(1, b"XY");
-    assert_octets(rt, row, target.as_slice(), b"aXYd");
-}
-
-#[test]
-fn writes_over_octets(rt: HostRuntime) {
-    let mut array = ArrayVec::<u8, 4>::from(*b"abcd");
-    assert_written_over(&rt, "an array vector", &mut array);
 }
 
 /// Appends to an `ArrayVec` of five octets.
@@ -74,9 +57,29 @@ pub(crate) const WANT: &[Step] = &[
 
 #[test]
 fn refuses_what_exceeds_the_capacity_or_the_memory(rt: HostRuntime) {
-    let target = ArrayVec::<u8, 5>::new();
-    assert_row(&rt, "a capacity of five octets", target, CAPACITY);
-    assert_row(&rt, "no memory", Refusing, WANT);
+    let mut target = ArrayVec::<u8, 5>::new();
+    assert_steps(&rt, "a capacity of five octets", &mut target, CAPACITY);
+    assert_steps(&rt, "no memory", &mut Refusing, WANT);
+}
+
+/// Appends octets. Fails unless the capacity is then at most 1,024 octets, twice the old capacity or
+/// the length, whichever is more: a vector without capacity first has one of 512 octets, and then
+/// may double it.
+fn assert_grows(rt: &impl Abort, target: &mut Vec<u8>, octets: &[u8]) {
+    let twice = target.capacity().saturating_mul(2);
+    target.append_slice(octets).expect(rt, "memory");
+    let most = twice.max(target.len()).max(1_024);
+    assert_same(rt, "the growth", target.capacity() <= most, true);
+}
+
+#[test]
+fn grows_by_no_more_than_its_size(rt: HostRuntime) {
+    for octets in [b"a".as_slice(), &[7; 700]] {
+        let mut target = Vec::new(rt.alloc());
+        for _ in 0..2000 {
+            assert_grows(&rt, &mut target, octets);
+        }
+    }
 }
 
 /// A target that refuses each growth.
@@ -117,4 +120,10 @@ impl Composer for Refusing {
     fn truncate(&mut self, _len: usize) {}
 
     fn write_at(&mut self, _offset: usize, _octets: &[u8]) {}
+}
+
+impl CloneTarget for Refusing {
+    fn clone_target(&self) -> Result<Self, AllocError> {
+        Ok(Refusing)
+    }
 }

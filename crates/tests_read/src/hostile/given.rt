@@ -126,6 +126,13 @@ impl<D: ComposeRecordData> Given for Record<ParsedName<'_>, D> {
     }
 }
 
+/// What is skipped has no value.
+impl Given for () {
+    type Plain = ();
+
+    fn plain(&self) {}
+}
+
 /// A TTL is its four octets.
 impl Given for Ttl {
     type Plain = Buffer;

@@ -2,8 +2,9 @@
 ghost use Rattle.std.specs.Prelude.{◌≤◌};
 
 use crate::hostile::buffer::Buffer;
-use crate::hostile::plain::{Entry, Header, Located, entry_at, header_at, name_at};
+use crate::hostile::plain::{Entry, Header, Located, header_at, name_at};
 use dns_wire::{FormError, ParseError};
+use tests_plain::{EntryKind, entry_end};
 
 /// Whether the octets are a list of options, each with a code, a length and that many octets
 /// (RFC 6891 section 6.1.2).
@@ -78,8 +79,7 @@ pub(crate) fn typed_of(
 /// RDATA.
 pub(crate) fn header_skipped(octets: &[u8], offset: usize) -> Located<Header> {
     let (header, _) = header_at(octets, offset)?;
-    let (_, end) = entry_at(octets, 1, offset)?;
-    Ok((header, end))
+    Ok((header, entry_end(octets, EntryKind::Record, offset)?))
 }
 
 /// Checks that all the octets are one uncompressed name whose labels so far take `size` octets

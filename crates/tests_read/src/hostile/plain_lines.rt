@@ -16,10 +16,13 @@ fn push_label(text: &mut String, label: &[u8]) {
     }
 }
 
-/// The labels of the uncompressed name that the octets begin with, with a dot between them. Returns
-/// the octets after the name.
+/// The labels of the uncompressed name that the octets begin with, with a dot after each; the root
+/// is a dot. Returns the octets after the name.
 fn push_name<'a>(text: &mut String, octets: &'a [u8]) -> &'a [u8] {
-    let mut dot = "";
+    if let [0, after @ ..] = octets {
+        let _ = write!(text, ".");
+        return after;
+    }
     let mut left = octets;
     for _ in 0..=128 {
         let [len, after @ ..] = left else {
@@ -30,9 +33,8 @@ fn push_name<'a>(text: &mut String, octets: &'a [u8]) -> &'a [u8] {
         if len == 0 {
             break;
         }
-        let _ = write!(text, "{dot}");
         push_label(text, after.get(..len).unwrap_or(b""));
-        dot = ".";
+        let _ = write!(text, ".");
     }
     left
 }
@@ -50,9 +52,8 @@ fn push_opaque(text: &mut String, octets: &[u8]) {
 /// The names and the five numbers of SOA, its names uncompressed.
 fn push_start(text: &mut String, data: &[u8]) {
     let after = push_name(text, data);
-    let _ = write!(text, ". ");
+    let _ = write!(text, " ");
     let numbers = push_name(text, after);
-    let _ = write!(text, ".");
     for number in numbers.chunks_exact(4) {
         if let [first, second, third, fourth] = number {
             let number = u32::from_be_bytes([*first, *second, *third, *fourth]);
@@ -77,7 +78,6 @@ fn push_data(text: &mut String, octets: &[u8], (entry, end): (Entry, usize)) {
         (6, data) => push_start(text, data),
         (_, data) => {
             push_name(text, data);
-            let _ = write!(text, ".");
         }
     }
 }
@@ -92,10 +92,10 @@ fn push_entry(text: &mut String, octets: &[u8], section: &str, item: Located<Ent
     push_name(text, entry.name.as_slice());
     let (rtype, class) = (Rtype::from_int(entry.rtype), Class::from_int(entry.class));
     if section == "question" {
-        let _ = writeln!(text, ".\t{rtype}\t{class}");
+        let _ = writeln!(text, "\t{rtype}\t{class}");
         return;
     }
-    let _ = write!(text, ". {} {class} {rtype} ", entry.ttl);
+    let _ = write!(text, " {} {class} {rtype} ", entry.ttl);
     push_data(text, octets, (entry, end));
     let _ = writeln!(text);
 }
@@ -141,13 +141,18 @@ fn push_head(text: &mut String, octets: &[u8]) {
 pub(crate) fn lines_of(alloc: Global, message: &Plain<'_>) -> String {
     let mut text = String::new(alloc);
     push_head(&mut text, message.octets);
-    let sections = "question answer authority additional".split(' ');
-    for (section, number) in sections.zip(0..=3_u8) {
-        let Ok(reading) = message.reading(number) else {
+    let sections = [
+        ("question", &message.questions),
+        ("answer", &message.answers),
+        ("authority", &message.authorities),
+        ("additional", &message.additionals),
+    ];
+    for (section, part) in sections {
+        if part.start.is_err() {
             let _ = writeln!(text, "{section} missing");
             break;
-        };
-        for item in reading.items() {
+        }
+        for item in &part.items {
             push_entry(&mut text, message.octets, section, *item);
         }
     }

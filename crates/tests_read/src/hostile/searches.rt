@@ -3,7 +3,7 @@ use crate::hostile::asserts::assert_same;
 use crate::hostile::buffer::Buffer;
 use crate::hostile::given::{Given, Opaque};
 use crate::hostile::messages::BOUNDS;
-use crate::hostile::plain::{Entry, Plain};
+use crate::hostile::plain::{Entry, Part, Plain, entry_in};
 use crate::hostile::plain_searches::{
     canonical_name, contains_answer, first_question, is_answer, last_additional, opt,
     readable_records, sole_question,
@@ -17,7 +17,6 @@ use std::process::Abort;
 /// Checks the searches for questions and names.
 pub(crate) fn assert_question_searches(
     rt: &impl Abort,
-    row: &str,
     message: &Message<&[u8]>,
     plain: &Plain<'_>,
 ) {
@@ -37,7 +36,7 @@ pub(crate) fn assert_question_searches(
         matches!(rtype, Some(251 | 252)),
         canonical_name(plain),
     );
-    assert_same(rt, row, "questions and canonical name", found, expected);
+    assert_same(rt, plain, "questions and canonical name", found, expected);
 }
 
 /// The payload size, the TTL and the options of the OPT record.
@@ -58,12 +57,7 @@ fn rcode_of(octets: &[u8], opt: Option<Entry>) -> u16 {
 }
 
 /// Checks the searches for records.
-pub(crate) fn assert_record_searches(
-    rt: &impl Abort,
-    row: &str,
-    message: &Message<&[u8]>,
-    plain: &Plain<'_>,
-) {
+pub(crate) fn assert_record_searches(rt: &impl Abort, message: &Message<&[u8]>, plain: &Plain<'_>) {
     let opt = opt(plain);
     let found = (
         message.contains_answer::<A>(),
@@ -77,54 +71,43 @@ pub(crate) fn assert_record_searches(
         opt.map(|opt| (opt.class, opt.ttl, opt.data)),
         rcode_of(plain.octets, opt),
     );
-    assert_same(rt, row, "addresses and OPT record", found, expected);
+    assert_same(rt, plain, "addresses and OPT record", found, expected);
 }
 
-/// Checks whether each message is a response to the other.
+/// Checks whether the message and one with these octets are responses to each other.
 fn assert_answer(
     rt: &impl Abort,
     alloc: Global,
-    row: &str,
     message: &Message<&[u8]>,
+    plain: &Plain<'_>,
     octets: &[u8],
 ) {
-    let Ok(other) = Message::from_octets(octets) else {
-        panic!(rt; "{row}: no message");
-    };
-    let source = message.as_slice();
+    let other = Message::from_octets(octets).expect(rt, plain.name);
+    let query = Plain::of(rt, alloc, plain.name, octets);
     let found = [message.is_answer(&other), other.is_answer(message)];
-    let expected = [
-        is_answer(rt, alloc, source, octets),
-        is_answer(rt, alloc, octets, source),
-    ];
-    assert_same(rt, row, "answer", found, expected);
+    let expected = [is_answer(plain, &query), is_answer(&query, plain)];
+    assert_same(rt, plain, "answer", found, expected);
 }
 
 /// Checks whether the message is a response to itself, and to others.
 pub(crate) fn assert_distinguished(
     rt: &impl Abort,
     alloc: Global,
-    row: &str,
     message: &Message<&[u8]>,
+    plain: &Plain<'_>,
 ) {
-    assert_answer(rt, alloc, row, message, message.as_slice());
+    assert_answer(rt, alloc, message, plain, plain.octets);
     for bound in BOUNDS {
-        assert_answer(rt, alloc, row, message, bound.octets);
+        assert_answer(rt, alloc, message, plain, bound.octets);
     }
 }
 
 /// Checks that the records of a section were copied into the same section, in order.
-fn assert_copied(rt: &impl Abort, row: &str, source: &Plain<'_>, copied: &Plain<'_>, section: u8) {
-    let (Ok(mut records), Ok(mut copies)) = (source.reading(section), copied.reading(section))
-    else {
-        panic!(rt; "{row}: no start of section {section}");
-    };
-    for _ in 0..=u16::MAX {
-        let record = records.next();
-        assert_same(rt, row, "copy", copies.next(), record);
-        if record.is_none() {
-            break;
-        }
+fn assert_copied(rt: &impl Abort, plain: &Plain<'_>, part: &Part, copied: &Part) {
+    let (records, copies) = (&part.items, &copied.items);
+    assert_same(rt, plain, "number of copies", copies.len(), records.len());
+    for (record, copy) in records.iter().zip(copies) {
+        assert_same(rt, plain, "copy", entry_in(copy), entry_in(record));
     }
 }
 
@@ -133,32 +116,26 @@ fn assert_copied(rt: &impl Abort, row: &str, source: &Plain<'_>, copied: &Plain<
 pub(crate) fn assert_copies(
     rt: &impl Abort,
     alloc: Global,
-    row: &str,
     message: &Message<&[u8]>,
     plain: &Plain<'_>,
 ) {
     let mut given = 0_usize;
-    let builder = MessageBuilder::new_vec(alloc).expect(rt, row);
+    let builder = MessageBuilder::new_vec(alloc).expect(rt, plain.name);
     let copied = copy_records(message, builder.answer(), |shown| {
         given = given.wrapping_add(1);
         shown.into_any_record::<Opaque<'_>>().ok()
     });
-    let fault = match copied {
+    let error = match copied {
         Ok(copied) => {
-            let copied = Plain::of(rt, alloc, copied.as_slice());
-            for section in 1..=3 {
-                assert_copied(rt, row, plain, &copied, section);
-            }
+            let copied = Plain::of(rt, alloc, plain.name, copied.as_slice());
+            assert_copied(rt, plain, &plain.answers, &copied.answers);
+            assert_copied(rt, plain, &plain.authorities, &copied.authorities);
+            assert_copied(rt, plain, &plain.additionals, &copied.additionals);
             None
         }
         Err(CopyRecordsError::Parse(error)) => Some(error),
-        Err(CopyRecordsError::Push(_)) => panic!(rt; "{row}: a copy that was refused"),
+        Err(CopyRecordsError::Push(error)) => panic!(rt; "a copy: {error}"),
     };
-    assert_same(
-        rt,
-        row,
-        "records that were given",
-        (given, fault),
-        readable_records(plain),
-    );
+    let expected = readable_records(plain);
+    assert_same(rt, plain, "records given", (given, error), expected);
 }

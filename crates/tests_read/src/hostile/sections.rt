@@ -1,180 +1,184 @@
 //! Cursors and iterators over sections, beside plain readings.
 use crate::hostile::asserts::assert_same;
 use crate::hostile::given::{Given, Opaque};
-use crate::hostile::plain::{Entry, Plain, Reading};
-use crate::hostile::plain_searches::next_typed;
+use crate::hostile::plain::{Entry, Located, Part, Plain, entry_in};
+use crate::hostile::plain_searches::typed_in;
 use dns_data::A;
-use dns_read::{Message, MessageIter, RecordIter, RecordSection};
+use dns_read::{Message, MessageIter, QuestionSection, RecordIter, RecordSection};
 use dns_wire::ParseError;
 use std::process::Abort;
 
-/// Checks the questions, and before and after each of them the offsets of the cursor and of the
-/// answer section.
-pub(crate) fn assert_questions(
+/// The offset of a cursor, and where the next section starts, or why it doesn't.
+type Place<S> = (usize, Result<S, ParseError>);
+
+/// The place after an item. A cursor doesn't move at an error, after which no section starts.
+fn place_after<S: Copy>(item: &Located<Entry>, (offset, next): Place<S>) -> Place<S> {
+    match item {
+        Ok((_, end)) => (*end, next),
+        Err(error) => (offset, Err(*error)),
+    }
+}
+
+/// Checks the place of a cursor over questions.
+fn assert_asking(
     rt: &impl Abort,
-    row: &str,
-    message: &Message<&[u8]>,
     plain: &Plain<'_>,
+    questions: &QuestionSection<'_>,
+    (offset, next): Place<usize>,
 ) {
-    let mut reading = plain.reading(0).expect(rt, row);
+    let starts = [questions.answer().plain(), questions.next_section().plain()];
+    let found = (questions.pos(), starts);
+    assert_same(rt, plain, "answer section", found, (offset, [next; 2]));
+}
+
+/// Checks the questions, and before and after each of them the place of the cursor.
+pub(crate) fn assert_questions(rt: &impl Abort, message: &Message<&[u8]>, plain: &Plain<'_>) {
     let mut questions = message.question();
-    for _ in 0..=u16::MAX {
-        let starts = [questions.answer().plain(), questions.next_section().plain()];
-        let found = (questions.pos(), starts);
-        let expected = (reading.offset, [reading.start_after; 2]);
-        assert_same(rt, row, "offset and answer section", found, expected);
-        let expected = reading.next();
-        assert_same(rt, row, "question", questions.next().plain(), expected);
-        if expected.is_none() {
-            break;
-        }
+    let mut place = (12, plain.answers.start);
+    assert_asking(rt, plain, &questions, place);
+    for item in &plain.questions.items {
+        let found = questions.next().plain();
+        assert_same(rt, plain, "question", found, Some(entry_in(item)));
+        place = place_after(item, place);
+        assert_asking(rt, plain, &questions, place);
     }
+    assert_same(rt, plain, "end", questions.next().is_none(), true);
 }
 
-/// Where the section after a reading begins. There is none after the last section.
-fn next_start(reading: &Reading<'_>) -> Result<Option<usize>, ParseError> {
-    match reading.section {
-        3 => Ok(None),
-        _ => Ok(Some(reading.start_after?)),
-    }
-}
+/// Where a section starts that may be missing, since there is none after the last one.
+type Start = Option<usize>;
 
-/// Checks the offset of a cursor after a reading, and that the cursor and each iterator over it
-/// advance to the next section.
-fn assert_cursor(rt: &impl Abort, row: &str, records: RecordSection<'_>, reading: &Reading<'_>) {
-    let all = records.into_records::<Opaque<'_>>();
+/// Checks the place of a cursor, and that each iterator over it advances to the next section.
+fn assert_cursor(
+    rt: &impl Abort,
+    plain: &Plain<'_>,
+    records: RecordSection<'_>,
+    (offset, next): Place<Start>,
+) {
     let starts = [
         records.next_section().plain(),
         records.limit_to::<A>().next_section().plain(),
         records.limit_to_in::<A>().next_section().plain(),
-        all.next_section().plain(),
+        records.into_records::<Opaque<'_>>().next_section().plain(),
     ];
     let found = (records.pos(), starts);
-    let expected = (reading.offset, [next_start(reading); 4]);
-    assert_same(rt, row, "offset and next section", found, expected);
+    assert_same(rt, plain, "next section", found, (offset, [next; 4]));
 }
 
-/// Checks that a cursor over records, and an iterator over them with their RDATA, yield what a
-/// reading has.
+/// The place after a record. No section starts after the last one, with or without an error.
+fn place_after_record(item: &Located<Entry>, (offset, next): Place<Start>) -> Place<Start> {
+    let (offset, after) = place_after(item, (offset, next));
+    match next {
+        Ok(None) => (offset, next),
+        _ => (offset, after),
+    }
+}
+
+/// Checks that a cursor over records, and an iterator over them with their RDATA, yield the records
+/// of a section.
 fn assert_records(
     rt: &impl Abort,
-    row: &str,
+    plain: &Plain<'_>,
+    part: &Part,
     mut records: RecordSection<'_>,
-    mut reading: Reading<'_>,
+    next: Result<Start, ParseError>,
 ) {
     let mut all = records.into_records::<Opaque<'_>>();
-    for _ in 0..=u16::MAX {
-        assert_cursor(rt, row, records, &reading);
-        let expected = reading.next();
+    let mut place = (records.pos(), next);
+    assert_cursor(rt, plain, records, place);
+    for item in &part.items {
         let found = [records.next().plain(), all.next().plain()];
-        assert_same(rt, row, "record, and with its data", found, [expected; 2]);
-        if expected.is_none() {
-            break;
-        }
+        assert_same(rt, plain, "record", found, [Some(entry_in(item)); 2]);
+        place = place_after_record(item, place);
+        assert_cursor(rt, plain, records, place);
     }
+    let is_end = records.next().is_none() && all.next().is_none();
     assert_same(
         rt,
-        row,
-        "end of the records",
-        all.unwrap().pos(),
-        reading.offset,
+        plain,
+        "end",
+        (is_end, all.unwrap().pos()),
+        (true, place.0),
     );
 }
 
-/// Checks that an iterator over addresses yields those of a reading.
+/// Checks that an iterator over addresses yields those of a section.
 fn assert_addresses(
     rt: &impl Abort,
-    row: &str,
-    octets: &[u8],
+    plain: &Plain<'_>,
+    part: &Part,
     mut addresses: RecordIter<'_, A>,
-    mut reading: Reading<'_>,
     in_only: bool,
 ) {
-    for _ in 0..=u16::MAX {
-        let expected = next_typed(octets, &mut reading, 1, in_only);
-        assert_same(rt, row, "address", addresses.next().plain(), expected);
-        if expected.is_none() {
-            break;
+    for item in &part.items {
+        if let Some(expected) = typed_in(plain.octets, *item, 1, in_only) {
+            let found = addresses.next().plain();
+            assert_same(rt, plain, "address", found, Some(expected));
         }
     }
+    assert_same(rt, plain, "end", addresses.next().is_none(), true);
 }
 
 /// Checks the records of a section, or why it has no start.
 fn assert_section(
     rt: &impl Abort,
-    row: &str,
     plain: &Plain<'_>,
-    section: u8,
+    part: &Part,
     records: Result<RecordSection<'_>, ParseError>,
+    next: Result<Start, ParseError>,
 ) {
-    let octets = plain.octets;
-    let start = plain.start(section);
-    assert_same(rt, row, "section", records.plain(), start);
-    if let (Ok(records), Ok(reading)) = (records, plain.reading(section)) {
-        assert_records(rt, row, records, reading);
-        assert_addresses(rt, row, octets, records.limit_to(), reading, false);
-        assert_addresses(rt, row, octets, records.limit_to_in(), reading, true);
+    assert_same(rt, plain, "section", records.plain(), part.start);
+    if let Ok(records) = records {
+        assert_records(rt, plain, part, records, next);
+        assert_addresses(rt, plain, part, records.limit_to(), false);
+        assert_addresses(rt, plain, part, records.limit_to_in(), true);
     }
 }
 
 /// The starts of all sections.
-fn starts(plain: &Plain<'_>) -> Result<[usize; 4], ParseError> {
-    Ok([12, plain.start(1)?, plain.start(2)?, plain.start(3)?])
+fn starts_of(message: &Message<&[u8]>) -> Result<[usize; 4], ParseError> {
+    let (questions, answers, authorities, additionals) = message.sections()?;
+    Ok([
+        questions.pos(),
+        answers.pos(),
+        authorities.pos(),
+        additionals.pos(),
+    ])
 }
 
 /// Checks the three sections of records, and the starts of all sections.
-pub(crate) fn assert_sections(
-    rt: &impl Abort,
-    row: &str,
-    message: &Message<&[u8]>,
-    plain: &Plain<'_>,
-) {
-    assert_section(rt, row, plain, 1, message.answer());
-    assert_section(rt, row, plain, 2, message.authority());
-    assert_section(rt, row, plain, 3, message.additional());
-    let found = match message.sections() {
-        Ok((questions, answers, authorities, additionals)) => Ok([
-            questions.pos(),
-            answers.pos(),
-            authorities.pos(),
-            additionals.pos(),
-        ]),
-        Err(error) => Err(error),
+pub(crate) fn assert_sections(rt: &impl Abort, message: &Message<&[u8]>, plain: &Plain<'_>) {
+    let (answers, authorities) = (&plain.answers, &plain.authorities);
+    let additionals = &plain.additionals;
+    let next = authorities.start.map(Some);
+    assert_section(rt, plain, answers, message.answer(), next);
+    let next = additionals.start.map(Some);
+    assert_section(rt, plain, authorities, message.authority(), next);
+    assert_section(rt, plain, additionals, message.additional(), Ok(None));
+    let expected = match (answers.start, authorities.start, additionals.start) {
+        (Ok(answer), Ok(authority), Ok(additional)) => Ok([12, answer, authority, additional]),
+        (Err(error), ..) | (_, Err(error), _) | (.., Err(error)) => Err(error),
     };
-    assert_same(rt, row, "sections", found, starts(plain));
-}
-
-/// Checks that the next item of the iterator is this entry, or error, of this section.
-fn assert_item(
-    rt: &impl Abort,
-    row: &str,
-    items: &mut MessageIter<'_>,
-    section: u8,
-    entry: Result<Entry, ParseError>,
-) {
-    let expected = match entry {
-        Ok(entry) => Ok((section, entry)),
-        Err(fault) => Err(fault),
-    };
-    assert_same(rt, row, "item", items.next().plain(), Some(expected));
+    assert_same(rt, plain, "sections", starts_of(message), expected);
 }
 
 /// Checks that the iterator yields the records of a section, and an error once more unless the
 /// section is the last. Returns whether the section had no error.
 fn assert_items(
     rt: &impl Abort,
-    row: &str,
+    plain: &Plain<'_>,
     items: &mut MessageIter<'_>,
-    mut reading: Reading<'_>,
+    (section, part): (u8, &Part),
 ) -> bool {
-    for _ in 0..=u16::MAX {
-        let Some(entry) = reading.next() else {
-            break;
+    for item in &part.items {
+        let expected = match item {
+            Ok((entry, _)) => Ok((section, *entry)),
+            Err(error) => Err(*error),
         };
-        assert_item(rt, row, items, reading.section, entry);
-        if entry.is_err() {
-            if reading.section < 3 {
-                assert_item(rt, row, items, reading.section, entry);
+        assert_same(rt, plain, "item", items.next().plain(), Some(expected));
+        if expected.is_err() {
+            if section < 3 {
+                assert_same(rt, plain, "again", items.next().plain(), Some(expected));
             }
             return false;
         }
@@ -183,16 +187,14 @@ fn assert_items(
 }
 
 /// Checks all records of a message.
-pub(crate) fn assert_iter(rt: &impl Abort, row: &str, message: &Message<&[u8]>, plain: &Plain<'_>) {
+pub(crate) fn assert_iter(rt: &impl Abort, message: &Message<&[u8]>, plain: &Plain<'_>) {
     let mut items = message.iter();
-    for section in 1..=3 {
-        let Ok(reading) = plain.reading(section) else {
-            break;
-        };
-        if !assert_items(rt, row, &mut items, reading) {
+    let (answers, authorities) = (&plain.answers, &plain.authorities);
+    for part in [(1, answers), (2, authorities), (3, &plain.additionals)] {
+        if !assert_items(rt, plain, &mut items, part) {
             break;
         }
     }
     let is_end = items.next().is_none() && items.next().is_none();
-    assert_same(rt, row, "no further item", is_end, true);
+    assert_same(rt, plain, "no further item", is_end, true);
 }

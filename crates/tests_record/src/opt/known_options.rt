@@ -10,7 +10,7 @@ use std::process::Abort;
 /// An option that an RFC defines, and what it is made of. A client subnet has the prefix lengths of
 /// source and scope, and an address. A cookie has eight octets of the client, and sixteen of
 /// the server.
-pub(crate) enum Added {
+enum Added {
     ClientNsid,
     Nsid(&'static [u8]),
     Dau(&'static [u8]),
@@ -50,7 +50,7 @@ fn add(rt: &impl Abort, opt: &mut OptBuilder, added: &Added) -> Result<(), Appen
 }
 
 /// A builder to which these options were added.
-pub(crate) fn builder_of(rt: &impl Abort, alloc: Global, options: &[Added]) -> OptBuilder {
+fn builder_of(rt: &impl Abort, alloc: Global, options: &[Added]) -> OptBuilder {
     let mut opt = OptBuilder::new(alloc, Header::new());
     for added in options {
         add(rt, &mut opt, added).expect(rt, "memory");

@@ -1,6 +1,7 @@
 //! Steps on a builder, each with its result and the octets that it has to write. They work over any
 //! target.
-use crate::asserts::{assert_holds, name_of, over};
+use crate::asserts::assert_holds;
+use crate::building::asserts::{name_of, over};
 use dns_build::{Builder, MessageBuilder, PushError, QuestionBuilder, RecordStage};
 use dns_code::{Header, Rtype};
 use dns_data::{A, Ns, UnknownRecordData};

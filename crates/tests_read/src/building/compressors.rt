@@ -2,16 +2,17 @@
 //! that are exceeded, and many names. Which names become pointers is in the cases of `cases_runs`.
 ghost use Rattle.std.specs.Prelude.{◌<◌};
 
-use crate::asserts::{EXAMPLE_COM, ROOT, assert_holds, assert_octets};
-use crate::steps::Answer::{Done, ShortBuf};
-use crate::steps::{Call, Case, EMPTY, push_question, run};
+use crate::asserts::{assert_holds, assert_octets};
+use crate::building::asserts::{EXAMPLE_COM, ROOT, over};
+use crate::building::steps::Answer::{Done, ShortBuf};
+use crate::building::steps::{Call, Case, EMPTY, push_question, run};
 use arrayvec::ArrayVec;
 use dns_build::{MessageBuilder, QuestionBuilder};
 use dns_code::Rtype;
 use dns_target::{
     FingerprintCompressor, HashCompressor, StaticCompressor, StreamTarget, TreeCompressor,
 };
-use dns_wire::{AppendError, CloneTarget, Composer, FreezeBuilder, Name};
+use dns_wire::{AppendError, CloneTarget, Composer, Name};
 use std::alloc::Global;
 use std::process::Abort;
 
@@ -125,7 +126,7 @@ fn assert_within_four<const A: usize, const B: usize, const C: usize, const D: u
 }
 
 /// No room for the header, No room for the question, No room for the answer, Room for all: for
-/// each N up to 47.
+/// each N up to 47. No room for prefix or header: over an array in a stream target.
 #[test]
 fn refuses_what_exceeds_the_capacity(rt: HostRuntime) {
     assert_within_four::<0, 1, 2, 3>(&rt);
@@ -140,36 +141,10 @@ fn refuses_what_exceeds_the_capacity(rt: HostRuntime) {
     assert_within_four::<36, 37, 38, 39>(&rt);
     assert_within_four::<40, 41, 42, 43>(&rt);
     assert_within_four::<44, 45, 46, 47>(&rt);
-}
-
-#[test]
-fn has_no_capacity_for_the_header(rt: HostRuntime) {
     let target = StreamTarget::new(ArrayVec::<u8, 13>::new());
     let target = target.expect(&rt, "a capacity for the length");
-    assert_no_header(
-        &rt,
-        "No room for prefix or header: eleven octets after the length",
-        target,
-    );
-}
-
-/// Fails unless an empty message over the target is twelve zero octets.
-fn assert_frozen_empty<T: FreezeBuilder>(rt: &impl Abort, row: &str, target: T) {
-    let message = MessageBuilder::from_target(target)
-        .expect(rt, row)
-        .into_message();
-    assert_octets(rt, row, message.as_slice(), &[0; 12]);
-}
-
-#[test]
-fn compressors_give_their_message(rt: HostRuntime) {
-    let alloc = rt.alloc();
-    let target = StaticCompressor::new(Vec::new(alloc));
-    assert_frozen_empty(&rt, "a static compressor", target);
-    let target = TreeCompressor::new(alloc, Vec::new(alloc));
-    assert_frozen_empty(&rt, "a tree compressor", target);
-    let target = HashCompressor::new(alloc, Vec::new(alloc));
-    assert_frozen_empty(&rt, "a hash compressor", target);
+    let row = "No room for prefix or header: eleven octets after the length";
+    assert_no_header(&rt, row, target);
 }
 
 /// Pushes the questions for h0.example.com. to h1999.example.com.
@@ -187,8 +162,7 @@ fn push_two_thousand<T: Composer>(
 
 /// Pushes these questions, clones the builder, rewinds, and pushes them again.
 fn assert_pushed_again<T: CloneTarget>(rt: &impl Abort, alloc: Global, target: T) {
-    let builder = MessageBuilder::from_target(target).expect(rt, "memory");
-    let mut builder = builder.question();
+    let mut builder = over(rt, target).question();
     push_two_thousand(rt, alloc, &mut builder);
     let clone = builder.clone().expect(rt, "memory");
     builder.rewind();

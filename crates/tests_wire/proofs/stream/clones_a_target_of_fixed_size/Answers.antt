@@ -1,5 +1,5 @@
 use Rattle.dns_wire.proofs.theory.CompressionTables.{clear_nothing}
-use Rattle.tests_wire.proofs.stream.writes_over_its_message.Goals as goal
+use Rattle.tests_wire.proofs.stream.clones_a_target_of_fixed_size.Goals as goal
 
 pub write_at-requires-clause-clear : goal.write_at-requires-clause-clear
-write_at-requires-clause-clear g c = clear_nothing 1 1
+write_at-requires-clause-clear g c = clear_nothing 0 1

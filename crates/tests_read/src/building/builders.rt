@@ -1,7 +1,8 @@
 //! Builders: limits and counts, what they lend and give, conversions and clones.
-use crate::asserts::{LETTER_A, ROOT, assert_holds, assert_limit, assert_octets, name_of, over};
-use crate::steps::Answer::{Done, LimitExceeded, ShortBuf};
-use crate::steps::{Call, Case, EMPTY, push_question, run};
+use crate::asserts::{assert_holds, assert_octets};
+use crate::building::asserts::{ROOT, has_limit, name_of, over};
+use crate::building::steps::Answer::{Done, LimitExceeded, ShortBuf};
+use crate::building::steps::{Call, Case, EMPTY, push_question, run};
 use arrayvec::ArrayVec;
 use dns_build::{
     AdditionalBuilder, AnswerBuilder, AuthorityBuilder, MessageBuilder, QuestionBuilder,
@@ -10,10 +11,8 @@ use dns_build::{
 use dns_code::Rtype;
 use dns_data::A;
 use dns_read::Message;
-use dns_target::{
-    FingerprintCompressor, HashCompressor, StaticCompressor, StreamTarget, TreeCompressor,
-};
-use dns_wire::{CloneTarget, Composer, Name};
+use dns_target::{FingerprintCompressor, HashCompressor, StaticCompressor, TreeCompressor};
+use dns_wire::{CloneTarget, Composer, FreezeBuilder, Name};
 use std::convert::AsSlice;
 use std::process::Abort;
 
@@ -23,12 +22,8 @@ fn builds_an_empty_message(rt: HostRuntime) {
     let builder = MessageBuilder::new_vec(rt.alloc()).expect(&rt, "memory");
     assert_octets(&rt, "the octets", builder.as_slice(), &[0; 12]);
     let message = builder.as_message();
-    assert_holds(&rt, "no question", message.question().next().is_none());
-    let sections = [message.answer(), message.authority(), message.additional()];
-    for section in sections {
-        let mut records = section.expect(&rt, "a section");
-        assert_holds(&rt, "no record", records.next().is_none());
-    }
+    let is_empty = message.question().next().is_none() && message.iter().next().is_none();
+    assert_holds(&rt, "no item", is_empty);
 }
 
 /// A limit below the length of the content, and a full target of 100 octets.
@@ -46,33 +41,9 @@ static ANSWERS: Case = Case {
     ..EMPTY
 };
 
-/// Opaque data of 16 octets, the most that is appended together with the fields, and of 17. They
-/// fill the target.
-static DATA: Case = Case {
-    name: "opaque data of 16 and of 17 octets",
-    answers: &[
-        (
-            Call::Opaque(ROOT, 16),
-            Done,
-            39,
-            b"\x00\x00\x10\x00\x01\x00\x00\x0E\x10\x00\x10\x00\x00\x00\x00\x00\x00\x00\x00\x00\x00\x00\x00\x00\x00\x00\x00",
-        ),
-        (
-            Call::Opaque(ROOT, 17),
-            Done,
-            67,
-            b"\x00\x00\x10\x00\x01\x00\x00\x0E\x10\x00\x11\x00\x00\x00\x00\x00\x00\x00\x00\x00\x00\x00\x00\x00\x00\x00\x00\x00",
-        ),
-    ],
-    start: b"\x00\x00\x00\x00\x00\x00\x00\x02\x00\x00\x00\x00",
-    ..EMPTY
-};
-
-/// Beside them, what is appended up to the capacity of the target.
 #[test]
 fn refuses_answers(rt: HostRuntime) {
     run(&rt, ArrayVec::<u8, 100>::new(), &ANSWERS);
-    run(&rt, ArrayVec::<u8, 67>::new(), &DATA);
 }
 
 /// A message with the ID 1 and two addresses of the root.
@@ -104,11 +75,8 @@ fn lends_and_gives_what_it_has(rt: HostRuntime) {
     assert_holds(&rt, "its octets", lent == [ANSWERED.as_slice(); 3]);
     let lent = builder.as_message();
     assert_octets(&rt, "as_message", lent.as_slice(), &ANSWERED);
-    assert_holds(&rt, "counts", builder.counts().ancount() == 2);
     let message = Message::from(builder);
     assert_octets(&rt, "Message::from", message.as_slice(), &ANSWERED);
-    let target = answered(&rt).into_target();
-    assert_octets(&rt, "into_target", &target, &ANSWERED);
 }
 
 /// Converts the builder through the sections and back.
@@ -140,61 +108,63 @@ static COMPRESSED: [u8; 25] =
 
 /// Pushes the question a. A.
 fn push_first<T: Composer>(rt: &impl Abort, builder: &mut QuestionBuilder<T>) {
-    push_question(builder, name_of(rt, LETTER_A), Rtype::A).expect(rt, "a question");
+    push_question(builder, name_of(rt, b"\x01a\x00"), Rtype::A).expect(rt, "a question");
 }
 
 /// Clones a builder with the question a. A and a limit, and pushes the same question onto the clone,
 /// which has these octets then.
-fn assert_clones<T: CloneTarget>(rt: &impl Abort, row: &str, target: T, octets: &[u8]) {
-    let mut builder = over(rt, target).question();
+fn assert_clones<T: CloneTarget>(
+    rt: &impl Abort,
+    row: &str,
+    builder: MessageBuilder<T>,
+    octets: &[u8],
+) {
+    let mut builder = builder.question();
     push_first(rt, &mut builder);
     builder.set_push_limit(500);
     let mut clone = builder.clone().expect(rt, row);
-    assert_limit(rt, row, &clone, Some(500));
+    assert_holds(rt, row, has_limit(&clone, 500));
     push_first(rt, &mut clone);
     assert_octets(rt, row, clone.as_slice(), octets);
     assert_octets(rt, row, builder.as_slice(), &FIRST);
 }
 
-/// Clones: over targets that don't compress.
+/// Clones builders over a compressor. Without items, one gives an empty message.
+fn assert_compressor<T: CloneTarget + FreezeBuilder>(rt: &impl Abort, row: &str, target: T) {
+    let builder = over(rt, target);
+    let empty = builder.clone().expect(rt, row).into_message();
+    assert_octets(rt, row, empty.as_slice(), &[0; 12]);
+    assert_clones(rt, row, builder, &COMPRESSED);
+}
+
+/// Clones: over targets that don't compress, and a message.
 #[test]
 fn clones_over_plain_targets(rt: HostRuntime) {
     let alloc = rt.alloc();
-    assert_clones(&rt, "a vector", Vec::new(alloc), &TWICE);
-    let array = ArrayVec::<u8, 26>::new();
-    assert_clones(&rt, "an array vector", array, &TWICE);
-    let stream = StreamTarget::new_vec(alloc).expect(&rt, "memory");
-    assert_clones(&rt, "a stream target over a vector", stream, &TWICE);
-    let array = ArrayVec::<u8, 28>::new();
-    let stream = StreamTarget::new(array).expect(&rt, "a capacity for the length");
-    assert_clones(&rt, "a stream target over an array vector", stream, &TWICE);
+    let builder = over(&rt, ArrayVec::<u8, 26>::new());
+    assert_clones(&rt, "an array vector", builder, &TWICE);
+    let stream = MessageBuilder::new_stream_vec(alloc).expect(&rt, "memory");
+    assert_clones(&rt, "a stream target", stream, &TWICE);
+    let builder = over(&rt, Vec::new(alloc));
+    assert_clones(&rt, "a vector", builder, &TWICE);
+    let mut builder = over(&rt, Vec::new(alloc)).question();
+    push_first(&rt, &mut builder);
+    let message = builder.into_message();
+    let clone = message.clone().expect(&rt, "memory");
+    let octets = [message.as_slice(), clone.as_slice()];
+    assert_holds(&rt, "a message", octets == [FIRST.as_slice(); 2]);
 }
 
-/// Clones: over each compressor.
+/// Clones: over each compressor. Each gives its message.
 #[test]
 fn clones_over_compressors(rt: HostRuntime) {
     let alloc = rt.alloc();
     let target = StaticCompressor::new(Vec::new(alloc));
-    assert_clones(&rt, "a static compressor", target, &COMPRESSED);
+    assert_compressor(&rt, "a static compressor", target);
     let target = TreeCompressor::new(alloc, Vec::new(alloc));
-    assert_clones(&rt, "a tree compressor", target, &COMPRESSED);
-    let target = TreeCompressor::new(alloc, ArrayVec::<u8, 25>::new());
-    let row = "a tree compressor over an array vector";
-    assert_clones(&rt, row, target, &COMPRESSED);
+    assert_compressor(&rt, "a tree compressor", target);
     let target = HashCompressor::new(alloc, Vec::new(alloc));
-    assert_clones(&rt, "a hash compressor", target, &COMPRESSED);
+    assert_compressor(&rt, "a hash compressor", target);
     let target = FingerprintCompressor::new(alloc, Vec::new(alloc));
-    assert_clones(&rt, "a fingerprint compressor", target, &COMPRESSED);
-}
-
-/// Clones: a message.
-#[test]
-fn clones_a_message(rt: HostRuntime) {
-    let builder = MessageBuilder::new_vec(rt.alloc()).expect(&rt, "memory");
-    let mut builder = builder.question();
-    push_first(&rt, &mut builder);
-    let message = builder.into_message();
-    let clone = message.clone().expect(&rt, "memory");
-    assert_octets(&rt, "the message", message.as_slice(), &FIRST);
-    assert_octets(&rt, "its clone", clone.as_slice(), &FIRST);
+    assert_compressor(&rt, "a fingerprint compressor", target);
 }

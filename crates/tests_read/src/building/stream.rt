@@ -1,13 +1,12 @@
 //! Messages that are built after their length, as on a TCP stream.
-use crate::asserts::{EXAMPLE_COM, ROOT, assert_holds, assert_octets, over};
-use crate::steps::Answer::{Done, ShortBuf};
-use crate::steps::{Call, Case, EMPTY, run_on};
+use crate::asserts::{assert_holds, assert_octets};
+use crate::building::asserts::{EXAMPLE_COM, ROOT, over};
+use crate::building::steps::Answer::{Done, ShortBuf};
+use crate::building::steps::{Call, Case, EMPTY, run_on};
 use arrayvec::ArrayVec;
 use dns_build::MessageBuilder;
-use dns_data::{A, ComposeRecordData, Ns, ParseRecordData};
-use dns_read::{Message, RecordSection};
 use dns_target::{StaticCompressor, StreamTarget};
-use dns_wire::{Composer, ParseError, ParsedName};
+use dns_wire::Composer;
 use std::process::Abort;
 
 /// Makes the calls of a case. Fails unless this length precedes the message then.
@@ -30,13 +29,6 @@ static FULL_ARRAY: Case = Case {
     ..EMPTY
 };
 
-#[test]
-fn fills_an_array(rt: HostRuntime) {
-    let target = StreamTarget::new(ArrayVec::<u8, 20>::new());
-    let builder = over(&rt, target.expect(&rt, "a capacity for the length"));
-    run_after(&rt, builder, &FULL_ARRAY, b"\x00\x11");
-}
-
 /// A record with which the message would have more than 65,535 octets.
 static TOO_LONG: Case = Case {
     name: "Full stream message, a record that exceeds it",
@@ -56,9 +48,12 @@ static FULL: Case = Case {
     ..EMPTY
 };
 
-/// On builders that are made by `new_stream_vec`, and by `from_target`.
+/// An array, and messages on builders that are made by `new_stream_vec`, and by `from_target`.
 #[test]
-fn fills_a_message(rt: HostRuntime) {
+fn fills_arrays_and_messages(rt: HostRuntime) {
+    let target = StreamTarget::new(ArrayVec::<u8, 20>::new());
+    let builder = over(&rt, target.expect(&rt, "a capacity for the length"));
+    run_after(&rt, builder, &FULL_ARRAY, b"\x00\x11");
     let alloc = rt.alloc();
     for (case, prefix) in [(&TOO_LONG, b"\x00\x0C"), (&FULL, b"\xFF\xFF")] {
         let builder = MessageBuilder::new_stream_vec(alloc).expect(&rt, "memory");
@@ -69,7 +64,7 @@ fn fills_a_message(rt: HostRuntime) {
 }
 
 /// A message about example.com. with a record in each section, over a static compressor over a
-/// stream target.
+/// stream target. What is read back is in the cases of `cases_runs`.
 static MESSAGE: [u8; 91] =
     *b"\x00\x00\x01\x00\x00\x01\x00\x02\x00\x01\x00\x01\x07example\x03com\x00\x00\x01\x00\x01\xC0\x0C\x00\x01\x00\x01\x00\x01\x51\x80\x00\x04\xC0\x00\x02\x01\xC0\x0C\x00\x01\x00\x01\x00\x01\x51\x80\x00\x04\xC0\x00\x02\x02\xC0\x0C\x00\x02\x00\x01\x00\x00\x00\x00\x00\x02\xC0\x0C\xC0\x0C\x00\x01\x00\x01\x00\x01\x51\x80\x00\x04\xC0\x00\x02\x01";
 
@@ -116,44 +111,4 @@ fn compresses_after_the_length(rt: HostRuntime) {
     let is_prefix = stream.as_stream_slice().starts_with(b"\x00\x5B");
     assert_holds(&rt, CALLS.name, is_prefix);
     assert_octets(&rt, CALLS.name, stream.as_dgram_slice(), &MESSAGE);
-}
-
-/// Fails unless the records are these octets, with each name uncompressed.
-fn assert_records<'a, D: ParseRecordData<'a> + ComposeRecordData + Drop>(
-    rt: &impl Abort,
-    row: &str,
-    section: Result<RecordSection<'a>, ParseError>,
-    expected: &[u8],
-) {
-    let mut target = ArrayVec::<u8, 64>::new();
-    for record in section.expect(rt, row).limit_to::<D>() {
-        let composed = record.expect(rt, row).compose(&mut target);
-        composed.expect(rt, row);
-    }
-    assert_octets(rt, row, &target, expected);
-}
-
-/// Two addresses of example.com. with a TTL of a day.
-static ADDRESSES: [u8; 54] =
-    *b"\x07example\x03com\x00\x00\x01\x00\x01\x00\x01\x51\x80\x00\x04\xC0\x00\x02\x01\x07example\x03com\x00\x00\x01\x00\x01\x00\x01\x51\x80\x00\x04\xC0\x00\x02\x02";
-
-/// The server example.com. of example.com., with TTL 0.
-static SERVER: [u8; 36] =
-    *b"\x07example\x03com\x00\x00\x02\x00\x01\x00\x00\x00\x00\x00\x0D\x07example\x03com\x00";
-
-/// Static compressor over a stream: all of it is read back.
-#[test]
-fn reads_the_message_back(rt: HostRuntime) {
-    let message = Message::from_slice(&MESSAGE).expect(&rt, "a message");
-    let question = message.first_question().expect(&rt, "a question");
-    let mut target = ArrayVec::<u8, 17>::new();
-    let composed = question.compose(&mut target);
-    composed.expect(&rt, "a capacity");
-    let expected = b"\x07example\x03com\x00\x00\x01\x00\x01";
-    assert_octets(&rt, "the question", &target, expected);
-    assert_records::<A>(&rt, "the answers", message.answer(), &ADDRESSES);
-    let row = "the additional record";
-    assert_records::<A>(&rt, row, message.additional(), &ADDRESSES[..27]);
-    let servers = message.authority();
-    assert_records::<Ns<ParsedName<'_>>>(&rt, "the server", servers, &SERVER);
 }

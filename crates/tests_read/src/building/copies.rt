@@ -1,13 +1,13 @@
 //! Records that are copied from one message into another.
-use crate::asserts::{assert_holds, assert_octets, over};
+use crate::asserts::{assert_holds, assert_octets, message_of};
+use crate::building::asserts::over;
 use arrayvec::ArrayVec;
 use dns_build::{
     AdditionalBuilder, AnswerBuilder, CopyRecords, CopyRecordsError, PushError, copy_records,
 };
 use dns_data::Cname;
 use dns_item::{ParsedRecord, Record};
-use dns_read::Message;
-use dns_wire::{Composer, FlattenInto, Name, ParseError, ParsedName};
+use dns_wire::{FlattenInto, Name, ParseError, ParsedName};
 use std::alloc::Global;
 use std::process::Abort;
 
@@ -39,20 +39,22 @@ fn keep_own_cname(
     record?.try_flatten_into(alloc).ok()
 }
 
-/// Fails unless the copy has these octets.
-fn assert_copied<T: Composer>(
-    rt: &impl Abort,
-    row: &str,
-    copied: Result<AdditionalBuilder<T>, CopyRecordsError>,
-    expected: &[u8],
-) {
-    let copied = copied.expect(rt, row);
-    assert_octets(rt, row, copied.as_slice(), expected);
-}
+/// A target with the capacity for `ANSWER`.
+type Target = ArrayVec<u8, 56>;
 
 /// A builder at the answer section of an empty message.
-fn answers(rt: &impl Abort) -> AnswerBuilder<ArrayVec<u8, 56>> {
+fn answers(rt: &impl Abort) -> AnswerBuilder<Target> {
     over(rt, ArrayVec::new()).answer()
+}
+
+/// Fails unless the copy is `ANSWER`.
+fn assert_copied(
+    rt: &impl Abort,
+    row: &str,
+    copied: Result<AdditionalBuilder<Target>, CopyRecordsError>,
+) {
+    let copied = copied.expect(rt, row);
+    assert_octets(rt, row, copied.as_slice(), &ANSWER);
 }
 
 /// Copies the CNAME records of a message. By the trait's call, the closure gives what borrows
@@ -61,32 +63,41 @@ fn answers(rt: &impl Abort) -> AnswerBuilder<ArrayVec<u8, 56>> {
 #[test]
 fn copies_the_records_of_a_message(rt: HostRuntime) {
     let alloc = rt.alloc();
-    let source = Message::from_slice(&SOURCE).expect(&rt, "a message");
+    let source = message_of(&rt, &SOURCE);
     let copied = copy_records(&source, answers(&rt), keep_cname);
-    assert_copied(&rt, "Copy records: the CNAME records", copied, &ANSWER);
+    assert_copied(&rt, "Copy records: the CNAME records", copied);
     let copied = source.copy_records(answers(&rt), |shown| keep_own_cname(alloc, shown));
-    assert_copied(&rt, "Copy records: by the trait", copied, &ANSWER);
+    assert_copied(&rt, "Copy records: by the trait", copied);
 }
 
-/// Fails unless the error is printed as this text.
-fn assert_text(rt: &impl Abort, alloc: Global, error: CopyRecordsError, text: &str) {
-    let shown = format!(in alloc; "{error}").expect(rt, text);
-    assert_holds(rt, text, shown.as_str() == text);
-}
-
-/// Errors of a push, and their texts.
-const ERRORS: &[(PushError, &str)] = &[
-    (PushError::LimitExceeded, "limit exceeded"),
-    (PushError::CountOverflow, "counter overflow"),
-    (PushError::ShortBuf, "buffer size exceeded"),
-    (PushError::OutOfMemory, "out of memory"),
+/// Errors, and the texts of their parts.
+const ERRORS: &[(CopyRecordsError, &str)] = &[
+    (
+        CopyRecordsError::Push(PushError::LimitExceeded),
+        "limit exceeded",
+    ),
+    (
+        CopyRecordsError::Push(PushError::CountOverflow),
+        "counter overflow",
+    ),
+    (
+        CopyRecordsError::Push(PushError::ShortBuf),
+        "buffer size exceeded",
+    ),
+    (
+        CopyRecordsError::Push(PushError::OutOfMemory),
+        "out of memory",
+    ),
+    (
+        CopyRecordsError::Parse(ParseError::ShortInput),
+        "unexpected end of input",
+    ),
 ];
 
 #[test]
 fn an_error_has_the_text_of_its_part(rt: HostRuntime) {
     for (error, text) in ERRORS {
-        assert_text(&rt, rt.alloc(), CopyRecordsError::from(*error), text);
+        let shown = format!(in rt.alloc(); "{error}").expect(&rt, text);
+        assert_holds(&rt, text, shown.as_str() == *text);
     }
-    let unread = CopyRecordsError::from(ParseError::ShortInput);
-    assert_text(&rt, rt.alloc(), unread, "unexpected end of input");
 }

@@ -1,7 +1,8 @@
 //! Responses that are started from a query, with an OPT record (RFC 6891 section 6.1).
-use crate::asserts::{assert_octets, over};
+use crate::asserts::{assert_octets, message_of};
+use crate::building::asserts::over;
+use arrayvec::ArrayVec;
 use dns_code::Rcode;
-use dns_read::Message;
 
 /// A query for the A records of the root: ID 0x1234, RD and CD, and an OPT record of version 0 with
 /// DO and a UDP payload size of 4,096 octets.
@@ -23,17 +24,16 @@ static BADVERS: &[u8] =
 
 #[test]
 fn responds_with_an_opt_record(rt: HostRuntime) {
-    let alloc = rt.alloc();
     for (query, expected) in [(QUERY, RESPONSE), (VERSION_1, BADVERS)] {
-        let query = Message::from_slice(query).expect(&rt, "a message");
-        let builder = over(&rt, Vec::new(alloc));
-        let started = builder.respond(alloc, &query, Rcode::NOERROR);
+        let query = message_of(&rt, query);
+        let builder = over(&rt, ArrayVec::<u8, 28>::new());
+        let started = builder.respond(rt.alloc(), &query, Rcode::NOERROR);
         let (mut answer, opt) = started.expect(&rt, "memory");
         let mut opt = opt.expect(&rt, "an OPT record");
         opt.set_udp_payload_size(1232);
         let reserved = answer.reserve_opt(opt).expect(&rt, "no limit");
         let mut additional = answer.additional();
-        additional.push_reserved(reserved).expect(&rt, "memory");
+        additional.push_reserved(reserved).expect(&rt, "room");
         assert_octets(&rt, "Response", additional.as_slice(), expected);
     }
 }
