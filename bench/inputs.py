@@ -180,6 +180,25 @@ def chain(broken, count=32, tops=1):
     return msg
 
 
+def pointers():
+    """Owners of one label, through some 8,000 pointers of which each leads to the one before it.
+
+    The pointers are in the RDATA of a record of an unknown type. Every other owner begins at the last but one.
+    """
+    count = 3071
+    msg = Message(0xBAD2, 0x8180, (1, 1 + count, 0, 0))
+    msg.question("example.com", 1)
+    msg.head("example.com", 65280, 60)
+    label = len(msg.octets) + 2
+    tops = range(label + 3, 0x4000, 2)
+    msg.octets += struct.pack(">H", 3 + 2 * len(tops)) + b"\x01a\0"
+    for place in (label, *tops[:-1]):
+        msg.octets += struct.pack(">H", 0xC000 | place)
+    for i in range(count):
+        msg.octets += struct.pack(">HHHIHI", 0xC000 | tops[-1 - i % 2], 1, 1, 60, 4, i)
+    return msg
+
+
 def garbage(count):
     """Random octets after a header with small counts."""
     seed = 20261122
@@ -221,6 +240,7 @@ def main():
     for label, msg in (("f64", addresses(4093)), ("h64", chain(False, 4061)), ("h64b", chain(False, 4061, 2))):
         assert 65536 - 32 < len(msg.octets) < 65536, len(msg.octets)
         line(label, msg.sum, msg.octets)
+    line("p64", "?", pointers().octets)
     for count in (1, 2, 5, 10, 20, 50, 100, 200, 500):
         line(f"z{count}", zone(count).sum, zone(count).octets)
 

@@ -18,7 +18,10 @@ static uint8_t addresses[OWNERS][4];
 static dnsm_new_item texts[1 + OWNERS];
 static dnsm_put_item signatures[SIGNATURES];
 static uint8_t out[ROOM];
-static struct input w2, m40, q1, f64, h64;
+static struct input w2, m40, q1, f64, h64, h64b, p64;
+
+/* The question of w2 as a query. */
+static uint8_t query[W2_QUESTION];
 
 static void set_name(struct name *name, const char *text)
 {
@@ -169,6 +172,9 @@ void prepare(void)
     q1 = load_input("q1");
     f64 = load_input("f64");
     h64 = load_input("h64");
+    h64b = load_input("h64b");
+    p64 = load_input("p64");
+    make_query(query, &w2);
     for (int i = 0; i < OWNERS; i++) {
         char text[32];
         snprintf(text, sizeof text, "h%d.sub.example.com.", i);
@@ -245,6 +251,7 @@ static size_t data_of(const struct input *from, const dnsm_item *item)
 static size_t read_items(void) { return read_message(&w2, NULL, false); }
 static size_t read_f64(void) { return read_message(&f64, NULL, false); }
 static size_t read_h64(void) { return read_message(&h64, NULL, false); }
+static size_t read_p64(void) { return read_message(&p64, NULL, false); }
 static size_t read_names(void) { return read_message(&w2, name_of, false); }
 static size_t read_texts(void) { return read_message(&w2, texts_of, true); }
 static size_t read_addresses(void) { return read_message(&w2, address_of, true); }
@@ -253,6 +260,28 @@ static size_t read_fields(void) { return read_message(&m40, fields_of, true); }
 static size_t read_names_in(void) { return read_message(&m40, name_in, true); }
 static size_t check_data(void) { return read_message(&m40, check_of, true); }
 static size_t read_data(void) { return read_message(&m40, data_of, true); }
+
+/* Whether a message is regular. Returns its length if it is, or isn't, as expected. */
+static size_t judge(const struct input *from, bool expected)
+{
+    uint8_t regular;
+    return dnsm_is_regular(from->octets, from->len, &regular) == DNSM_OK && regular == expected ? from->len : 0;
+}
+
+static size_t judge_w2(void) { return judge(&w2, true); }
+static size_t judge_f64(void) { return judge(&f64, true); }
+static size_t judge_h64b(void) { return judge(&h64b, true); }
+static size_t judge_p64(void) { return judge(&p64, false); }
+
+/* What w2 says as a reply, for a server that resolves. */
+static size_t take_reply(void)
+{
+    dnsm_saying saying;
+    return dnsm_reply(query, sizeof query, w2.octets, w2.len, (const uint8_t *)"", 1, &saying) == DNSM_OK &&
+                   saying.kind == DNSM_REPLY_ANSWER
+               ? w2.len
+               : 0;
+}
 
 /* Puts all items of w2 into another message. */
 static size_t put_from(void)
@@ -331,6 +360,12 @@ const struct task tasks[] = {
     {"items of w2", "dnsm_next", .one = read_items},
     {"items of f64", "dnsm_next", .one = read_f64},
     {"items of h64", "dnsm_next", .one = read_h64},
+    {"items of p64", "dnsm_next", .one = read_p64},
+    {"w2 is regular", "dnsm_is_regular", .one = judge_w2},
+    {"f64 is regular", "dnsm_is_regular", .one = judge_f64},
+    {"h64b is regular", "dnsm_is_regular", .one = judge_h64b},
+    {"p64 isn't regular", "dnsm_is_regular", .one = judge_p64},
+    {"w2 as a reply", "dnsm_reply", .one = take_reply},
     {"owners of w2", "dnsm_name_octets", .one = read_names},
     {"addresses of w2", "dnsm_next", .one = read_addresses},
     {"texts of w2", "dnsm_name_text and others", .one = read_texts},

@@ -13,7 +13,7 @@ static uint8_t out[ROOM];
 static knot_rrset_t addresses[ADDRESSES], all_addresses, owners[OWNERS], signatures[SIGNATURES];
 static knot_dname_t *www, *parent;
 static knot_dump_style_t style;
-static struct input w2, m40, q1, f64, h64, x1, x2500;
+static struct input w2, m40, q1, f64, h64, p64, x1, x2500;
 
 /* Copies of w2 and f64, of which the TTLs are lowered. */
 static struct input w2_copy, f64_copy;
@@ -45,6 +45,7 @@ void prepare(void)
     q1 = load_input("q1");
     f64 = load_input("f64");
     h64 = load_input("h64");
+    p64 = load_input("p64");
     x1 = load_input("x1");
     x2500 = load_input("x2500");
     w2_copy = load_input("w2");
@@ -108,6 +109,7 @@ static size_t read_message(const struct input *from)
 static size_t read_items(void) { return read_message(&w2); }
 static size_t read_f64(void) { return read_message(&f64); }
 static size_t read_h64(void) { return read_message(&h64); }
+static size_t read_p64(void) { return read_message(&p64); }
 static size_t read_data(void) { return read_message(&m40); }
 
 /* Reads a message, and lowers the TTLs of its records by a second, but that of OPT. */
@@ -257,6 +259,7 @@ const struct task tasks[] = {
     {"items of w2", "knot_pkt_parse", .one = read_items},
     {"items of f64", "knot_pkt_parse", .one = read_f64},
     {"items of h64", "knot_pkt_parse", .one = read_h64},
+    {"items of p64", "knot_pkt_parse", .one = read_p64},
     {"owners of w2", "knot_pkt_parse", .one = read_items},
     {"addresses of w2", "knot_pkt_parse", .one = read_addresses},
     {"texts of w2", "knot_rrset_txt_dump", .one = read_texts},

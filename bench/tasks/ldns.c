@@ -9,7 +9,7 @@
 
 static ldns_pkt *addresses, *owners, *signatures;
 static ldns_buffer *buffer;
-static struct input w2, m40, f64, h64;
+static struct input w2, m40, f64, h64, p64;
 
 static ldns_rdf *name_of(const char *text)
 {
@@ -70,6 +70,7 @@ void prepare(void)
     m40 = load_input("m40");
     f64 = load_input("f64");
     h64 = load_input("h64");
+    p64 = load_input("p64");
     keep_signatures();
 }
 
@@ -155,6 +156,7 @@ static size_t exchange_of(const ldns_rr *record)
 static size_t read_items(void) { return read_message(&w2, NULL); }
 static size_t read_f64(void) { return read_message(&f64, NULL); }
 static size_t read_h64(void) { return read_message(&h64, NULL); }
+static size_t read_p64(void) { return read_message(&p64, NULL); }
 static size_t read_addresses(void) { return read_message(&w2, address_of); }
 static size_t read_texts(void) { return read_message(&w2, text_of); }
 static size_t read_fields(void) { return read_message(&m40, fields_of); }
@@ -181,6 +183,7 @@ const struct task tasks[] = {
     {"items of w2", "ldns_wire2pkt", .one = read_items},
     {"items of f64", "ldns_wire2pkt", .one = read_f64},
     {"items of h64", "ldns_wire2pkt", .one = read_h64},
+    {"items of p64", "ldns_wire2pkt", .one = read_p64},
     {"owners of w2", "ldns_wire2pkt", .one = read_items},
     {"addresses of w2", "ldns_wire2pkt", .one = read_addresses},
     {"texts of w2", "ldns_rr2str", .one = read_texts},

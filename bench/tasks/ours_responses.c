@@ -12,8 +12,8 @@ size_t dns_bench_transfer(const uint8_t *soa, size_t soa_len, const uint8_t *rec
 size_t dns_bench_read_line(const uint8_t *line, size_t line_len, size_t rounds);
 size_t dns_bench_print_line(const uint8_t *line, size_t line_len, size_t rounds);
 
-/* The octets of w2 up to the end of its question, and how many messages the stream has. */
-enum { W2_QUESTION = 33, MESSAGES = 64 };
+/* How many messages the stream has. */
+enum { MESSAGES = 64 };
 
 /* The question of w2 as a query. */
 static uint8_t query[W2_QUESTION];
@@ -29,8 +29,7 @@ void prepare(void)
     w2 = load_input("w2");
     x1 = load_input("x1");
     x2500 = load_input("x2500");
-    memcpy(query, w2.octets, sizeof query);
-    memcpy(query + 2, (const uint8_t[]){1, 0, 0, 1, 0, 0, 0, 0, 0, 0}, 10);
+    make_query(query, &w2);
     for (int i = 0; i < MESSAGES; i++) {
         stream[stream_len] = (uint8_t)(w2.len >> 8);
         stream[stream_len + 1] = (uint8_t)w2.len;

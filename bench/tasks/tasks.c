@@ -34,6 +34,12 @@ struct input load_input(const char *workload)
     exit(1);
 }
 
+void make_query(uint8_t query[W2_QUESTION], const struct input *w2)
+{
+    memcpy(query, w2->octets, W2_QUESTION);
+    memcpy(query + 2, (const uint8_t[]){1, 0, 0, 1, 0, 0, 0, 0, 0, 0}, 10);
+}
+
 /* Does a task `times` times. Returns what it returns the last time. */
 static size_t run(const struct task *task, uint64_t times)
 {

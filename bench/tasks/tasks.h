@@ -37,6 +37,12 @@ struct input {
 /* The message of a workload, from the lines of inputs.py in the file that the variable INPUTS names. */
 struct input load_input(const char *workload);
 
+/* The octets of w2 up to the end of its question. */
+enum { W2_QUESTION = 33 };
+
+/* Makes the question of w2 a query with RD set. */
+void make_query(uint8_t query[W2_QUESTION], const struct input *w2);
+
 /* The client cookie of a query (RFC 7873 section 4). */
 enum { COOKIE = 8 };
 
