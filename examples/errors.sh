@@ -175,6 +175,9 @@ refuses resolve_too_many_queries example_resolve 'too many queries' < <(
 refuses resolve_alias_of_itself example_resolve 'ask another server: alias loop' < <(resolving A 8180 0001 0000 c00c0005000100000e100002c00c)
 refuses resolve_unreadable example_resolve 'ask another server: ' < <(resolving A 8180 0001)
 refuses resolve_irregular example_resolve "the reply isn't regular" < <(printf 'www.example.com\n%s\n' "$irregular")
+run resolve_irregular_truncated 0 "$(asks "$question") over TCP" '' example_resolve \
+    < <(printf 'www.example.com\n%s\n' "${irregular/8180/8380}")
+refuses resolve_irregular_unasked example_resolve "the reply isn't regular" < <(printf 'www.example.com\n%s\n' "${irregular/81800001/83800000}")
 full resolve_full_disk 1 "$disk" example_resolve <crates/example_resolve/stdin
 full resolve_query_full_disk 1 "$disk" example_resolve <<<www.example.com
 

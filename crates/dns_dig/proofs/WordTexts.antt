@@ -31,5 +31,6 @@ module _ (entries : List Entry) (n : ℕ) where
 pub rcode_low : (n : ℕ) → n < 16 → word_or rcode_words (codes "RESERVED") n ≡ rcode_word n
 rcode_low n low = rw (lt-ltb n 16 low)
 
+-- An RCODE that is extended has another word if it is unknown.
 pub rcode_high : (n : ℕ) → 16 ≤ n → word_or rcode_words (codes "?") n ≡ rcode_word n
 rcode_high n high = rw (le-ltb n 16 high)

@@ -89,6 +89,7 @@ pub mod edit {
         EditError, OtherName, TtlChange, age_ttls, cap_ttls, change_ttls, is_regular, laws,
         min_ttl, records_end, remove_opt, replace_option, set_id, set_question_case, set_rcode,
     };
+    pub use dns_regular::laws as built_laws;
 }
 
 /// Messages on a stream, such as a TCP connection, whose octets come in pieces.
@@ -115,8 +116,8 @@ pub mod stream {
     };
 }
 
-/// Zone transfers by AXFR and IXFR: the messages of a response, read as steps that change a zone; and
-/// theorems on these.
+/// Zone transfers by AXFR and IXFR: the messages of a response, read as steps that change a zone, or
+/// written; and theorems on these.
 ///
 /// The transfer after all steps of a message:
 ///
@@ -128,6 +129,7 @@ pub mod stream {
 /// ```
 pub mod transfer {
     pub use dns_transfer::{Step, Steps, Transfer, TransferError, laws};
+    pub use dns_transfer_writer::{Difference, TransferWriter, writer_laws};
 }
 
 /// What a reply says of a question: the records, that there are none, or where to ask on; and

@@ -67,7 +67,9 @@ first_kind : (fields : List Field) (d : Field) → 1 ≤ length fields → kinds
 first_kind [] d some = absurd (omega arith)
 first_kind (field ∷ fields) d some = refl
 
-module _ (origin : Option (List ℕ)) (at rtype index : ℕ) (fields : List Field) (d : Field) (some : 1 ≤ length fields) (base : Texts) (words own after : Words) (n : ℕ) (count : n ≡ own_count (get_or fields 0 d).1 (texts words)) (front : own ≡ take n words) (back : after ≡ drop n words) (way : Way) (is_way : way ≡ way_of rtype index (get_or fields 0 d).1) where
+module _ (origin : Option (List ℕ)) (at rtype index : ℕ) (fields : List Field) (d : Field) (some : 1 ≤ length fields) (base : Texts) (words own after : Words)
+    (n : ℕ) (count : n ≡ own_count (get_or fields 0 d).1 (texts words)) (front : own ≡ take n words) (back : after ≡ drop n words) (way : Way)
+    (is_way : way ≡ way_of rtype index (get_or fields 0 d).1) where
   -- the fields from this one on
   abbrev all_fields : Completed
   all_fields = completed_fields origin at rtype index (kinds fields) base (texts words)

@@ -17,7 +17,8 @@ use Rattle.fields_records.specs.FieldWords.{Words}
 use Rattle.fields_records.specs.RecordWords.{IsRecordText, MayBeRecord}
 use Rattle.fields_lines.specs.Completing.{Completed, completed_data}
 use Rattle.fields_lines.specs.FieldWays.{Texts}
-use Rattle.fields_lines.specs.Lines.{CompletesTo, HasProblem, IsAfterOwner, IsLine, IsNoRecord, IsTail, IsTypeOf, Outcome, Owner, Problem, ReadsCompleted, ReadsLine, Says, named_owner, outcome_at, owner_of, owner_or, text_of_name, with_ttl, with_type}
+use Rattle.fields_lines.specs.Lines.{CompletesTo, HasProblem, IsAfterOwner, IsLine, IsNoRecord, IsTail, IsTypeOf, Outcome, Owner, Problem, ReadsCompleted}
+use Rattle.fields_lines.specs.Lines.{ReadsLine, Says, named_owner, outcome_at, owner_of, owner_or, text_of_name, with_ttl, with_type}
 use Rattle.fields_lines.specs.NameWords.{completed_name}
 use Rattle.fields_lines.specs.declared.defaults.Defaults.{Defaults}
 use Rattle.fields_lines.specs.declared.line_error.LineError.{LineError}
@@ -26,6 +27,7 @@ use Rattle.fields_lines.specs.declared.line_error.WordReason.TheVariants.{Missin
 
 -- The owner.
 
+-- a line without words has no owner
 pub named_empty : (origin : Option (List ℕ)) (words : Words) → length words < 1 → named_owner origin (texts words) ≡ Err (0, Missing)
 named_empty origin [] few = refl
 named_empty origin (word ∷ words) few = absurd (omega arith)
@@ -37,18 +39,21 @@ named_first origin [] after d some e = absurd (omega arith)
 named_first origin (word ∷ words) after d some e = ap (λ (ws : Words). owner_or Relative (texts ws) (completed_name origin word.now)) (sym e)
 
 -- a line that names its owner
-pub owner_named : (defaults : Defaults) (named : Bool) (origin : Option (List ℕ)) (words : Texts) → named ≡ true → origin ≡ text_of_name defaults.origin → named_owner origin words ≡ owner_of defaults named words
+pub owner_named : (defaults : Defaults) (named : Bool) (origin : Option (List ℕ)) (words : Texts) → named ≡ true → origin ≡ text_of_name defaults.origin
+    → named_owner origin words ≡ owner_of defaults named words
 owner_named defaults true origin words is same = ap (λ (o : Option (List ℕ)). named_owner o words) same
 owner_named defaults false origin words is same = absurd (cc is)
 
 -- a line of the owner before it
-pub owner_given : (defaults : Defaults) (named : Bool) (found : Option (List ℕ)) (words : Texts) → named ≡ false → found ≡ text_of_name defaults.owner → owner_of defaults named words ≡ owner_or NoOwner words found
+pub owner_given : (defaults : Defaults) (named : Bool) (found : Option (List ℕ)) (words : Texts) → named ≡ false → found ≡ text_of_name defaults.owner
+    → owner_of defaults named words ≡ owner_or NoOwner words found
 owner_given defaults true found words is same = absurd (cc is)
 owner_given defaults false found words is same = ap (owner_or NoOwner words) (sym same)
 
 -- What follows the owner.
 
 module _ (defaults : Defaults) (size : ℕ) (owner : List ℕ) (ttl class : Option ℕ) (after : Words) where
+  -- a line that ends after its owner lacks a type
   pub tail_empty : (at : ℕ) → length after < 1 → at ≡ size - length after → IsTail defaults size owner ttl class (texts after) (Err (at, Missing))
   tail_empty at few is = by_case after few is where
     by_case : (words : Words) → length words < 1 → at ≡ size - length words → IsTail defaults size owner ttl class (texts words) (Err (at, Missing))
@@ -79,7 +84,8 @@ module _ (defaults : Defaults) (at : ℕ) (owner : List ℕ) (ttl class : Option
   no_ttl none = ap (λ (found : Option ℕ). with_ttl defaults at owner found (unwrap_or class defaults.class) word rtype value) none
 
   -- the RDATA after the owner, the TTL, the class and the type
-  pub type_data : (seconds own number : ℕ) (origin : Option (List ℕ)) (head : Texts) (completed : Completed) → Some seconds ≡ option_or ttl defaults.ttl → own ≡ unwrap_or class defaults.class → number ≡ rtype
+  pub type_data : (seconds own number : ℕ) (origin : Option (List ℕ)) (head : Texts) (completed : Completed) → Some seconds ≡ option_or ttl defaults.ttl
+      → own ≡ unwrap_or class defaults.class → number ≡ rtype
       → origin ≡ text_of_name defaults.origin → head ≡ owner ∷ decimal seconds ∷ class_word own ∷ word ∷ [] → completed_data origin (at + 1) number head value ≡ completed
       → outcome_at (at + 1) completed ≡ with_type defaults at owner ttl class word (Some rtype) value
   type_data seconds own number origin head completed some class_is type_is origin_is head_is done =

@@ -101,6 +101,7 @@ module _ (kind : Kind) (found form : Form) (more : Bor (List ℕ)) (old new : Li
   given_appended a =
       of_kind kind found form (Plain more) (Plain more) old new result refl shape known (octets_appended kind form (Plain more) taken out into old new result a)
 
+  -- What appends the octets of a field, or runs out of memory, does so for the field.
   pub plain_appended : IsEncodedAs kind form (Plain more) more.now → OnOk result (new ≡ old ++ more.now) → IfErr result (λ refusal. refusal ≡ OutOfMemory)
       → AppendsValue kind (Plain more) old new result
   plain_appended is ok err = given_appended (appends_octets (IsEncodedAs kind form (Plain more)) more.now old new result is ok err)

@@ -12,7 +12,8 @@ returns-in_default-found c =
     inr (
       c.args.at + i,
       sym c.loop-index.invariant
-          ∙ own_none (option_copied c.args.origin) c.args.at c.args.way c.args.own.now i (record { ref_ptr = (0, 0); now = [] }) c.loop-index.completed.items c.word_way-way.result c.word_way-way.ensures
+          ∙ own_none (option_copied c.args.origin) c.args.at c.args.way c.args.own.now i (record { ref_ptr = (0, 0); now = [] }) c.loop-index.completed.items
+          c.word_way-way.result c.word_way-way.ensures
           c.loop-index-test.true none,
       refl,
     )

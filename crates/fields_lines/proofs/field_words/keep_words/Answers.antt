@@ -12,7 +12,8 @@ loop-word-preserved c =
     let i = c.loop-word.word-index in
     let words = c.args.words.now in
     let d : Bor (List ℕ) = record { ref_ptr = (0, 0); now = [] } in
-    keep_more (texts_of c.args.completed.now.items) words i d (get_or words i d) c.loop-word.completed.items c.push.new.self.items c.loop-word-test.true c.loop-word.invariant refl c.in-Ok.ensures.items
+    keep_more (texts_of c.args.completed.now.items) words i d (get_or words i d) c.loop-word.completed.items c.push.new.self.items c.loop-word-test.true
+    c.loop-word.invariant refl c.in-Ok.ensures.items
 
 pub returns : goal.returns
 returns c = kept_all (texts_of c.args.completed.now.items) c.args.words.now c.loop-word.word-index c.loop-word.completed.items c.loop-word-test.false c.loop-word.invariant

@@ -37,7 +37,8 @@ returns-in_default-read_type c =
         after = texts head.2.now;
         is_head = c.take_head-ttl.ensures;
         is_tail =
-            tail_more c.args.defaults.now c.args.size (string_bytes c.args.owner) head.0 head.1 head.2.now c.saturating_sub-at.result _ (record { ref_ptr = (0, 0); now = [] }) None _ c.in-len1-up.len_at_least
+            tail_more c.args.defaults.now c.args.size (string_bytes c.args.owner) head.0 head.1 head.2.now c.saturating_sub-at.result _
+            (record { ref_ptr = (0, 0); now = [] }) None _ c.in-len1-up.len_at_least
             c.saturating_sub-at.ensures (take_rest head.2.now 1) c.in_default-read_type.ensures refl;
       },
       c.bad_word-in_default-read_type.ensures,
@@ -54,7 +55,8 @@ returns-in_default-ttl_or c =
         after = texts head.2.now;
         is_head = c.take_head-ttl.ensures;
         is_tail =
-            tail_more c.args.defaults.now c.args.size (string_bytes c.args.owner) head.0 head.1 head.2.now c.saturating_sub-at.result _ (record { ref_ptr = (0, 0); now = [] }) (Some c.in-Some.rtype) _ c.in-len1-up.len_at_least
+            tail_more c.args.defaults.now c.args.size (string_bytes c.args.owner) head.0 head.1 head.2.now c.saturating_sub-at.result _
+            (record { ref_ptr = (0, 0); now = [] }) (Some c.in-Some.rtype) _ c.in-len1-up.len_at_least
             c.saturating_sub-at.ensures (take_rest head.2.now 1) c.in-Some.ensures
             (no_ttl c.args.defaults.now c.saturating_sub-at.result (string_bytes c.args.owner) head.0 head.1 _ c.in-Some.rtype _ c.in_default-ttl_or.ensures);
       },
@@ -70,24 +72,29 @@ returns-in-Ok-complete_data c =
       after = texts head.2.now;
       is_head = c.take_head-ttl.ensures;
       is_tail =
-          tail_more c.args.defaults.now c.args.size (string_bytes c.args.owner) head.0 head.1 head.2.now c.saturating_sub-at.result _ (record { ref_ptr = (0, 0); now = [] }) (Some c.in-Some.rtype) _ c.in-len1-up.len_at_least
+          tail_more c.args.defaults.now c.args.size (string_bytes c.args.owner) head.0 head.1 head.2.now c.saturating_sub-at.result _
+          (record { ref_ptr = (0, 0); now = [] }) (Some c.in-Some.rtype) _ c.in-len1-up.len_at_least
           c.saturating_sub-at.ensures (take_rest head.2.now 1) c.in-Some.ensures
           (type_data c.args.defaults.now c.saturating_sub-at.result (string_bytes c.args.owner) head.0 head.1 _ c.in-Some.rtype _ c.in-Some-ttl_or.ttl c.unwrap_or-class.result c.to_int.result
-          (option_copied c.args.origin) (texts_of c.push_head.new.completed.items) _ c.in-Some-ttl_or.ensures c.unwrap_or-class.ensures c.to_int.ensures c.requires.origin c.in-Ok.ensures c.in-Ok-complete_data.ensures);
+          (option_copied c.args.origin) (texts_of c.push_head.new.completed.items) _ c.in-Some-ttl_or.ensures c.unwrap_or-class.ensures c.to_int.ensures
+          c.requires.origin c.in-Ok.ensures c.in-Ok-complete_data.ensures);
     }
 
 pub returns-in-Err : goal.returns-in-Err
 returns-in-Err c =
     let head = c.take_head-ttl.result in
-    data_fails (IsAfterOwner c.args.defaults.now c.args.size (string_bytes c.args.owner) (texts c.args.words.now)) (c.saturating_sub-at.result + 1) _ c.in-Err.error (texts_of c.complete_data.new.completed.items)
+    data_fails (IsAfterOwner c.args.defaults.now c.args.size (string_bytes c.args.owner) (texts c.args.words.now)) (c.saturating_sub-at.result + 1) _
+    c.in-Err.error (texts_of c.complete_data.new.completed.items)
     (λ completed done. record {
       ttl = head.0;
       class = head.1;
       after = texts head.2.now;
       is_head = c.take_head-ttl.ensures;
       is_tail =
-          tail_more c.args.defaults.now c.args.size (string_bytes c.args.owner) head.0 head.1 head.2.now c.saturating_sub-at.result _ (record { ref_ptr = (0, 0); now = [] }) (Some c.in-Some.rtype) _ c.in-len1-up.len_at_least
+          tail_more c.args.defaults.now c.args.size (string_bytes c.args.owner) head.0 head.1 head.2.now c.saturating_sub-at.result _
+          (record { ref_ptr = (0, 0); now = [] }) (Some c.in-Some.rtype) _ c.in-len1-up.len_at_least
           c.saturating_sub-at.ensures (take_rest head.2.now 1) c.in-Some.ensures
           (type_data c.args.defaults.now c.saturating_sub-at.result (string_bytes c.args.owner) head.0 head.1 _ c.in-Some.rtype _ c.in-Some-ttl_or.ttl c.unwrap_or-class.result c.to_int.result
-          (option_copied c.args.origin) (texts_of c.push_head.new.completed.items) completed c.in-Some-ttl_or.ensures c.unwrap_or-class.ensures c.to_int.ensures c.requires.origin c.in-Ok.ensures done);
+          (option_copied c.args.origin) (texts_of c.push_head.new.completed.items) completed c.in-Some-ttl_or.ensures c.unwrap_or-class.ensures c.to_int.ensures
+          c.requires.origin c.in-Ok.ensures done);
     }) c.in-Err.ensures

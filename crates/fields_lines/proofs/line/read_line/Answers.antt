@@ -10,7 +10,8 @@ use Rattle.fields_lines.proofs.line.read_line.Goals as goal
 pub returns-in-Ok : goal.returns-in-Ok
 returns-in-Ok c =
     line_read c.args.defaults.now c.args.named c.args.words.now (texts_of c.as_slice.result.now) c.in-Ok.at c.read_completed.result
-    (subst (λ (ws : List Word). IsLine c.args.defaults.now c.args.named (texts c.args.words.now) (Ok (c.in-Ok.at, texts_of ws))) (sym c.as_slice.ensures.value) c.in-Ok.ensures) c.read_completed.ensures
+    (subst (λ (ws : List Word). IsLine c.args.defaults.now c.args.named (texts c.args.words.now) (Ok (c.in-Ok.at, texts_of ws))) (sym c.as_slice.ensures.value)
+    c.in-Ok.ensures) c.read_completed.ensures
 
 pub returns : goal.returns
 returns c = line_bad c.args.defaults.now c.args.named c.args.words.now c.in-Err.error c.in-Err.ensures

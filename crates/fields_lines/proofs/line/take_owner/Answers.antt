@@ -9,7 +9,8 @@ use Rattle.fields_lines.proofs.line.take_owner.Goals as goal
 
 pub returns-then-named : goal.returns-then-named
 returns-then-named c =
-    subst (λ (owner : Owner). TakesOwner owner c.take_named.result) (owner_named c.args.defaults.now c.args.named (option_copied c.args.origin) (texts c.args.words.now) c.if-named.true c.requires) c.take_named.ensures
+    subst (λ (owner : Owner). TakesOwner owner c.take_named.result)
+    (owner_named c.args.defaults.now c.args.named (option_copied c.args.origin) (texts c.args.words.now) c.if-named.true c.requires) c.take_named.ensures
 
 pub returns-in-Ok-Some : goal.returns-in-Ok-Some
 returns-in-Ok-Some c =
