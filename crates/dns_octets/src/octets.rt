@@ -17,10 +17,18 @@ pub trait Octets: Drop {
 
 /// A type that holds octets and can overwrite them.
 pub trait OctetsMut: Octets {
+    /// The name of the mutable borrow that the value is, or 0 for a value that owns its octets.
+    ///
+    /// A function that changes a value ensures that its loan stays. Then the octets of the value are
+    /// those of the borrowed buffer when the borrow ends.
+    ghost loan: { Self → ℕ } = { λ _. 0 };
+
     /// Overwrites the octets from offset `offset` on.
     fn write_at(&mut self, offset: usize, octets: &[u8])
         requires { offset + length octets.now ≤ length (Self.octets self.old) }
-        ensures { Self.octets self.new ≡ overwritten (Self.octets self.old) offset octets.now };
+        ensures octets { Self.octets self.new
+            ≡ overwritten (Self.octets self.old) offset octets.now }
+        ensures loan { loan self.new ≡ loan self.old };
 }
 
 /// A conversion that keeps what the source holds.
@@ -50,6 +58,14 @@ pub trait BufferFrom<Source: Octets>: Octets + OctetsFrom<Source> {
 }
 
 impl Octets for &[u8] {
+    ghost octets = { λ s. s.now };
+
+    fn octets(&self) -> &[u8] {
+        self
+    }
+}
+
+impl Octets for &mut [u8] {
     ghost octets = { λ s. s.now };
 
     fn octets(&self) -> &[u8] {
@@ -95,6 +111,14 @@ pub(crate) fn overwrite_slice(target: &mut [u8], offset: usize, octets: &[u8])
     ensures { target.new ≡ overwritten target.old offset octets.now }
 {
     target[offset..offset + octets.len()].copy_from_slice(octets);
+}
+
+impl OctetsMut for &mut [u8] {
+    ghost loan = { λ s. s.ghost_name };
+
+    fn write_at(&mut self, offset: usize, octets: &[u8]) {
+        overwrite_slice(self, offset, octets);
+    }
 }
 
 impl OctetsMut for Vec<u8> {

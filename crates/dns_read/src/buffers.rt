@@ -15,7 +15,7 @@ fn vec_message<S: Octets>(
     ensures { Converts result (λ message. message_octets message ≡ message_octets source.now) ⊥ ⊤ }
 {
     let octets = Vec::from_slice(alloc, source.as_slice())?;
-    Ok(Message::of_long(octets))
+    Ok(Message::from_octets_unchecked(octets))
 }
 
 fn array_message<S: Octets, const N: usize>(
@@ -27,7 +27,7 @@ fn array_message<S: Octets, const N: usize>(
     let Ok(octets) = ArrayVec::try_from(source.as_slice()) else {
         return Err(AppendError::ShortBuf);
     };
-    Ok(Message::of_long(octets))
+    Ok(Message::from_octets_unchecked(octets))
 }
 
 impl<S: Octets> OctetsFrom<Message<S>> for Message<Vec<u8>> {

@@ -67,11 +67,14 @@ impl<Octs: Octets> Message<Octs> {
         if octets.octets().len() < HeaderSection::LEN {
             return Err(octets);
         }
-        Ok(Message::of_long(octets))
+        Ok(Message::from_octets_unchecked(octets))
     }
 
     /// The message with these octets, which are known to be at least 12.
-    pub(crate) fn of_long(octets: Octs) -> Self
+    ///
+    /// A caller that lends a buffer for a message that is changed in place takes this call: then it
+    /// also knows which octets the buffer has afterwards.
+    pub fn from_octets_unchecked(octets: Octs) -> Self
         requires { header_size ≤ length (Octs.octets octets) }
         ensures { buffer_of result ≡ octets }
     {
@@ -89,7 +92,7 @@ impl<Octs: Octets> Message<Octs> {
     pub fn for_slice_ref(&self) -> Message<&[u8]>
         ensures { message_octets result ≡ message_octets self.now }
     {
-        Message::of_long(self.octets.octets())
+        Message::from_octets_unchecked(self.octets.octets())
     }
 
     /// The octets, as the message stores them.
@@ -265,13 +268,14 @@ impl<Octs: Octets> Message<Octs> {
 impl<Octs: OctetsMut> Message<Octs> {
     ghost use Rattle.dns_octets.specs.Octets.{overwritten};
     ghost use Rattle.dns_code.specs.Header.{header_octets};
-    ghost use Rattle.dns_read.specs.Message.{message_octets};
+    ghost use Rattle.dns_read.specs.Message.{buffer_of, message_octets};
     ghost use Rattle.dns_read.specs.Sections.{additional_count};
 
     /// Overwrites the first 4 octets with `header`. The counts and all later octets stay.
     pub fn set_header(&mut self, header: Header)
         ensures header { take 4 (message_octets self.new) ≡ header_octets header }
         ensures others { drop 4 (message_octets self.new) ≡ drop 4 (message_octets self.old) }
+        ensures loan { Octs.loan (buffer_of self.new) ≡ Octs.loan (buffer_of self.old) }
     {
         self.octets.write_at(0, header.as_slice());
     }
@@ -280,7 +284,9 @@ impl<Octs: OctetsMut> Message<Octs> {
     pub fn overwrite(&mut self, offset: usize, octets: &[u8])
         requires after_header { header_size ≤ offset }
         requires within { offset + length octets.now ≤ length (message_octets self.old) }
-        ensures { message_octets self.new ≡ overwritten (message_octets self.old) offset octets.now }
+        ensures octets { message_octets self.new
+            ≡ overwritten (message_octets self.old) offset octets.now }
+        ensures loan { Octs.loan (buffer_of self.new) ≡ Octs.loan (buffer_of self.old) }
     {
         self.octets.write_at(offset, octets);
     }
@@ -296,6 +302,7 @@ impl<Octs: OctetsMut> Message<Octs> {
         ensures before { take 10 (message_octets self.new) ≡ take 10 (message_octets self.old) }
         ensures after { drop header_size (message_octets self.new)
             ≡ drop header_size (message_octets self.old) }
+        ensures loan { Octs.loan (buffer_of self.new) ≡ Octs.loan (buffer_of self.old) }
     {
         let count = self.header_counts().arcount() - 1;
         self.octets.write_at(10, &count.to_be_bytes());
@@ -317,7 +324,7 @@ impl<Octs: Octets + Clone> Clone for Message<Octs> {
         if octets.octets() != self.as_slice() {
             return Err(AllocError);
         }
-        Ok(Message::of_long(octets))
+        Ok(Message::from_octets_unchecked(octets))
     }
 }
 

@@ -44,6 +44,11 @@ pub record AreWindows (types : List ℕ) (i : ℕ) (marks : List Bool) : Type 0 
   pub whole : length marks ≡ 256
   pub each : (window : ℕ) → window < 256 → is_marked marks window ≡ has_window (take i types) window
 
+-- no type up to index i is in a window after `end`
+pub record EndsWindows (types : List ℕ) (i end : ℕ) : Type 0 where
+  pub within : end ≤ 256
+  pub last : (n : ℕ) → has (take i types) n ≡ true → n < end * 256
+
 -- The bits by marks are those by types.
 
 module _ (p q : ℕ → Bool) (first : ℕ) (same : (k : ℕ) → k < 256 → p k ≡ q (first + k)) where

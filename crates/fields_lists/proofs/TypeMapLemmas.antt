@@ -20,13 +20,6 @@ use Rattle.fields_lists.proofs.BlockLemmas.{block_bytes, map_more, more_blocks, 
 use Rattle.fields_text.proofs.theory.AppendLemmas.{starts_after}
 use Rattle.fields_text.proofs.theory.ByteLemmas.{bytes_front}
 
--- one octet, or type, more
-pub bits_more : (p : ℕ → Bool) (first count : ℕ) → 0 < count → octet_bits p first count ≡ (if p first then 128 else 0) + octet_bits p (first + 1) (count - 1) / 2
-bits_more p first zero some = absurd (omega arith)
-bits_more p first (suc count) some =
-    let same : count ≡ suc count - 1 = omega arith in
-    ap (λ (k : ℕ). (if p first then 128 else 0) + octet_bits p (first + 1) k / 2) same
-
 -- The octets of bits are the first's and the others'.
 pub octets_more : (p : ℕ → Bool) (first count : ℕ) → 0 < count → octets_bits p first count ≡ octet_bits p first 8 ∷ octets_bits p (first + 8) (count - 1)
 octets_more p first zero some = absurd (omega arith)
@@ -248,11 +241,23 @@ ends_of octet (next ∷ octets) trim = ends_of next octets trim
 
 -- blocks of windows
 module _ (p : ℕ → Bool) where
+  within_past : (lo hi n : ℕ) (b : Bool) → p n ≡ b → (p n ≡ true → n < lo) → is_within p lo hi n ≡ false
+  within_past lo hi n false e low = ap (λ (c : Bool). c && (nat_le lo n && nat_lt n hi)) e
+  within_past lo hi n true e low = let small = low e in ap (λ (c : Bool). c && (nat_le lo n && nat_lt n hi)) e ∙ grind (arith, nat_tests)
+
   -- After the last window, 255, there are no more blocks, and nothing is appended.
   pub blocks_none : (window : ℕ) (old : List ℕ) → window ≡ 256 → (blocks : List ℕ) × IsBlocks p window blocks × (old ≡ old ++ blocks)
   blocks_none window old last = (
     [],
     record { bytes = λ i. omega arith; shape = refl; types = λ n. sym (within_none p (window * 256) 65536 n (omega arith)) },
+    sym (append-nil old),
+  )
+
+  -- So it is after the last window with types.
+  pub blocks_past : (window end : ℕ) (old : List ℕ) → end ≤ window → ((n : ℕ) → p n ≡ true → n < end * 256) → (blocks : List ℕ) × IsBlocks p window blocks × (old ≡ old ++ blocks)
+  blocks_past window end old past last = (
+    [],
+    record { bytes = λ i. omega arith; shape = refl; types = λ n. sym (within_past (window * 256) 65536 n (p n) refl (λ is. let small = last n is in omega arith)) },
     sym (append-nil old),
   )
 

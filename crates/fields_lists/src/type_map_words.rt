@@ -1,5 +1,5 @@
 //! Type bit maps (RFC 4034 section 4.2).
-ghost use Rattle.std.specs.Prelude.{◌≡◌, ◌↔◌, ◌≤◌, ◌<◌, ◌+◌, ◌*◌, ◌++◌, ℕ, IsTrue, length};
+ghost use Rattle.std.specs.Prelude.{◌≡◌, ◌↔◌, ◌≤◌, ◌<◌, ◌+◌, ◌*◌, ◌++◌, ℕ, IsTrue, length, true};
 ghost use Rattle.fields_lists.specs.TypeBits.{AppendsBlock, AppendsBlocks, AppendsTypes, HaveWindows, is_marked, octet_bits, octets_bits};
 ghost use Rattle.fields_text.specs.Reading.{ReadsWords};
 ghost use Rattle.fields_lists.specs.TypeMapWords.{AppendsTypeMap, AreTypes, IsTypeMap, has};
@@ -74,6 +74,21 @@ fn windows_of(types: &[u16]) -> [bool; 256]
     windows
 }
 
+/// The window after the last one that has one of these types.
+fn windows_end(types: &[u16]) -> u16
+    ensures within { result ≤ 256 }
+    ensures last { (n : ℕ) → has types.now n ≡ true → n < result * 256 }
+{
+    let mut end = 0;
+    for rtype in types {
+        let window = *rtype / 256;
+        if window >= end {
+            end = window + 1;
+        }
+    }
+    end
+}
+
 /// Appends the block of a window, if one of the types is in it.
 fn push_block(
     map: &mut Vec<u8>,
@@ -103,22 +118,24 @@ fn push_block(
     Ok(())
 }
 
-/// Appends the blocks of the windows from this one on.
+/// Appends the blocks of the windows from this one on, before `end`. No type is in a later one.
 fn push_blocks(
     map: &mut Vec<u8>,
     types: &[u16],
     windows: &[bool; 256],
     window: u16,
+    end: u16,
 ) -> Result<(), TextError>
     requires windows { HaveWindows types.now windows.now }
-    requires within { window ≤ 256 }
+    requires within { end ≤ 256 }
+    requires last { (n : ℕ) → has types.now n ≡ true → n < end * 256 }
     ensures { AppendsBlocks (has types.now) window map.old.items map.new.items result }
 {
-    if window == 256 {
+    if window >= end {
         return Ok(());
     }
     match push_block(map, types, windows, window as u8) {
-        Ok(()) => push_blocks(map, types, windows, window + 1),
+        Ok(()) => push_blocks(map, types, windows, window + 1, end),
         Err(error) => Err(error),
     }
 }
@@ -156,7 +173,7 @@ pub fn push_type_map(map: &mut Vec<u8>, types: &[u16]) -> Result<(), TextError>
     ensures { AppendsTypeMap types.now map.old.items map.new.items result }
 {
     let length = map.len();
-    if let Err(error) = push_blocks(map, types, &windows_of(types), 0) {
+    if let Err(error) = push_blocks(map, types, &windows_of(types), 0, windows_end(types)) {
         map.truncate(length);
         return Err(error);
     }
@@ -172,7 +189,13 @@ pub fn read_type_map(alloc: Global, words: &[&str]) -> Result<Vec<u8>, TextError
         return Err(error);
     }
     let mut map = Vec::new(alloc);
-    match push_blocks(&mut map, &types, &windows_of(&types), 0) {
+    match push_blocks(
+        &mut map,
+        &types,
+        &windows_of(&types),
+        0,
+        windows_end(&types),
+    ) {
         Ok(()) => Ok(map),
         Err(error) => Err(error),
     }

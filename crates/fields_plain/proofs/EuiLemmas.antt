@@ -64,17 +64,6 @@ next_read size octet word octets left after read room pair = record {
       ∙ ap (λ (text : List ℕ). text ++ str_to_ascii_lowercase after) (sym (flat_map-append hyphen_pair octets (octet ∷ [])));
 }
 
--- nothing is left
-read_whole : (size : ℕ) (word octets : List ℕ) → IsRead size word octets [] → length octets ≡ size → IsEuiWord size word octets
-read_whole size word [] read sized = let some = read.some in absurd (omega arith)
-read_whole size word (o ∷ octets) read sized = record {
-  sized = sized;
-  bytes = read.bytes;
-  text =
-      (let whole = read.whole ∙ append-nil (flat_map hyphen_pair (o ∷ octets)) in
-      cc whole);
-}
-
 -- the text of octets after a hyphen
 pub hyphened : (all : List ℕ) → 0 < length all → 0x2d ∷ eui_text all ≡ flat_map hyphen_pair all
 hyphened [] some = absurd (omega arith)

@@ -1,10 +1,10 @@
 use Rattle.std.proofs.Common.{arith}
 use Rattle.fields_lists.specs.TypeMapWords.{has}
-use Rattle.fields_lists.proofs.TypeMapLemmas.{appends_blocks, blocks_none}
+use Rattle.fields_lists.proofs.TypeMapLemmas.{appends_blocks, blocks_past}
 use Rattle.fields_lists.proofs.type_map_words.+push_blocks.Goals as goal
 
-pub returns-then-window-eq256 : goal.returns-then-window-eq256
-returns-then-window-eq256 t c = blocks_none (has c.args.types.now) c.args.window c.args.map.now.items c.if-window-eq256.true
+pub returns-then-window-end : goal.returns-then-window-end
+returns-then-window-end t c = blocks_past (has c.args.types.now) c.args.window c.args.end c.args.map.now.items c.if-window-end.true c.requires.last
 
 pub returns-in-Ok : goal.returns-in-Ok
 returns-in-Ok t c =

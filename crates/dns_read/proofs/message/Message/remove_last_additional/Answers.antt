@@ -11,16 +11,16 @@ pub returns-clause-count : goal.returns-clause-count
 returns-clause-count g c =
     let b = message_octets c.args.self.now in
     let long = c.args.self.now.long in
-    ap (λ d. number_at w16 d 10) c.write_at.ensures
+    ap (λ d. number_at w16 d 10) c.write_at.ensures.octets
     ∙ written_number b c.to_be_bytes.result 10 (c.arcount-count.result - 1) (omega (arith, long)) (ap length c.to_be_bytes.ensures) (omega (arith, c.arcount-count.type_inv)) c.to_be_bytes.ensures
     ∙ ap (λ n. n - 1) (c.arcount-count.ensures ∙ c.header_counts.ensures.arcount)
 
 pub returns-clause-before : goal.returns-clause-before
 returns-clause-before g c =
     let long = c.args.self.now.long in
-    ap (take 10) c.write_at.ensures ∙ kept_before (message_octets c.args.self.now) c.to_be_bytes.result 10 (omega (arith, long))
+    ap (take 10) c.write_at.ensures.octets ∙ kept_before (message_octets c.args.self.now) c.to_be_bytes.result 10 (omega (arith, long))
 
 pub returns-clause-after : goal.returns-clause-after
 returns-clause-after g c =
     let long = c.args.self.now.long in
-    ap (drop header_size) c.write_at.ensures ∙ kept_after (message_octets c.args.self.now) c.to_be_bytes.result 10 header_size (omega (arith, ap length c.to_be_bytes.ensures)) (omega (arith, long))
+    ap (drop header_size) c.write_at.ensures.octets ∙ kept_after (message_octets c.args.self.now) c.to_be_bytes.result 10 header_size (omega (arith, ap length c.to_be_bytes.ensures)) (omega (arith, long))
