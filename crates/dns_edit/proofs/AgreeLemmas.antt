@@ -28,7 +28,8 @@ module _ {b c : List ℕ} {q : ℕ} (same : SameFrom b c q) where
       let e : q + (p - q) ≡ p = omega arith in
       ap (λ n. drop n b) (sym e) ∙ sym (drop-drop (p - q) q b) ∙ ap (drop (p - q)) same.octets ∙ drop-drop (p - q) q c ∙ ap (λ n. drop n c) e
 
-  get_same : (p : ℕ) → q ≤ p → slice_get b p ≡ slice_get c p
+  -- an octet at or after offset q is the same in both
+  pub get_same : (p : ℕ) → q ≤ p → slice_get b p ≡ slice_get c p
   get_same p l =
       let e : p + 0 ≡ p = omega arith in
       ap (slice_get b) (sym e) ∙ sym (get_dropped b p 0) ∙ ap (λ (xs : List ℕ). slice_get xs 0) (dropped p l) ∙ get_dropped c p 0 ∙ ap (slice_get c) e
@@ -40,10 +41,6 @@ module _ {b c : List ℕ} {q : ℕ} (same : SameFrom b c q) where
   -- a 16-bit number at or after offset q is the same in both
   pub number_same16 : (p : ℕ) → q ≤ p → number_at w16 b p ≡ number_at w16 c p
   number_same16 p l = ap (λ (xs : List ℕ). from_be_bytes w16 (take (p + 2 - p) xs)) (dropped p l)
-
-  -- and so is a 32-bit number
-  pub number_same32 : (p : ℕ) → q ≤ p → number_at w32 b p ≡ number_at w32 c p
-  number_same32 p l = ap (λ (xs : List ℕ). from_be_bytes w32 (take (p + 4 - p) xs)) (dropped p l)
 
   -- the encoding of a name at or after offset q has the same end in both
   pub continues_same : {p s r : ℕ} → q ≤ p → NameContinues b p s r → NameContinues c p s r

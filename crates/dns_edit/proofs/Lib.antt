@@ -12,6 +12,7 @@ mod MinLemmas
 pub mod theory
 mod NameStarts
 mod DataLemmas
+mod LaidOutLemmas
 mod OffsetLemmas
 mod FollowLemmas
 mod CutLemmas

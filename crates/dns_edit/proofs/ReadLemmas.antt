@@ -23,9 +23,7 @@ use Rattle.dns_read.specs.QuestionsFrom.{questions_from}
 use Rattle.dns_read.specs.RecordsFrom.{records_from}
 use Rattle.dns_read.proofs.theory.QuestionsFromLemmas.{questions_from_are_read}
 use Rattle.dns_read.proofs.theory.RecordsFromLemmas.{records_from_are_read}
-use Rattle.dns_edit.specs.declared.change.TtlChange.{TtlChange}
-use Rattle.dns_edit.specs.declared.change.TtlChange.TheVariants.{Age, Cap}
-use Rattle.dns_edit.specs.Ttls.{changed, holds_ttl, record_total, with_ttl, with_ttls}
+use Rattle.dns_edit.specs.Ttls.{GivesTtls, holds_ttl, record_total, with_ttl, with_ttls}
 use Rattle.dns_edit.specs.Uses.{Apart, NameApart}
 use Rattle.dns_edit.specs.Edits.{NamesAvoid, QuestionApart, RecordApart}
 use Rattle.dns_edit.specs.Readings.{FitInOctets, ChangedReadsAlike, SectionReadsAlike, with_changed_ttl, with_changed_item}
@@ -55,16 +53,12 @@ below b p all =
     let fourth = each 3 in
     omega (arith, first, second, third, fourth)
 
-changed_small : (change : TtlChange) (n : ℕ) → n < 2 ^ 32 → changed change n < 2 ^ 32
-changed_small (Age by) n l = omega arith
-changed_small (Cap most) n l = omega arith
+written : (change : ℕ → ℕ) → GivesTtls change → (f : ℕ) (b : List ℕ) → f + 4 ≤ length b → number_at w32 b f < 2 ^ 32 → number_at w32 (with_ttl change f b) f ≡ change (number_at w32 b f)
+written change gives f b l small =
+    let n = change (number_at w32 b f) in
+    ap (from_be_bytes w32) (written_there b (to_be_bytes w32 n) f (f + 4) refl l) ∙ from_be_bytes-to_be_bytes_4 n (gives _ small)
 
-written : (change : TtlChange) (f : ℕ) (b : List ℕ) → f + 4 ≤ length b → number_at w32 b f < 2 ^ 32 → number_at w32 (with_ttl change f b) f ≡ changed change (number_at w32 b f)
-written change f b l small =
-    let n = changed change (number_at w32 b f) in
-    ap (from_be_bytes w32) (written_there b (to_be_bytes w32 n) f (f + 4) refl l) ∙ from_be_bytes-to_be_bytes_4 n (changed_small change _ small)
-
-append_ttls : (change : TtlChange) (done left b : List ℕ) → with_ttls change (done ++ left) b ≡ with_ttls change left (with_ttls change done b)
+append_ttls : (change : ℕ → ℕ) (done left b : List ℕ) → with_ttls change (done ++ left) b ≡ with_ttls change left (with_ttls change done b)
 append_ttls change [] left b = refl
 append_ttls change (f ∷ done) left b = append_ttls change done left (with_ttl change f b)
 
@@ -102,9 +96,9 @@ module _ {fields b c : List ℕ} (s : SameApart fields b c) where
       record { name_end = r; name_ends = ends_same owner t.name_ends; end = omega arith; within = omega arith }
 
 -- the TTL of a field after the change
-held_value : (change : TtlChange) (b : List ℕ) {fields : List ℕ} (f : ℕ) → FitInOctets b → Held b fields f
-    → number_at w32 (with_ttls change fields b) f ≡ changed change (number_at w32 b f)
-held_value change b {fields = fields} f bytes h =
+held_value : (change : ℕ → ℕ) → GivesTtls change → (b : List ℕ) {fields : List ℕ} (f : ℕ) → FitInOctets b → Held b fields f
+    → number_at w32 (with_ttls change fields b) f ≡ change (number_at w32 b f)
+held_value change gives b {fields = fields} f bytes h =
     let here = h.here in
     let c1 = with_ttls change h.done b in
     let c2 = with_ttl change f c1 in
@@ -118,15 +112,15 @@ held_value change b {fields = fields} f bytes h =
     let last : number_at w32 c2 f ≡ number_at w32 (with_ttls change h.left c2) f = number32_same three f (λ k d less. inr (h.after k d less)) in
     ap (λ (fields : List ℕ). number_at w32 (with_ttls change fields b) f) h.whole
     ∙ ap (λ (c : List ℕ). number_at w32 c f) (append_ttls change h.done (f ∷ h.left) b)
-    ∙ sym last ∙ written change f c1 fits small ∙ ap (changed change) (sym first)
+    ∙ sym last ∙ written change gives f c1 fits small ∙ ap change (sym first)
 
 -- the TTL that is read after the change
-ttl_value : (change : TtlChange) (b fields : List ℕ) (f : ℕ) (held : Bool) → FitInOctets b → InOctets b fields → TtlPlace b fields held f
-    → cond held (changed change (number_at w32 b f)) (number_at w32 b f) ≡ number_at w32 (with_ttls change fields b) f
-ttl_value change b fields f held bytes within (inl (e, h)) = rw e (sym (held_value change b f bytes h))
-ttl_value change b fields f held bytes within (inr (e, a)) = rw e (number32_same (with_ttls_same change fields b within) f a)
+ttl_value : (change : ℕ → ℕ) → GivesTtls change → (b fields : List ℕ) (f : ℕ) (held : Bool) → FitInOctets b → InOctets b fields → TtlPlace b fields held f
+    → cond held (change (number_at w32 b f)) (number_at w32 b f) ≡ number_at w32 (with_ttls change fields b) f
+ttl_value change gives b fields f held bytes within (inl (e, h)) = rw e (sym (held_value change gives b f bytes h))
+ttl_value change gives b fields f held bytes within (inr (e, a)) = rw e (number32_same (with_ttls_same change fields b within) f a)
 
-module _ (change : TtlChange) (b fields : List ℕ) (bytes : FitInOctets b) (within : InOctets b fields) where
+module _ (change : ℕ → ℕ) (gives : GivesTtls change) (b fields : List ℕ) (bytes : FitInOctets b) (within : InOctets b fields) where
   abbrev after : List ℕ
   after = with_ttls change fields b
 
@@ -160,7 +154,7 @@ module _ (change : TtlChange) (b fields : List ℕ) (bytes : FitInOctets b) (wit
         owner = name_same same w reads.owner;
         rtype = is ∙ rtype;
         class = reads.class ∙ ap (λ r. number_at w16 b (r + 2)) e ∙ class;
-        ttl = (λ i. cond (holds_ttl (is i)) (changed change (ttl i)) (ttl i)) ∙ ttl_value change b fields (r + 4) (holds_ttl (number_at w16 b r)) bytes within step.ttl;
+        ttl = (λ i. cond (holds_ttl (is i)) (change (ttl i)) (ttl i)) ∙ ttl_value change gives b fields (r + 4) (holds_ttl (number_at w16 b r)) bytes within step.ttl;
         rdata_start = reads.rdata_start ∙ ap (λ r. r + 10) e;
         rdata_end = reads.rdata_end;
       }
@@ -260,7 +254,7 @@ split_after {b = b} {fields = fields} k m {n = n} {p = p} e x (more {n = j} {q =
     let step : Step b fields (n - 1) p q = split_step b x (omega arith) h in
     split_after j m (omega arith) step.next rest
 
-module _ (change : TtlChange) (b fields : List ℕ) (bytes : FitInOctets b) (avoid : NamesAvoid b fields) where
+module _ (change : ℕ → ℕ) (gives : GivesTtls change) (b fields : List ℕ) (bytes : FitInOctets b) (avoid : NamesAvoid b fields) where
   abbrev c : List ℕ
   c = with_ttls change fields b
 
@@ -271,14 +265,14 @@ module _ (change : TtlChange) (b fields : List ℕ) (bytes : FitInOctets b) (avo
   later = fields_after b avoid.ttls
 
   low : header_size ≤ avoid.start
-  low = questions_rise change b fields bytes within avoid.questions
+  low = questions_rise change gives b fields bytes within avoid.questions
 
   header_same : take header_size b ≡ take header_size c
-  header_same = part_same (same change b fields bytes within) 0 header_size (apart_after fields avoid.start 0 (0 + header_size) (let from = low in omega arith) later)
+  header_same = part_same (same change gives b fields bytes within) 0 header_size (apart_after fields avoid.start 0 (0 + header_size) (let from = low in omega arith) later)
 
   -- the counts of the sections
   count_same : (p : ℕ) → p + 2 ≤ header_size → number_at w16 b p ≡ number_at w16 c p
-  count_same p l = number16_same (same change b fields bytes within) p (apart_after fields avoid.start p (p + 2) (let from = low in omega arith) later)
+  count_same p l = number16_same (same change gives b fields bytes within) p (apart_after fields avoid.start p (p + 2) (let from = low in omega arith) later)
 
   abbrev Parts : ℕ → ℕ → Type 0
   Parts p q = Skipped (RecordApart b fields) (answer_count b) avoid.start p × Skipped (RecordApart b fields) (authority_count b) p q
@@ -304,39 +298,39 @@ module _ (change : TtlChange) (b fields : List ℕ) (bytes : FitInOctets b) (avo
     split_second = split_after (authority_count b) (additional_count b) refl split_first (skip x.1)
 
     answers : AnswersStart c avoid.start
-    answers = subst (λ n. Skipped (SkipsQuestion c) n header_size avoid.start) (count_same 4 (omega arith)) (questions_skip_same change b fields bytes within later avoid.questions)
+    answers = subst (λ n. Skipped (SkipsQuestion c) n header_size avoid.start) (count_same 4 (omega arith)) (questions_skip_same change gives b fields bytes within later avoid.questions)
 
     authorities : AuthoritiesStart c p
     authorities = (
       avoid.start,
       answers,
-      subst (λ n. Skipped (SkipsRecord c) n avoid.start p) (count_same 6 (omega arith)) (records_skip_same change b fields bytes within (omega arith) split (skip x.0)),
+      subst (λ n. Skipped (SkipsRecord c) n avoid.start p) (count_same 6 (omega arith)) (records_skip_same change gives b fields bytes within (omega arith) split (skip x.0)),
     )
 
     additionals : AdditionalsStart c q
     additionals = (
       p,
       authorities,
-      subst (λ n. Skipped (SkipsRecord c) n p q) (count_same 8 (omega arith)) (records_skip_same change b fields bytes within (omega arith) split_first (skip x.1)),
+      subst (λ n. Skipped (SkipsRecord c) n p q) (count_same 8 (omega arith)) (records_skip_same change gives b fields bytes within (omega arith) split_first (skip x.1)),
     )
 
     asked : AnswersStart b avoid.start
     asked = skipped_by (λ p q h. h.0) avoid.questions
 
     sections : (which : Section) → (p : ℕ) × SectionReadsAlike change b c which p
-    sections Answer = (avoid.start, record { before = asked; after = answers; records = records_same change b fields bytes within (omega arith) split x.0 })
-    sections Authority = (p, record { before = (avoid.start, asked, skip x.0); after = authorities; records = records_same change b fields bytes within (omega arith) split_first x.1 })
+    sections Answer = (avoid.start, record { before = asked; after = answers; records = records_same change gives b fields bytes within (omega arith) split x.0 })
+    sections Authority = (p, record { before = (avoid.start, asked, skip x.0); after = authorities; records = records_same change gives b fields bytes within (omega arith) split_first x.1 })
     sections Additional = (
       q,
-      record { before = (p, (avoid.start, asked, skip x.0), skip x.1); after = additionals; records = records_same change b fields bytes within (omega arith) split_second x.2 },
+      record { before = (p, (avoid.start, asked, skip x.0), skip x.1); after = additionals; records = records_same change gives b fields bytes within (omega arith) split_second x.2 },
     )
 
 -- A message whose TTLs were changed reads as before, but for these TTLs.
 pub changed_reads_alike : ChangedReadsAlike
-changed_reads_alike change b fields bytes avoid =
-    let x = parts change b fields bytes avoid in
+changed_reads_alike change b fields gives bytes avoid =
+    let x = parts change gives b fields bytes avoid in
     record {
-      header = sym (header_same change b fields bytes avoid);
-      questions = questions_same change b fields bytes (within change b fields bytes avoid) (later change b fields bytes avoid) avoid.questions;
-      sections = sections change b fields bytes avoid x.0 x.1 x.2;
+      header = sym (header_same change gives b fields bytes avoid);
+      questions = questions_same change gives b fields bytes (within change gives b fields bytes avoid) (later change gives b fields bytes avoid) avoid.questions;
+      sections = sections change gives b fields bytes avoid x.0 x.1 x.2;
     }

@@ -11,8 +11,7 @@ use Rattle.dns_name.specs.Unique.{label_head}
 use Rattle.dns_name.specs.declared.head.Head.TheVariants.{Root, Label, Pointer}
 use Rattle.dns_name.proofs.theory.HeadLemmas.{label_there, root_there, root_begins, label_begins, same_head}
 use Rattle.dns_wire.proofs.theory.Stability.{same_part, get_take, get_dropped}
-use Rattle.dns_edit.specs.declared.change.TtlChange.{TtlChange}
-use Rattle.dns_edit.specs.Ttls.{changed, with_ttl, with_ttls}
+use Rattle.dns_edit.specs.Ttls.{with_ttl, with_ttls}
 use Rattle.dns_edit.specs.Uses.{Apart, NameApart}
 use Rattle.dns_edit.specs.Readings.{ReadsNameAlike, NamesReadAlike}
 use Rattle.dns_edit.proofs.AgreeLemmas.{as_long}
@@ -136,17 +135,17 @@ pub four : (n : ℕ) → length (to_be_bytes w32 n) ≡ 4
 four n = refl
 
 -- Writing one TTL changes its field alone.
-pub with_ttl_same : (change : TtlChange) (f : ℕ) (b : List ℕ) → f + 4 ≤ length b → SameApart (f ∷ []) b (with_ttl change f b)
+pub with_ttl_same : (change : ℕ → ℕ) (f : ℕ) (b : List ℕ) → f + 4 ≤ length b → SameApart (f ∷ []) b (with_ttl change f b)
 with_ttl_same change f b l =
-    let xs = to_be_bytes w32 (changed change (number_at w32 b f)) in
-    let n = four (changed change (number_at w32 b f)) in
+    let xs = to_be_bytes w32 (change (number_at w32 b f)) in
+    let n = four (change (number_at w32 b f)) in
     record {
       long = as_long b xs f (omega arith);
       same = λ k a. outside b xs f (f + 4) k (omega arith) l (All-head (λ f. (f + 4 ≤ k) ⊎ (k + 1 ≤ f)) f [] a);
     }
 
 -- Writing the TTLs changes their fields alone.
-pub with_ttls_same : (change : TtlChange) (fields b : List ℕ) → InOctets b fields → SameApart fields b (with_ttls change fields b)
+pub with_ttls_same : (change : ℕ → ℕ) (fields b : List ℕ) → InOctets b fields → SameApart fields b (with_ttls change fields b)
 with_ttls_same change [] b within = record { long = refl; same = λ k a. refl }
 with_ttls_same change (f ∷ fields) b within =
     let first = with_ttl_same change f b (All-head (λ f. f + 4 ≤ length b) f fields within) in

@@ -10,7 +10,6 @@ use Rattle.dns_read.specs.RecordsFrom.{records_from}
 use Rattle.dns_read.specs.Sections.{question_count, record_count, StartsAt}
 use Rattle.dns_read.specs.declared.section.Section.{Section}
 use Rattle.dns_edit.specs.Acceptance.{IsRegular}
-use Rattle.dns_edit.specs.declared.change.TtlChange.{TtlChange}
 use Rattle.dns_edit.specs.Case.{AsksFor}
 use Rattle.dns_edit.specs.Edits.{ChangesTtls}
 use Rattle.dns_edit.specs.Offsets.{RdataNameAt}
@@ -74,4 +73,4 @@ CaseStaysRegular = (b : List ℕ) (name : Labels) → IsRegular b → IsName nam
 
 -- If the TTLs of a regular message change, it stays regular.
 abbrev pub TtlsStayRegular : Type 0
-TtlsStayRegular = (change : TtlChange) (b c : List ℕ) → IsRegular b → ChangesTtls change b c → IsRegular c
+TtlsStayRegular = (change : ℕ → ℕ) (b c : List ℕ) → IsRegular b → ChangesTtls change b c → IsRegular c

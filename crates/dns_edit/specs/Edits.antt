@@ -8,8 +8,7 @@ use Rattle.dns_item.specs.Items.{SkipsRecord, RecordSkipFaultAt}
 use Rattle.dns_name.specs.Names.{Fault}
 use Rattle.dns_read.specs.Reading.{Skipped, StopsSkipping}
 use Rattle.dns_read.specs.Sections.{question_count, AnswersStart, AnswersFault}
-use Rattle.dns_edit.specs.declared.change.TtlChange.{TtlChange}
-use Rattle.dns_edit.specs.Ttls.{TtlFields, record_total, with_ttls}
+use Rattle.dns_edit.specs.Ttls.{TtlFields, WritesTtls, record_total, with_ttls}
 use Rattle.dns_edit.specs.Uses.{NameApart}
 use Rattle.dns_edit.specs.Rdata.{DataApart}
 
@@ -30,9 +29,13 @@ pub record NamesAvoid (b fields : List ℕ) : Type 0 where
   pub records : Skipped (RecordApart b fields) (record_total b) start end
   pub ttls : TtlFields b (record_total b) start fields
 
--- Only the TTLs of the message `b` are changed, and no name of the message uses an octet of them.
-abbrev pub ChangesTtls : TtlChange → List ℕ → List ℕ → Type 0
+-- Only the TTLs of the message `b` are changed, by a function, and no name of the message uses an octet of them.
+abbrev pub ChangesTtls : (ℕ → ℕ) → List ℕ → List ℕ → Type 0
 ChangesTtls change b c = (fields : List ℕ) × NamesAvoid b fields × (c ≡ with_ttls change fields b)
+
+-- Only the TTLs of the message `b` are replaced, each by one that is given for it, and no name of the message uses an octet of them.
+abbrev pub MapsTtls : (ℕ → ℕ → Type 0) → List ℕ → List ℕ → Type 0
+MapsTtls Gives b c = (fields : List ℕ) × NamesAvoid b fields × WritesTtls Gives fields b c
 
 -- The lesser of a number and another, if there is another.
 abbrev pub least_with : ℕ → Option ℕ → Option ℕ

@@ -2,14 +2,14 @@ ghost use Rattle.std.specs.Prelude.{◌≡◌, ◌≤◌, ℕ, List, [], IfErr, 
 ghost use Rattle.dns_code.specs.HeaderSection.{header_size};
 ghost use Rattle.dns_item.specs.Items.{SkipsRecord};
 ghost use Rattle.dns_name.specs.Names.{fault_of};
-ghost use Rattle.dns_read.specs.Message.{message_octets};
+ghost use Rattle.dns_read.specs.Message.{buffer_of, message_octets};
 ghost use Rattle.dns_read.specs.Reading.{Skipped};
 ghost use Rattle.dns_read.specs.Sections.{question_count};
 ghost use Rattle.dns_edit.specs.Acceptance.{AcceptsFrom, AcceptsTtls, RefusesTtls};
-ghost use Rattle.dns_edit.specs.Edits.{ChangesTtls, IsLeastTtl, RecordsFault};
+ghost use Rattle.dns_edit.specs.Edits.{ChangesTtls, IsLeastTtl, MapsTtls, RecordsFault};
 ghost use Rattle.dns_edit.specs.Marks.{MarksLabels};
-ghost use Rattle.dns_edit.specs.Readings.{FitInOctets, ReadsAlike};
-ghost use Rattle.dns_edit.specs.Ttls.{TtlFields, WritesTtl, record_total, with_ttls};
+ghost use Rattle.dns_edit.specs.Readings.{FitInOctets, ReadsAlike, ReadsMapped};
+ghost use Rattle.dns_edit.specs.Ttls.{TtlFields, WritesTtl, WritesTtls, changed, record_total};
 ghost use Rattle.dns_edit.specs.declared.change.TtlChange.TheVariants.{Age, Cap};
 
 use crate::change::{TtlChange, has_ttl};
@@ -47,31 +47,50 @@ fn ttl_of(seconds: Option<u32>) -> Option<Ttl>
 
 /// Lowers each TTL by `seconds`, but not below 0, as [`change_ttls`] does.
 pub fn age_ttls<Octs: OctetsMut>(message: &mut Message<Octs>, seconds: u32) -> Result<(), EditError>
-    ensures reads { OnOk result (ReadsAlike (Age seconds) (message_octets message.old)
+    ensures reads { OnOk result (ReadsAlike (changed (Age seconds)) (message_octets message.old)
         (message_octets message.new)) }
-    ensures changes { OnOk result (ChangesTtls (Age seconds) (message_octets message.old)
+    ensures changes { OnOk result (ChangesTtls (changed (Age seconds)) (message_octets message.old)
         (message_octets message.new)) }
     ensures accepted { OnOk result (AcceptsTtls (message_octets message.old)) }
     ensures refused { IfErr result (RefusesTtls (message_octets message.old)) }
     ensures kept { OnErr result (message_octets message.new ≡ message_octets message.old) }
+    ensures loan { Octs.loan (buffer_of message.new) ≡ Octs.loan (buffer_of message.old) }
 {
     change_ttls(message, TtlChange::Age(seconds))
 }
 
 /// Lowers each TTL of more than `most` to `most`, as [`change_ttls`] does.
 pub fn cap_ttls<Octs: OctetsMut>(message: &mut Message<Octs>, most: Ttl) -> Result<(), EditError>
-    ensures reads { OnOk result (ReadsAlike (Cap most) (message_octets message.old)
+    ensures reads { OnOk result (ReadsAlike (changed (Cap most)) (message_octets message.old)
         (message_octets message.new)) }
-    ensures changes { OnOk result (ChangesTtls (Cap most) (message_octets message.old)
+    ensures changes { OnOk result (ChangesTtls (changed (Cap most)) (message_octets message.old)
         (message_octets message.new)) }
     ensures accepted { OnOk result (AcceptsTtls (message_octets message.old)) }
     ensures refused { IfErr result (RefusesTtls (message_octets message.old)) }
     ensures kept { OnErr result (message_octets message.new ≡ message_octets message.old) }
+    ensures loan { Octs.loan (buffer_of message.new) ≡ Octs.loan (buffer_of message.old) }
 {
     change_ttls(message, TtlChange::Cap(most))
 }
 
-/// Changes the TTL of each record in place, but for OPT, TSIG, TKEY and SIG. No other octet
+/// Changes the TTL of each record in place, as [`map_ttls`] does.
+pub fn change_ttls<Octs: OctetsMut>(
+    message: &mut Message<Octs>,
+    change: TtlChange,
+) -> Result<(), EditError>
+    ensures reads { OnOk result (ReadsAlike (changed change) (message_octets message.old)
+        (message_octets message.new)) }
+    ensures changes { OnOk result (ChangesTtls (changed change) (message_octets message.old)
+        (message_octets message.new)) }
+    ensures accepted { OnOk result (AcceptsTtls (message_octets message.old)) }
+    ensures refused { IfErr result (RefusesTtls (message_octets message.old)) }
+    ensures kept { OnErr result (message_octets message.new ≡ message_octets message.old) }
+    ensures loan { Octs.loan (buffer_of message.new) ≡ Octs.loan (buffer_of message.old) }
+{
+    map_ttls(message, |ttl| change.of(ttl))
+}
+
+/// Makes each TTL what `change` returns for it, but for OPT, TSIG, TKEY and SIG. No other octet
 /// changes.
 ///
 /// The message reads as before but for the TTLs. It is read twice; no pointer is followed, and
@@ -80,23 +99,25 @@ pub fn cap_ttls<Octs: OctetsMut>(message: &mut Message<Octs>, most: Ttl) -> Resu
 /// Returns the error of the first question or record that is refused: `Parse` if it or a name in
 /// its RDATA can't be skipped, or these names run past the RDATA; `Pointer` if a pointer of its
 /// names leads to anything but a label of an earlier name (RFC 1035 section 4.1.4). The message
-/// then stays as it is.
-pub fn change_ttls<Octs: OctetsMut>(
+/// then stays as it is, and `change` isn't called.
+pub fn map_ttls<Octs: OctetsMut, F: Fn(Ttl) -> Ttl>(
     message: &mut Message<Octs>,
-    change: TtlChange,
+    change: F,
 ) -> Result<(), EditError>
-    ensures reads { OnOk result (ReadsAlike change (message_octets message.old)
+    requires { F.IsAlwaysCallable change }
+    ensures maps { OnOk result (MapsTtls (F.post change) (message_octets message.old)
         (message_octets message.new)) }
-    ensures changes { OnOk result (ChangesTtls change (message_octets message.old)
+    ensures reads { OnOk result (ReadsMapped (F.post change) (message_octets message.old)
         (message_octets message.new)) }
     ensures accepted { OnOk result (AcceptsTtls (message_octets message.old)) }
     ensures refused { IfErr result (RefusesTtls (message_octets message.old)) }
     ensures kept { OnErr result (message_octets message.new ≡ message_octets message.old) }
+    ensures loan { Octs.loan (buffer_of message.new) ≡ Octs.loan (buffer_of message.old) }
 {
     are_octets(message.as_slice());
     let start = check(message.as_slice())?;
     let count = record_count(message.as_slice());
-    write_ttls(message, start, count, change);
+    write_ttls(message, start, count, &change);
     Ok(())
 }
 
@@ -146,40 +167,45 @@ fn check_with(octets: &[u8], marks: &mut [u8]) -> Result<usize, EditError>
 }
 
 /// Changes the TTLs of `count` records from offset `start` on, which are known to be there.
-fn write_ttls<Octs: OctetsMut>(
+fn write_ttls<Octs: OctetsMut, F: Fn(Ttl) -> Ttl>(
     message: &mut Message<Octs>,
     start: usize,
     count: u32,
-    change: TtlChange,
+    change: &F,
 )
+    requires callable { F.IsAlwaysCallable change.now }
     requires after_header { header_size ≤ start }
     requires skips { (end : ℕ)
         × Skipped (SkipsRecord (message_octets message.old)) count start end }
-    ensures { (fields : List ℕ) → TtlFields (message_octets message.old) count start fields
-        → message_octets message.new ≡ with_ttls change fields (message_octets message.old) }
+    ensures writes { (fields : List ℕ) → TtlFields (message_octets message.old) count start fields
+        → WritesTtls (F.post change.now) fields (message_octets message.old)
+        (message_octets message.new) }
+    ensures loan { Octs.loan (buffer_of message.new) ≡ Octs.loan (buffer_of message.old) }
 {
     let mut pos = start;
     for _record in 0..count {
-        pos = write_ttl(message, pos, &change);
+        pos = write_ttl(message, pos, change);
     }
 }
 
 /// Changes the TTL of the record at offset `start`, which is known to be there. Returns its end.
-fn write_ttl<Octs: OctetsMut>(
+fn write_ttl<Octs: OctetsMut, F: Fn(Ttl) -> Ttl>(
     message: &mut Message<Octs>,
     start: usize,
-    change: &TtlChange,
+    change: &F,
 ) -> usize
+    requires callable { F.IsAlwaysCallable change.now }
     requires after_header { header_size ≤ start }
     requires skips { (end : ℕ) × SkipsRecord (message_octets message.old) start end }
-    ensures writes { WritesTtl change.now (message_octets message.old)
+    ensures writes { WritesTtl (F.post change.now) (message_octets message.old)
         (message_octets message.new) start result }
     ensures later { start ≤ result }
+    ensures loan { Octs.loan (buffer_of message.new) ≡ Octs.loan (buffer_of message.old) }
 {
     match span_at(message.as_slice(), start) {
         Ok(span) => {
             if has_ttl(span.rtype) {
-                let ttl = change.of(Ttl::from_secs(span.ttl));
+                let ttl = change(Ttl::from_secs(span.ttl));
                 message.overwrite(span.fields + 4, &ttl.as_secs().to_be_bytes());
             }
             span.end

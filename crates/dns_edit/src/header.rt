@@ -1,7 +1,7 @@
 //! The header of a message, changed in place.
 ghost use Rattle.std.specs.Prelude.{◌≡◌, take, drop};
 ghost use Rattle.dns_code.specs.Header.{fields_in};
-ghost use Rattle.dns_read.specs.Message.{message_octets};
+ghost use Rattle.dns_read.specs.Message.{buffer_of, message_octets};
 
 use dns_code::Rcode;
 use dns_octets::OctetsMut;
@@ -12,6 +12,7 @@ pub fn set_id<Octs: OctetsMut>(message: &mut Message<Octs>, id: u16)
     ensures header { fields_in (take 4 (message_octets message.new))
         ≡ record (fields_in (take 4 (message_octets message.old))) { id = id } }
     ensures others { drop 4 (message_octets message.new) ≡ drop 4 (message_octets message.old) }
+    ensures loan { Octs.loan (buffer_of message.new) ≡ Octs.loan (buffer_of message.old) }
 {
     let mut header = message.header();
     header.set_id(id);
@@ -24,6 +25,7 @@ pub fn set_rcode<Octs: OctetsMut>(message: &mut Message<Octs>, rcode: Rcode)
     ensures header { fields_in (take 4 (message_octets message.new))
         ≡ record (fields_in (take 4 (message_octets message.old))) { rcode = rcode } }
     ensures others { drop 4 (message_octets message.new) ≡ drop 4 (message_octets message.old) }
+    ensures loan { Octs.loan (buffer_of message.new) ≡ Octs.loan (buffer_of message.old) }
 {
     let mut header = message.header();
     header.set_rcode(rcode);

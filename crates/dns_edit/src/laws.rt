@@ -8,7 +8,7 @@ ghost use Rattle.dns_edit.specs.Fields.{NamesAreFields, NamesAreOfFields, NamesB
 ghost use Rattle.dns_edit.specs.Following.{NamesFollowFew};
 ghost use Rattle.dns_edit.specs.Opt.{RemovedRcode, RemovedReadsAlike, RemovedStaysRegular};
 ghost use Rattle.dns_edit.specs.Options.{ReplacedReadsAlike, ReplacedReadsBack, ReplacedStaysRegular};
-ghost use Rattle.dns_edit.specs.Readings.{ChangedReadsAlike, NamesReadAlike, RdataReadsAlike};
+ghost use Rattle.dns_edit.specs.Readings.{ChangedReadsAlike, NamesReadAlike, RdataLaidOutAlike, RdataReadsAlike};
 
 use crate::change::TtlChange;
 use crate::error::EditError;
@@ -28,6 +28,12 @@ pub fn changed_reads_alike()
 /// same.
 pub fn rdata_reads_alike()
     ensures { RdataReadsAlike }
+{}
+
+/// The RDATA of each record of such a message is that of its type's fields (`fields_table`) after
+/// the change exactly if it was before, with the same names, strings and numbers.
+pub fn rdata_laid_out_alike()
+    ensures { RdataLaidOutAlike }
 {}
 
 /// If a regular message and another differ in the header alone, as after [`crate::set_id`], their

@@ -24,7 +24,7 @@ mod span;
 mod walk;
 
 pub use change::TtlChange;
-pub use edit::{age_ttls, cap_ttls, change_ttls, min_ttl};
+pub use edit::{age_ttls, cap_ttls, change_ttls, map_ttls, min_ttl};
 pub use end::records_end;
 pub use error::EditError;
 pub use header::{set_id, set_rcode};

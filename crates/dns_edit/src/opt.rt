@@ -1,5 +1,5 @@
-ghost use Rattle.std.specs.Prelude.{◌≤◌, length};
-ghost use Rattle.dns_read.specs.Message.{message_octets};
+ghost use Rattle.std.specs.Prelude.{◌≡◌, ◌≤◌, length};
+ghost use Rattle.dns_read.specs.Message.{buffer_of, message_octets};
 ghost use Rattle.dns_edit.specs.Opt.{FindsFirstOpt, FindsOpt, RemovesOpt};
 
 use crate::error::EditError;
@@ -18,7 +18,8 @@ use dns_read::Message;
 /// Returns `NotLast` if a record follows the first OPT record, and `Parse` if an entry before it
 /// can't be skipped. The message then stays as it is.
 pub fn remove_opt<Octs: OctetsMut>(message: &mut Message<Octs>) -> Result<bool, EditError>
-    ensures { RemovesOpt (message_octets message.old) (message_octets message.new) result }
+    ensures removes { RemovesOpt (message_octets message.old) (message_octets message.new) result }
+    ensures loan { Octs.loan (buffer_of message.new) ≡ Octs.loan (buffer_of message.old) }
 {
     let count = message.header_counts().arcount();
     match find_opt(message) {

@@ -1,7 +1,7 @@
 ghost use Rattle.std.specs.Prelude.{◌≡◌, ◌+◌, ◌≤◌, length};
 ghost use Rattle.std.specs.Int.{w16};
 ghost use Rattle.dns_name.specs.Parsers.{number_at};
-ghost use Rattle.dns_read.specs.Message.{message_octets};
+ghost use Rattle.dns_read.specs.Message.{buffer_of, message_octets};
 ghost use Rattle.dns_edit.specs.Options.{FindsOptionIn, FindsOption, ReplacesOption, ReadsOption};
 
 use crate::error::EditError;
@@ -23,8 +23,9 @@ pub fn replace_option<Octs: OctetsMut>(
     code: OptionCode,
     octets: &[u8],
 ) -> Result<bool, EditError>
-    ensures { ReplacesOption code octets.now (message_octets message.old)
+    ensures replaces { ReplacesOption code octets.now (message_octets message.old)
         (message_octets message.new) result }
+    ensures loan { Octs.loan (buffer_of message.new) ≡ Octs.loan (buffer_of message.old) }
 {
     match find_option(message, code) {
         Err(error) => Err(EditError::Parse(error)),

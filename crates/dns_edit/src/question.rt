@@ -3,7 +3,7 @@ ghost use Rattle.dns_code.specs.HeaderSection.{header_size};
 ghost use Rattle.dns_name.specs.NameReading.{name_labels};
 ghost use Rattle.dns_name.specs.Names.{NameAt, uncompressed};
 ghost use Rattle.dns_octets.specs.Octets.{overwritten};
-ghost use Rattle.dns_read.specs.Message.{message_octets};
+ghost use Rattle.dns_read.specs.Message.{buffer_of, message_octets};
 ghost use Rattle.dns_edit.specs.Case.{AsksFor};
 
 use crate::edit::questions_in;
@@ -37,6 +37,7 @@ pub fn set_question_case<Octs: OctetsMut, N: Octets>(
     ensures reads { OnOk result (NameAt (message_octets message.new) header_size
         (name_labels name.now)) }
     ensures kept { OnErr result (message_octets message.new ≡ message_octets message.old) }
+    ensures loan { Octs.loan (buffer_of message.new) ≡ Octs.loan (buffer_of message.old) }
 {
     let octets = name.as_slice();
     if !asks_for(message.as_slice(), octets) {

@@ -4,19 +4,19 @@ use Rattle.dns_read.specs.Sections.{additional_count}
 use Rattle.dns_edit.proofs.OptLemmas.{not_last, removed}
 use Rattle.dns_edit.proofs.opt.remove_opt.Goals as goal
 
-pub returns-in-Err : goal.returns-in-Err
-returns-in-Err g c = (c.in-Err.ensures, refl)
+pub returns-in-Err-clause-removes : goal.returns-in-Err-clause-removes
+returns-in-Err-clause-removes g c = (c.in-Err.ensures, refl)
 
-pub returns-in-Ok-None : goal.returns-in-Ok-None
-returns-in-Ok-None g c = let found = rw c.in-Ok-None.field-0-is at c.in-Ok-None.ensures in (found, refl)
+pub returns-in-Ok-None-clause-removes : goal.returns-in-Ok-None-clause-removes
+returns-in-Ok-None-clause-removes g c = let found = rw c.in-Ok-None.field-0-is at c.in-Ok-None.ensures in (found, refl)
 
 pub overflow_add-before : goal.overflow_add-before
 overflow_add-before g c =
     let found = rw c.in-Ok-Some.field-0-is at c.in-Ok-Some.ensures in
     omega (arith, found.3, c.arcount-count.ensures, c.header_counts.ensures.arcount)
 
-pub returns-then-before-count : goal.returns-then-before-count
-returns-then-before-count g c =
+pub returns-then-before-count-clause-removes : goal.returns-then-before-count-clause-removes
+returns-then-before-count-clause-removes g c =
     let b = message_octets c.args.message.now in
     let found = rw c.in-Ok-Some.field-0-is at c.in-Ok-Some.ensures in
     let is : c.arcount-count.result ≡ additional_count b = c.arcount-count.ensures ∙ c.header_counts.ensures.arcount in
@@ -27,8 +27,8 @@ remove_last_additional-requires g c =
     let found = rw c.in-Ok-Some.field-0-is at c.in-Ok-Some.ensures in
     omega (arith, found.3)
 
-pub returns-else-before-count : goal.returns-else-before-count
-returns-else-before-count g c =
+pub returns-else-before-count-clause-removes : goal.returns-else-before-count-clause-removes
+returns-else-before-count-clause-removes g c =
     let b = message_octets c.args.message.now in
     let found = rw c.in-Ok-Some.field-0-is at c.in-Ok-Some.ensures in
     let is : c.arcount-count.result ≡ additional_count b = c.arcount-count.ensures ∙ c.header_counts.ensures.arcount in

@@ -4,14 +4,14 @@ use Rattle.dns_edit.specs.Options.{OptionAt}
 use Rattle.dns_edit.proofs.OptionLemmas.{data_within}
 use Rattle.dns_edit.proofs.options.replace_option.Goals as goal
 
-pub returns-in-Err : goal.returns-in-Err
-returns-in-Err g c = (c.in-Err.ensures, refl)
+pub returns-in-Err-clause-replaces : goal.returns-in-Err-clause-replaces
+returns-in-Err-clause-replaces g c = (c.in-Err.ensures, refl)
 
-pub returns-in-Ok-None : goal.returns-in-Ok-None
-returns-in-Ok-None g c = let found = rw c.in-Ok-None.field-0-is at c.in-Ok-None.ensures in (found, refl)
+pub returns-in-Ok-None-clause-replaces : goal.returns-in-Ok-None-clause-replaces
+returns-in-Ok-None-clause-replaces g c = let found = rw c.in-Ok-None.field-0-is at c.in-Ok-None.ensures in (found, refl)
 
-pub returns-then-len-octets : goal.returns-then-len-octets
-returns-then-len-octets g c =
+pub returns-then-len-octets-clause-replaces : goal.returns-then-len-octets-clause-replaces
+returns-then-len-octets-clause-replaces g c =
     let found = rw c.in-Ok-Some.field-0-is at c.in-Ok-Some.ensures in
     ((c.in-Ok-Some.start, c.in-Ok-Some.len, found, c.if-len-octets.true), refl)
 
@@ -25,8 +25,8 @@ overwrite-requires-clause-within g c =
     let found = rw c.in-Ok-Some.field-0-is at c.in-Ok-Some.ensures in
     omega (arith, (data_within found).1, c.if-len-octets.false)
 
-pub returns-else-len-octets : goal.returns-else-len-octets
-returns-else-len-octets g c =
+pub returns-else-len-octets-clause-replaces : goal.returns-else-len-octets-clause-replaces
+returns-else-len-octets-clause-replaces g c =
     let b = message_octets c.args.message.now in
     let found = rw c.in-Ok-Some.field-0-is at c.in-Ok-Some.ensures in
-    (c.in-Ok-Some.start, subst (λ n. OptionAt c.args.code b c.in-Ok-Some.start n) c.if-len-octets.false found, c.overwrite.ensures)
+    (c.in-Ok-Some.start, subst (λ n. OptionAt c.args.code b c.in-Ok-Some.start n) c.if-len-octets.false found, c.overwrite.ensures.octets)

@@ -9,4 +9,4 @@ pub returns-clause-reads : goal.returns-clause-reads
 returns-clause-reads g c =
     let yes : c.asks_for.result ≡ true = search (rules, c.if-not-asks_for.false) in
     written_name (message_octets c.args.message.now) c.as_slice.result.now c.as_slice-octets.result.now (message_octets c.overwrite.new.self)
-    (name_labels c.args.name.now) (name_is c.args.name.now) c.as_slice.ensures.octets c.as_slice-octets.ensures (c.asks_for.ensures.0 yes) c.overwrite.ensures
+    (name_labels c.args.name.now) (name_is c.args.name.now) c.as_slice.ensures.octets c.as_slice-octets.ensures (c.asks_for.ensures.0 yes) c.overwrite.ensures.octets
