@@ -7,7 +7,7 @@ use Rattle.dns_code.specs.Header.{HeaderFields}
 use Rattle.dns_item.specs.Items.{RecordItem}
 use Rattle.dns_build.specs.Fitting.{MissesRequired, RecordSet, SetsAreFitted, fit_set, fit_sets, goes_in, is_short, is_within, left_out}
 use Rattle.dns_build.specs.State.{Stage, InBuilder, InQuestion, InAnswer, InAuthority, InAdditional, State, most_entries, records_at, with_header, with_records}
-use Rattle.dns_build.proofs.FitLemmas.{size_with_header}
+use Rattle.dns_build.proofs.theory.MessageSizes.{size_with_header}
 
 with_records-header : (stage : Stage) (xs : List RecordItem) (s : State) → (with_records stage xs s).header ≡ s.header
 with_records-header InBuilder xs s = refl

@@ -1,6 +1,5 @@
 -- What a copy leaves.
-use Rattle.std.proofs.Common.{◌≡◌, ◌∙◌, ap, sym, refl, subst, append_assoc, ℕ, Bool, List, [], ◌∷◌}
-use Rattle.std.proofs.lemmas.List.{append-nil}
+use Rattle.std.proofs.Common.{◌≡◌, ◌∙◌, ap, sym, refl, subst, ℕ, Bool, List, [], ◌∷◌}
 use Rattle.std.specs.Prelude.{Option, Some, None, option_map, Result, Ok}
 use Rattle.dns_name.specs.Names.{Fault}
 use Rattle.dns_wire.specs.Encoders.{Rule}
@@ -15,24 +14,10 @@ use Rattle.dns_build.specs.CopyRecords.CopiesSection.{started, unstarted}
 use Rattle.dns_build.specs.CopyRecords.CopiesSections.{none as no_section, copied as section_copied, stopped}
 use Rattle.dns_build.specs.KeptRecords.{with_copies, Keeps, KeepsSection, KeepsAll}
 use Rattle.dns_build.specs.KeptRecords.Keeps.{none, dropped, kept}
-use Rattle.dns_build.specs.State.{Stage, InBuilder, InQuestion, InAnswer, InAuthority, InAdditional, State, stage_of, with_record, with_records, move_to}
+use Rattle.dns_build.specs.State.{InAnswer, InAuthority, InAdditional, Stage, State, stage_of, with_record, with_records, move_to}
+use Rattle.dns_build.proofs.theory.RecordLists.{no_records, one_more}
 use Rattle.dns_build.specs.BuilderStates.{Built, Represents}
 use Rattle.dns_build.specs.declared.copy_records_error.CopyRecordsError.{CopyRecordsError}
-
--- appending no records changes nothing
-no_records : (stage : Stage) (s : State) → s ≡ with_records stage [] s
-no_records InBuilder s = refl
-no_records InQuestion s = refl
-no_records InAnswer s = λ i. record s { answers = sym (append-nil s.answers) i }
-no_records InAuthority s = λ i. record s { authorities = sym (append-nil s.authorities) i }
-no_records InAdditional s = λ i. record s { additionals = sym (append-nil s.additionals) i }
-
-one_more : (stage : Stage) (x : RecordItem) (xs : List RecordItem) (s : State) → with_records stage xs (with_record stage x s) ≡ with_records stage (x ∷ xs) s
-one_more InBuilder x xs s = refl
-one_more InQuestion x xs s = refl
-one_more InAnswer x xs s = λ i. record s { answers = append_assoc s.answers (x ∷ []) xs i }
-one_more InAuthority x xs s = λ i. record s { authorities = append_assoc s.authorities (x ∷ []) xs i }
-one_more InAdditional x xs s = λ i. record s { additionals = append_assoc s.additionals (x ∷ []) xs i }
 
 module _ {F R : Type 0} (call : F → ParsedRecord → Option R → F → Type 0) (item : R → RecordItem) (capacity : Option ℕ) (grows : Bool) (rule : Rule) where
   -- the closure returns some records of a reading, and the state has them in its section

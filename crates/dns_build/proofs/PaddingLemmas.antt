@@ -21,8 +21,8 @@ use Rattle.dns_build.specs.Opt.{PushesOptRecord, opt_record, with_rcode}
 use Rattle.dns_build.specs.Padding.{length_with_option, most_padded, padded, padded_length, stays_unpadded}
 use Rattle.dns_build.specs.State.{InAdditional, State, with_record}
 use Rattle.dns_build.specs.declared.push_error.PushError.{PushError}
-use Rattle.dns_build.proofs.FitLemmas.{size_with_header}
 use Rattle.dns_build.proofs.ReservedOptLemmas.{opts_add_their_size}
+use Rattle.dns_build.proofs.theory.MessageSizes.{size_with_header}
 
 -- a padding option takes four octets besides its zeros
 padding_size : (k : ℕ) → length (encode_options (padding_option (zeros k) ∷ [])) ≡ 4 + k

@@ -15,8 +15,8 @@ use Rattle.dns_build.specs.Opt.{opt_record, PushesOptRecord}
 use Rattle.dns_build.specs.ReservedOpt.{Reservation, limit_left, OptsAddTheirSize}
 use Rattle.dns_build.specs.declared.push_error.PushError.{PushError}
 use Rattle.dns_build.specs.declared.push_error.PushError.TheVariants.{LimitExceeded, ShortBuf}
+use Rattle.dns_build.proofs.ReservedLemmas.{not-for-capacity}
 use Rattle.dns_build.proofs.theory.Encodings.{encode-message}
-use Rattle.dns_build.proofs.ReservedLemmas.{not-for-room, size-limited}
 use Rattle.dns_build.proofs.Sections.{Records, encode-size}
 
 -- an OPT record is encoded in these octets, whatever was written before
@@ -54,18 +54,19 @@ not_exceeded capacity grows rule r old new result each some long short within is
     let fits = within_limit (opt_size r.opt) (length old.written.octets) r.limit (r.limit == no_limit) refl (omega arith) (omega (arith, few, short)) within in
     omega (arith, exceeds.1, same, n, fits))
 
--- An OPT record for which octets are left free isn't refused for capacity or limit.
-pub opt_not_for_room : (capacity : Option ℕ) (grows : Bool) (rule : Rule) (g : Gathered) (limit free : ℕ) (old new : Built) (e : PushError) → RepresentsSome InAdditional rule old
-    → ((n : ℕ) → n ≤ length old.written.octets + free → Fits capacity n × (n ≤ limit))
-    → InEach InAdditional rule old (λ s. PushesOptRecord capacity grows rule g (with_limit limit s) new (Err e))
-    → opt_size g ≤ free → (e ≢ ShortBuf) × (e ≢ LimitExceeded)
-opt_not_for_room capacity grows rule g limit free old new e some room pushes small =
-    (λ is. ∥∥₁_elim some (λ x y. absurd x) (λ p. (why p.0 p.1).0 is), λ is. ∥∥₁_elim some (λ x y. absurd x) (λ p. (why p.0 p.1).1 is))
+-- An OPT record within the reserved octets isn't refused for capacity or limit.
+pub opt-fits : (capacity : Option ℕ) (grows : Bool) (rule : Rule) (g : Gathered) (old : Built) (r : ℕ) (e : PushError) → RepresentsSome InAdditional rule old → opt_size g ≤ r
+    → ((n : ℕ) → n ≤ length old.written.octets + r → Fits capacity n × (n ≤ old.limit + r))
+    → InEach InAdditional rule old (λ s. PushReturns capacity grows (s.limit + r) (size_after rule (with_record InAdditional (opt_record g)) s) (length s.additionals) (Err e))
+    → (e ≢ ShortBuf) × (e ≢ LimitExceeded)
+opt-fits capacity grows rule g old r e some small fits returns =
+    (λ is. ∥∥₁_elim some (λ x y. absurd x) (λ p. (neither p.0 p.1).0 is), λ is. ∥∥₁_elim some (λ x y. absurd x) (λ p. (neither p.0 p.1).1 is))
   where
-    why : (s : State) → Represents InAdditional rule s old → (e ≢ ShortBuf) × (e ≢ LimitExceeded)
-    why s h =
-        let size = size-limited rule (opt_record g) limit s in
-        let added = opts_add_their_size rule g s in
-        let own = ap (λ (w : Written). length w.octets) h.written in
-        let fits = room (size_after rule (with_record InAdditional (opt_record g)) s) (omega (arith, added, own, small)) in
-        not-for-room capacity grows limit _ _ e fits.0 fits.1 (subst (λ m. PushReturns capacity grows limit m (length s.additionals) (Err e)) size (pushes s h).outcome)
+    neither : (s : State) → Represents InAdditional rule s old → (e ≢ ShortBuf) × (e ≢ LimitExceeded)
+    neither s h =
+        let n : ℕ = size_after rule (with_record InAdditional (opt_record g)) s in
+        let size : n ≡ length old.written.octets + opt_size g = opts_add_their_size rule g s ∙ ap (λ (w : Written). length w.octets + opt_size g) (sym h.written) in
+        let both = fits n (omega (arith, size, small)) in
+        let limit = h.limit in
+        let short = both.1 in
+        not-for-capacity capacity grows (s.limit + r) n (length s.additionals) e both.0 (omega (arith, short, limit)) (returns s h)

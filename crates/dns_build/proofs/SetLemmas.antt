@@ -172,7 +172,7 @@ set-undone stage k is rule xs n old now mid new some all moves same back =
     let kept : with_first stage n (with_records stage xs s) ≡ s = ap (λ m. with_first stage m (with_records stage xs s)) (all s p.1) ∙ first in
     builders_are_known stage rule s new old (subst (λ (t : State). Represents stage rule t new) kept (back (with_records stage xs s) pushed)) p.1)
 
--- A rewind to a mark undoes a push.
+-- A rewind to a mark undoes one push.
 pub push-undone : (stage : Stage) (k : Section) → stage ≡ stage_of k → (rule : Rule) (x : RecordItem) (n : ℕ) (old now mid new : Built) → RepresentsSome stage rule old
     → InEach stage rule old (λ s. n ≡ length (records_at stage s)) → MovesState stage stage rule (with_record stage x) old now → mid ≡ now
     → MovesState stage stage rule (with_first stage n) mid new → new ≡ old
@@ -196,7 +196,34 @@ with-more InAnswer xs x s = λ i. record s { answers = append_assoc s.answers xs
 with-more InAuthority xs x s = λ i. record s { authorities = append_assoc s.authorities xs (x ∷ []) i }
 with-more InAdditional xs x s = λ i. record s { additionals = append_assoc s.additionals xs (x ∷ []) i }
 
+-- Pushed records don't change the limit.
+pub with_records-limit : (stage : Stage) (xs : List RecordItem) (s : State) → (with_records stage xs s).limit ≡ s.limit
+with_records-limit InBuilder xs s = refl
+with_records-limit InQuestion xs s = refl
+with_records-limit InAnswer xs s = refl
+with_records-limit InAuthority xs s = refl
+with_records-limit InAdditional xs s = refl
+
+-- a list with elements has a last one
+last-of : (x : RecordItem) (xs : List RecordItem) → (before : List RecordItem) × (last : RecordItem) × (x ∷ xs ≡ before ++ last ∷ [])
+last-of x [] = ([], x, refl)
+last-of x (y ∷ ys) = let end = last-of y ys in (x ∷ end.0, end.1, ap (λ (zs : List RecordItem). x ∷ zs) end.2)
+
 module _ (capacity : Option ℕ) (grows : Bool) (rule : Rule) (stage : Stage) (s : State) where
+  -- Records that can be pushed leave the message within the limit.
+  pub set-within : (xs : List RecordItem) → AllFit capacity grows rule stage s xs → length (encode rule s).octets ≤ s.limit → size_after rule (with_records stage xs) s ≤ s.limit
+  set-within [] fit within = subst (λ (t : State). length (encode rule t).octets ≤ s.limit) (sym (with-none stage s)) within
+  set-within (x ∷ xs) fit within =
+      let end = last-of x xs in
+      let before : List RecordItem = end.0 in
+      let last : RecordItem = end.1 in
+      let out = fit before last [] end.2 in
+      let pushed : with_records stage (x ∷ xs) s ≡ with_record stage last (with_records stage before s) = ap (λ (ys : List RecordItem). with_records stage ys s) end.2 ∙ sym (with-more stage before last s) in
+      let size = ap (λ (t : State). length (encode rule t).octets) pushed in
+      let limit = with_records-limit stage before s in
+      let short = out.1 in
+      omega (arith, size, limit, short)
+
   none-fit : AllFit capacity grows rule stage s []
   none-fit before x others is = absurd (none_there before others x is)
 

@@ -3,3 +3,4 @@ pub mod Encodings
 pub mod EncodingReading
 pub mod Asking
 pub mod MessageSizes
+pub mod RecordLists

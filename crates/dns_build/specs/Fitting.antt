@@ -1,26 +1,10 @@
 -- Responses that fit a limit: a set of records goes in whole, or is left out, and TC says whether a required one is missing. RFC 2181 section 9.
-use Rattle.std.specs.Prelude.{◌≡◌, ◌↔◌, ℕ, ◌+◌, ◌-◌, ◌≤◌, ◌<◌, Bool, true, false, not, ◌&&◌, ◌||◌, IsTrue, nat_le, if◌then◌else◌, List, [], ◌∷◌, ◌++◌, length}
-use Rattle.std.specs.Prelude.{Option, None, Some, Result, Ok, Err, OnOk, OnErr, IfOk}
+use Rattle.std.specs.Prelude.{◌≡◌, ◌↔◌, ℕ, ◌+◌, ◌-◌, Bool, true, false, not, ◌&&◌, ◌||◌, IsTrue, nat_le, if◌then◌else◌, List, [], ◌∷◌, ◌++◌, length}
+use Rattle.std.specs.Prelude.{Option, None, Some, Result, OnOk, OnErr, IfOk}
 use Rattle.dns_wire.specs.Encoders.{Rule}
-use Rattle.dns_wire.specs.Targets.{Exceeds, Fits}
 use Rattle.dns_item.specs.Items.{RecordItem}
 use Rattle.dns_build.specs.State.{most_entries, records_at, Stage, State, with_header, with_limit, with_records}
 use Rattle.dns_build.specs.BuilderStates.{Built, InEach, MovesState, size_after}
-use Rattle.dns_build.specs.declared.push_error.PushError.{PushError}
-use Rattle.dns_build.specs.declared.push_error.PushError.TheVariants.{CountOverflow, LimitExceeded, ShortBuf, OutOfMemory}
-
--- The result of pushing a set after which the message would have n octets, and the section `count` records, while further octets are reserved. RFC 2181 section 5.
-abbrev pub SetLeaving : Option ℕ → Bool → ℕ → ℕ → ℕ → ℕ → Result (Unit {0}) PushError → Type 0
-SetLeaving capacity grows limit reserved n count (Ok _) = Fits capacity (n + reserved) × (n ≤ limit) × (count ≤ most_entries)
-SetLeaving capacity grows limit reserved n count (Err ShortBuf) = Exceeds capacity (n + reserved)
-SetLeaving capacity grows limit reserved n count (Err OutOfMemory) = IsTrue grows
-SetLeaving capacity grows limit reserved n count (Err LimitExceeded) = limit < n
-SetLeaving capacity grows limit reserved n count (Err CountOverflow) = most_entries < count
-
--- the builder that is returned with success or with an error
-abbrev pub builder_in : {X : Type 0} → Result Built (Built × X) → Built
-builder_in (Ok b) = b
-builder_in (Err refused) = refused.0
 
 -- sets or clears TC, and changes nothing else
 abbrev pub with_truncation : Bool → State → State

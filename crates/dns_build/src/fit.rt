@@ -1,18 +1,14 @@
 //! Responses that fit a limit: sets of records that don't fit are left out whole, and TC is set if a
 //! required one is missing (RFC 2181 section 9).
-ghost use Rattle.std.specs.Prelude.{◌≡◌, ◌≢◌, ◌≤◌, ◌+◌, Err, IfErr, IfOk, IsTrue, OnErr, OnOk, length, map, true, false};
-ghost use Rattle.dns_edns_builder.specs.Gathered.{gathered, opt_size};
-ghost use Rattle.dns_build.specs.State.{InAdditional, records_at, with_limit, with_records};
-ghost use Rattle.dns_build.specs.BuilderStates.{InEach, MovesState, PushReturns, size_after};
-ghost use Rattle.dns_build.specs.Opt.{PushesOptRecord};
+ghost use Rattle.std.specs.Prelude.{◌≡◌, ◌+◌, IfErr, IfOk, length, map, true, false};
+ghost use Rattle.dns_build.specs.BuilderStates.{MovesState, PushReturns};
 ghost use Rattle.dns_build.specs.Reserved.{reserve_result};
-ghost use Rattle.dns_build.specs.Fitting.{FitsSet, SetLeaving, builder_in, fitting, left_out, with_truncation};
+ghost use Rattle.dns_build.specs.Fitting.{FitsSet, fitting, left_out, with_truncation};
 
-use crate::builder::{AdditionalBuilder, Builder};
+use crate::builder::Builder;
 use crate::push_error::PushError;
 use crate::reserved_builder::ReservedBuilder;
-use crate::stage::{AtAdditional, BuilderStage, RecordStage};
-use dns_edns_builder::OptBuilder;
+use crate::stage::{BuilderStage, RecordStage};
 use dns_item::ComposeRecord;
 use dns_wire::Composer;
 use std::alloc::AllocError;
@@ -59,11 +55,9 @@ impl<T: Composer, S: BuilderStage> ReservedBuilder<T, S> {
             self.old.built self.new.built }
         ensures reserved { self.new.reserved ≡ self.old.reserved }
     {
-        // Shows that the builder represents a state.
-        let _so_far = self.builder.as_slice();
-        let mut header = self.builder.header();
+        let mut header = self.as_builder().header();
         header.set_tc(tc);
-        self.builder.set_header(header);
+        self.set_header(header);
     }
 
     /// Sets TC if the set that is left out is required.
@@ -79,34 +73,6 @@ impl<T: Composer, S: BuilderStage> ReservedBuilder<T, S> {
 }
 
 impl<T: Composer, S: RecordStage> ReservedBuilder<T, S> {
-    /// Appends all of these records to the stage's section, or none, as `Builder::push_set` does,
-    /// and leaves the reserved octets free.
-    ///
-    /// Nothing changes on error.
-    pub fn push_set<R: ComposeRecord>(&mut self, records: &[R]) -> Result<(), PushError>
-        ensures accepted { OnOk result (MovesState S.stage S.stage T.rule
-            (with_records S.stage (map R.item records.now)) self.old.built self.new.built) }
-        ensures refused { OnErr result (self.new ≡ self.old) }
-        ensures reserved { self.new.reserved ≡ self.old.reserved }
-        ensures outcome { InEach S.stage T.rule self.old.built (λ s.
-            let after = with_records S.stage (map R.item records.now) in
-            SetLeaving T.capacity T.grows s.limit self.old.reserved (size_after T.rule after s)
-            (length (records_at S.stage (after s))) result) }
-        ensures memory { result ≡ Err PushError.OutOfMemory → IsTrue T.grows }
-    {
-        // Shows that the builder represents a state.
-        let _so_far = self.builder.as_slice();
-        let mark = self.builder.mark();
-        if let Err(error) = self.builder.push_set(records) {
-            return Err(error);
-        }
-        if let Err(error) = self.builder.fits(self.reserved) {
-            self.builder.rewind_to(mark);
-            return Err(PushError::from(error));
-        }
-        Ok(())
-    }
-
     /// Appends a set of records that the response requires, as those that answer its question, or
     /// leaves it out and sets TC (RFC 2181 section 9). Returns whether it went in.
     ///
@@ -156,35 +122,6 @@ impl<T: Composer, S: RecordStage> ReservedBuilder<T, S> {
         match error {
             PushError::OutOfMemory => Err(AllocError),
             _ => Ok(false),
-        }
-    }
-}
-
-impl<T: Composer> ReservedBuilder<T, AtAdditional> {
-    /// Releases the reserved octets, and appends the OPT record of `opt` as `Builder::push_opt`
-    /// does.
-    ///
-    /// A record of at most as many octets doesn't fail for capacity or limit. On error the builder
-    /// is returned, without the reservation.
-    pub fn push_opt(
-        self,
-        opt: &OptBuilder,
-    ) -> Result<AdditionalBuilder<T>, (AdditionalBuilder<T>, PushError)>
-        ensures pushes { InEach InAdditional T.rule self.built (λ s.
-            PushesOptRecord T.capacity T.grows T.rule (gathered opt.now)
-            (with_limit (self.built.limit + self.reserved) s) (builder_in result)
-            (reserve_result result)) }
-        ensures refused { IfErr result (λ refused. MovesState InAdditional InAdditional T.rule
-            (with_limit (self.built.limit + self.reserved)) self.built refused.0) }
-        ensures fits { IfErr result (λ refused. opt_size (gathered opt.now) ≤ self.reserved
-            → (refused.1 ≢ PushError.ShortBuf) × (refused.1 ≢ PushError.LimitExceeded)) }
-    {
-        // Shows that the builder represents a state.
-        let _so_far = self.as_builder().as_slice();
-        let mut builder = self.release();
-        match builder.push_opt(opt) {
-            Ok(()) => Ok(builder),
-            Err(error) => Err((builder, error)),
         }
     }
 }

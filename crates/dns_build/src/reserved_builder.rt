@@ -1,14 +1,19 @@
 //! Reserving octets of a message for records that are pushed later, as OPT (RFC 6891 section 6.1.1)
 //! or TSIG (RFC 8945 section 5.1).
-ghost use Rattle.std.specs.Prelude.{◌≡◌, ◌≢◌, ◌+◌, ◌-◌, ◌≤◌, ℕ, length, IfErr, IfOk, OnErr, OnOk};
+ghost use Rattle.std.specs.Prelude.{◌≡◌, ◌≢◌, ◌+◌, ◌-◌, ◌≤◌, ℕ, length, map, IfErr, IfOk, IsTrue, OnErr, OnOk};
 ghost use Rattle.dns_wire.specs.Targets.{ComposeReturns, Fits};
-ghost use Rattle.dns_build.specs.State.{InAdditional, InAnswer, InAuthority, move_to, records_at, with_limit, with_record};
+ghost use Rattle.dns_code.specs.Header.{fields};
+ghost use Rattle.dns_edns_builder.specs.Gathered.{gathered, opt_size};
+ghost use Rattle.dns_build.specs.State.{InAdditional, InAnswer, InAuthority, move_to, records_at, with_header, with_limit, with_record, with_records};
 ghost use Rattle.dns_build.specs.BuilderStates.{InEach, MovesState, PushReturns, Represents, size_after};
-ghost use Rattle.dns_build.specs.Reserved.{PushLeaving, reserve_result};
+ghost use Rattle.dns_build.specs.Opt.{PushesOptRecord, opt_record};
+ghost use Rattle.dns_build.specs.Reserved.{PushLeaving, SetLeaving, builder_in, reserve_result};
 
 use crate::builder::{AdditionalBuilder, Builder};
 use crate::push_error::PushError;
 use crate::stage::{AtAdditional, AtAnswer, AtAuthority, BuilderStage, RecordStage};
+use dns_code::Header;
+use dns_edns_builder::OptBuilder;
 use dns_item::ComposeRecord;
 use dns_octets::AppendError;
 use dns_wire::Composer;
@@ -21,8 +26,8 @@ use std::marker::Model;
 /// builder.
 #[derive(Debug, Drop)]
 pub struct ReservedBuilder<T: Composer, S: BuilderStage> {
-    pub(crate) builder: Builder<T, S>,
-    pub(crate) reserved: u16,
+    builder: Builder<T, S>,
+    reserved: u16,
 }
 
 impl<T: Composer, S: BuilderStage> Model for ReservedBuilder<T, S> {
@@ -39,7 +44,8 @@ impl<T: Composer, S: BuilderStage> Model for ReservedBuilder<T, S> {
 }
 
 impl<T: Composer, S: BuilderStage> Builder<T, S> {
-    /// Reserves octets: later pushes leave them free until `release`.
+    /// Reserves octets: later pushes leave them free until `release`. Each of these pushes appends
+    /// as many zero octets, and cuts them off again.
     ///
     /// Errors, checked in this order: `ShortBuf` or `OutOfMemory`, `LimitExceeded`, as of a push of
     /// so many octets. The builder is returned with the error.
@@ -69,7 +75,7 @@ impl<T: Composer, S: BuilderStage> Builder<T, S> {
     }
 
     /// Checks that the target has capacity for further octets. Nothing changes.
-    pub(crate) fn fits(&mut self, octets: u16) -> Result<(), AppendError>
+    fn fits(&mut self, octets: u16) -> Result<(), AppendError>
         ensures unchanged { self.new ≡ self.old }
         ensures outcome { ComposeReturns T.capacity T.grows
             (length self.old.written.octets + octets) result }
@@ -107,6 +113,7 @@ impl<T: Composer, S: RecordStage> ReservedBuilder<T, S> {
             T.grows s.limit self.old.reserved
             (size_after T.rule (with_record S.stage (R.item pushed)) s)
             (length (records_at S.stage s)) result) }
+        ensures memory { result ≡ Err PushError.OutOfMemory → IsTrue T.grows }
     {
         // Shows that the builder represents a state.
         let _so_far = self.builder.as_slice();
@@ -120,9 +127,48 @@ impl<T: Composer, S: RecordStage> ReservedBuilder<T, S> {
         }
         Ok(())
     }
+
+    /// Appends all of these records to the stage's section, or none, and leaves the reserved octets
+    /// free (RFC 2181 section 5).
+    ///
+    /// Errors: those of `Builder::push_set`, and then `ShortBuf` or `OutOfMemory` if the reserved
+    /// octets don't fit after the records. Nothing changes on error.
+    pub fn push_set<R: ComposeRecord>(&mut self, records: &[R]) -> Result<(), PushError>
+        ensures accepted { OnOk result (MovesState S.stage S.stage T.rule
+            (with_records S.stage (map R.item records.now)) self.old.built self.new.built) }
+        ensures refused { OnErr result (self.new ≡ self.old) }
+        ensures reserved { self.new.reserved ≡ self.old.reserved }
+        ensures outcome { InEach S.stage T.rule self.old.built (λ s. SetLeaving T.capacity
+            T.grows T.rule S.stage s self.old.reserved (map R.item records.now) result) }
+        ensures memory { result ≡ Err PushError.OutOfMemory → IsTrue T.grows }
+    {
+        // Shows that the builder represents a state.
+        let _so_far = self.builder.as_slice();
+        let reserved = self.reserved;
+        let mark = self.builder.mark();
+        if let Err(error) = self.builder.push_set(records) {
+            return Err(error);
+        }
+        if let Err(error) = self.builder.fits(reserved) {
+            self.builder.rewind_to(mark);
+            return Err(PushError::from(error));
+        }
+        Ok(())
+    }
 }
 
 impl<T: Composer, S: BuilderStage> ReservedBuilder<T, S> {
+    /// Sets the header, such as TC (RFC 1035 section 4.1.1). Nothing else changes.
+    pub fn set_header(&mut self, header: Header)
+        ensures moves { MovesState S.stage S.stage T.rule (with_header (fields header))
+            self.old.built self.new.built }
+        ensures reserved { self.new.reserved ≡ self.old.reserved }
+    {
+        // Shows that the builder represents a state.
+        let _so_far = self.builder.as_slice();
+        self.builder.set_header(header);
+    }
+
     /// Returns the builder, to read it.
     pub fn as_builder(&self) -> &Builder<T, S>
         ensures { result.now ≡ self.now.built }
@@ -198,9 +244,49 @@ impl<T: Composer> ReservedBuilder<T, AtAdditional> {
             size_after T.rule (with_record InAdditional (R.item pushed)) s
             ≤ length self.built.written.octets + self.reserved
             → (refused.1 ≢ PushError.ShortBuf) × (refused.1 ≢ PushError.LimitExceeded))) }
+        ensures outcome { InEach InAdditional T.rule self.built (λ s. PushReturns T.capacity
+            T.grows (s.limit + self.reserved)
+            (size_after T.rule (with_record InAdditional (R.item pushed)) s)
+            (length s.additionals) (reserve_result result)) }
+        ensures memory { reserve_result result ≡ Err PushError.OutOfMemory → IsTrue T.grows }
     {
         let mut builder = self.release();
         match builder.push(pushed) {
+            Ok(()) => Ok(builder),
+            Err(error) => Err((builder, error)),
+        }
+    }
+
+    /// Releases the reserved octets, and appends the OPT record of `opt` as `Builder::push_opt` does
+    /// (RFC 6891 section 6.1.1).
+    ///
+    /// A record of at most as many octets (`OptBuilder::compose_len`) doesn't fail for capacity or
+    /// limit. On error the builder is returned, without the reservation.
+    ///
+    /// On success the header takes the rcode of the record's copy of the header.
+    /// `OptBuilder::set_rcode` sets an rcode that was decided later.
+    pub fn push_opt(
+        self,
+        opt: &OptBuilder,
+    ) -> Result<AdditionalBuilder<T>, (AdditionalBuilder<T>, PushError)>
+        ensures pushes { InEach InAdditional T.rule self.built (λ s.
+            PushesOptRecord T.capacity T.grows T.rule (gathered opt.now)
+            (with_limit (self.built.limit + self.reserved) s) (builder_in result)
+            (reserve_result result)) }
+        ensures refused { IfErr result (λ refused. MovesState InAdditional InAdditional T.rule
+            (with_limit (self.built.limit + self.reserved)) self.built refused.0) }
+        ensures fits { IfErr result (λ refused. opt_size (gathered opt.now) ≤ self.reserved
+            → (refused.1 ≢ PushError.ShortBuf) × (refused.1 ≢ PushError.LimitExceeded)) }
+        ensures outcome { InEach InAdditional T.rule self.built (λ s. PushReturns T.capacity
+            T.grows (s.limit + self.reserved)
+            (size_after T.rule (with_record InAdditional (opt_record (gathered opt.now))) s)
+            (length s.additionals) (reserve_result result)) }
+        ensures memory { reserve_result result ≡ Err PushError.OutOfMemory → IsTrue T.grows }
+    {
+        // Shows that the builder represents a state.
+        let _so_far = self.as_builder().as_slice();
+        let mut builder = self.release();
+        match builder.push_opt(opt) {
             Ok(()) => Ok(builder),
             Err(error) => Err((builder, error)),
         }

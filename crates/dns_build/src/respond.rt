@@ -19,21 +19,32 @@ use dns_iana::{OptRcode, Rcode};
 use dns_item::OptRecord;
 use dns_octets::Octets;
 use dns_read::Message;
+use dns_reply::has_many_opts;
 use dns_wire::Composer;
 use std::alloc::Global;
 
 impl<T: Composer> Builder<T, AtBuilder> {
     /// Starts a response to a query: the builder at the answer section, and an OPT record if the
-    /// query has one, to be pushed at the additional section (RFC 6891 section 6.1.1).
+    /// query has one (RFC 6891 section 6.1.1). A message with QR set gets a response, too, so a
+    /// server drops it before.
     ///
     /// Sets QR and the rcode, and copies ID, opcode, RD and CD from the query. All other header
-    /// bits are clear (RFC 1035 section 4.1.1, RFC 4035 section 3.2.2). Then pushes the query's
-    /// questions up to the first malformed one. A malformed question is no error.
+    /// bits are clear (RFC 1035 section 4.1.1). By CD a client asks a recursive server not to
+    /// validate, and that server copies it (RFC 4035 section 3.2.2). A server that validates
+    /// nothing clears CD afterwards (section 3.1.6). Then pushes the query's questions up to the
+    /// first malformed one. A malformed question is no error.
     ///
-    /// The OPT record has version 0 and the query's DO (RFC 3225 section 3). The caller sets its
-    /// UDP payload size and options. If the version of the query's OPT record is above 0, the rcode
-    /// is `OptRcode::BADVERS` in place of `rcode` (RFC 6891 section 6.1.3). The query's OPT record
-    /// is the one that `Message::opt` returns.
+    /// Two errors of the query come before `rcode`: the rcode is `OptRcode::FORMERR` if the query
+    /// has more than one OPT record (RFC 6891 section 6.1.1), or else `OptRcode::BADVERS` if the
+    /// version of its OPT record is above 0 (section 6.1.3). Its OPT record is the one that
+    /// `Message::opt` returns.
+    ///
+    /// The OPT record of the response has version 0 and the query's DO (RFC 3225 section 3). The
+    /// caller sets its UDP payload size and options.
+    ///
+    /// `push_opt`, of the builder or of a `ReservedBuilder`, pushes the response's OPT record at the
+    /// additional section, or `push_reserved` after `reserve_opt`. The header then takes the rcode
+    /// of the record, so `OptBuilder::set_rcode` sets a later one, such as an error.
     ///
     /// Returns the error of the first push that fails. The builder is dropped then.
     pub fn respond<Octs: Octets>(
@@ -50,7 +61,7 @@ impl<T: Composer> Builder<T, AtBuilder> {
             option_map gathered response.1 ≡ opt_to rcode (message_octets query.now)) }
     {
         let asked = query.opt();
-        let rcode = response_rcode(&asked, rcode);
+        let rcode = response_rcode(has_many_opts(query), &asked, rcode);
         let header = response_header(query.header(), rcode);
         let mut builder = self;
         builder.set_header(header);
@@ -65,10 +76,13 @@ impl<T: Composer> Builder<T, AtBuilder> {
     }
 }
 
-/// The rcode of a response to a query with the OPT record `asked`.
-fn response_rcode(asked: &Option<OptRecord<&[u8]>>, rcode: Rcode) -> OptRcode
-    ensures { result ≡ response_rcode rcode (option_map opt_item asked.now) }
+/// The rcode of a response to a query that has many OPT records or not, and the one `asked`.
+fn response_rcode(many_opts: bool, asked: &Option<OptRecord<&[u8]>>, rcode: Rcode) -> OptRcode
+    ensures { result ≡ response_rcode rcode many_opts (option_map opt_item asked.now) }
 {
+    if many_opts {
+        return OptRcode::FORMERR;
+    }
     match asked {
         Some(opt) => {
             if opt.version() == 0 {

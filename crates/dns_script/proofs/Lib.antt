@@ -1,3 +1,4 @@
 mod Histories
 mod PlannedOpts
 mod PushedRecords
+mod SetScripts

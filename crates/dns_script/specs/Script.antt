@@ -1,5 +1,5 @@
 -- What a list of calls does to a builder, and the replies. RFC 1035 section 4.1.
-use Rattle.std.specs.Prelude.{◌≡◌, ℕ, Bool, true, false, Option, Result, Ok, Err, List, [], ◌∷◌, ◌++◌, length, ⊤}
+use Rattle.std.specs.Prelude.{◌≡◌, ℕ, Bool, true, false, Option, Result, Ok, Err, List, [], ◌∷◌, ◌++◌, length, map, ⊤}
 use Rattle.dns_octets.specs.declared.error.AppendError.{AppendError}
 use Rattle.dns_wire.specs.Encoders.{Rule}
 use Rattle.dns_code.specs.Header.{fields}
@@ -7,7 +7,7 @@ use Rattle.dns_edns_builder.specs.Gathered.{Gathered, IsGathered}
 use Rattle.dns_item.specs.Questions.{QuestionItem}
 use Rattle.dns_item.specs.Items.{RecordItem}
 use Rattle.dns_build.specs.BuilderStates.{Built, PushReturns, Represents}
-use Rattle.dns_build.specs.State.{encode, State, InBuilder, InQuestion, InAnswer, InAuthority, InAdditional, with_question, with_record, records_at}
+use Rattle.dns_build.specs.State.{encode, State, InBuilder, InQuestion, InAnswer, InAuthority, InAdditional, with_question, with_record, with_records, records_at}
 use Rattle.dns_build.specs.State.{with_header, with_limit, no_limit, rewound, tc_rewound, move_to}
 use Rattle.dns_build.specs.MessageOf.{IsMessageOf}
 use Rattle.dns_build.specs.Opt.{opt_record, with_opt, OptReturns}
@@ -107,6 +107,12 @@ module _ {Q R : Type 0} (question : Q → QuestionItem) (item : R → RecordItem
   after_all s [] replies = s
   after_all s (call ∷ calls) [] = s
   after_all s (call ∷ calls) (reply ∷ replies) = after_all (after s call reply) calls replies
+
+  -- The calls on a builder with reserved octets take it to states that these calls lead to: a set is its records, pushed in order, and reserving octets or releasing them
+  -- sets the limit. RFC 2181 section 5.
+  pub record SetsAreScripts : Type 0 where
+    pub set : (s : State) (records : List R) → after_all s (map PushRecord records) (map (λ _. Done) records) ≡ with_records s.stage (map item records) s
+    pub limit : (s : State) (limit : ℕ) → after s (SetLimit limit) Done ≡ with_limit limit s
 
 module _ (capacity : Option ℕ) (grows : Bool) where
   -- the reply to a push whose result satisfies `AppendReturns`

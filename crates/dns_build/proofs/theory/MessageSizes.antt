@@ -3,11 +3,12 @@ use Rattle.std.proofs.Common.{◌≡◌, ◌∙◌, ℕ, ◌+◌, ◌≤◌, Lis
 use Rattle.std.proofs.lemmas.List.{append-nil, map-append, length-map}
 use Rattle.std.specs.Prelude.{map}
 use Rattle.dns_wire.specs.Encoders.{CompressionTable, Encoder, Rule, nothing}
+use Rattle.dns_code.specs.Header.{HeaderFields}
 use Rattle.dns_code.proofs.theory.HeaderOctets.{length-octets_of_fields}
 use Rattle.dns_item.specs.Questions.{QuestionItem, encode_question}
 use Rattle.dns_item.specs.Items.{RecordItem, encode_record}
 use Rattle.dns_build.specs.BuilderStates.{size_after}
-use Rattle.dns_build.specs.State.{InAnswer, InQuestion, State, Every, all_of, encode, encoders_of, head_of, move_to, tc_rewound, up_to, with_records}
+use Rattle.dns_build.specs.State.{InAnswer, InQuestion, State, Every, all_of, encode, encoders_of, head_of, move_to, tc_rewound, up_to, with_header, with_records}
 use Rattle.dns_build.proofs.theory.Encodings.{every_append}
 
 -- Further encodings don't shorten the octets.
@@ -59,6 +60,10 @@ module _ (rule : Rule) where
   pub message_size : (s : State) → size s ≡ octets_after (encoders_of rule s)
   unfolding encode
   message_size s = length-append _ _ ∙ (λ i. head_size s i + length (all_of (encoders_of rule s) nothing (head_size s i)).octets)
+
+  -- Another header doesn't change how long a message is.
+  pub size_with_header : (header : HeaderFields) (s : State) → size (with_header header s) ≡ size s
+  size_with_header header s = message_size (with_header header s) ∙ sym (message_size s)
 
   -- Emptying the answer section and setting TC doesn't lengthen a message.
   pub tc_rewound_is_shorter : (s : State) → size (tc_rewound InAnswer s) ≤ size s

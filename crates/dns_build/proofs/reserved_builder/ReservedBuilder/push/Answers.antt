@@ -1,8 +1,8 @@
-use Rattle.std.proofs.Common.{Err, length, subst, sym}
+use Rattle.std.proofs.Common.{Err, length, refl, subst, sym}
 use Rattle.dns_build.specs.BuilderStates.{Built, Represents, size_after}
 use Rattle.dns_build.specs.Reserved.{IsReserved, PushLeaving, Reserving}
 use Rattle.dns_build.specs.State.{State, records_at, with_record}
-use Rattle.dns_build.proofs.ReservedLemmas.{leaves, left-free, not-left, refused-before}
+use Rattle.dns_build.proofs.ReservedLemmas.{grows-refused, leaves, left-free, not-left, refused-before}
 use Rattle.dns_build.proofs.SetLemmas.{push-undone}
 use Rattle.dns_build.proofs.reserved_builder.ReservedBuilder.push.Goals as goal
 
@@ -37,12 +37,15 @@ returns-in-Err-fits-clause-outcome g c =
     subst (λ (r : Reserving). (s : State) → Represents stage rule s r.built
     → PushLeaving capacity g.T.Composer.grows s.limit r.reserved (size_after rule (with_record stage x) s) (length (records_at stage s)) (Err c.from.result)) c.self.view_is
     (λ s h. subst (λ e. PushLeaving capacity g.T.Composer.grows s.limit c.self.inside.reserved (size_after rule (with_record stage x) s) (length (records_at stage s)) (Err e)) (sym c.from.ensures)
-    (not-left _ _ _ _ _ _ _ _ c.in-Err-fits.error c.in_default.ensures.accepted c.in-Err-fits.ensures.outcome s h))
+    (not-left _ _ _ _ _ _ _ _ c.in-Err-fits.error c.in_default.ensures.outcome.each c.in_default.ensures.accepted c.in-Err-fits.ensures.outcome s h))
+
+pub returns-in-Err-fits-clause-memory : goal.returns-in-Err-fits-clause-memory
+returns-in-Err-fits-clause-memory g c = grows-refused _ _ _ c.in-Err-fits.error c.from.result _ c.in-Err-fits.ensures.outcome c.from.ensures refl
 
 pub invariant_of-self-in_default-fits : goal.invariant_of-self-in_default-fits
 invariant_of-self-in_default-fits g c =
     subst (λ (b : Built). IsReserved g.T.Composer.capacity (record { built = b; reserved = c.self.inside.reserved })) (sym c.fits.ensures.unchanged)
-    (leaves _ g.T.Composer.grows g.T.Composer.rule _ _ _ c.self.inside.builder _ c.as_slice-so_far.ensures.state c.in_default.ensures.outcome.each c.in_default.ensures.accepted
+    (leaves _ g.T.Composer.rule _ _ _ c.self.inside.builder _ c.as_slice-so_far.ensures.state (λ s h. (c.in_default.ensures.outcome.each s h).1) c.in_default.ensures.accepted
     c.in_default-fits.ensures.outcome c.self.invariant)
 
 pub returns-clause-accepted : goal.returns-clause-accepted
