@@ -1,5 +1,5 @@
 -- Texts that depend on a number of octets.
-use Rattle.std.proofs.Common.{◌≡◌, ◌↔◌, ℕ, ◌<◌, ◌≤◌, ◌==◌, ◌||◌, true, false, Bool, List, [], ◌∷◌, ◌++◌, arith, codes, le-leb, decimal, drop, length, refl, sym}
+use Rattle.std.proofs.Common.{◌≡◌, ◌↔◌, ℕ, ◌<◌, ◌≤◌, ◌==◌, ◌&&◌, ◌||◌, true, false, Bool, List, [], ◌∷◌, ◌++◌, arith, codes, le-leb, decimal, drop, length, refl, sym}
 use Rattle.std.proofs.lemmas.Bool.{eq-eqb, le-ltb, lt-ltb, ne_eqb}
 use Rattle.std.specs.Prelude.{IsTrue, not}
 use Rattle.std.specs.List.{flat_map}
@@ -8,6 +8,10 @@ use Rattle.dns_print.specs.Digits.{hex_digits}
 use Rattle.dns_dig.specs.Header.{extra_warning}
 use Rattle.dns_dig.specs.OptionTexts.{characters, cookie_text, duration_text, error_details, error_fields, error_text, expire_text, expiry_text, keepalive_text, number_16, number_32}
 use Rattle.dns_dig.specs.OptionTexts.{ipv4_subnet_text, ipv6_subnet_text, octets_text, padding_text, spaced_digits, subnet_text, tenths_text, unit_or_none, unit_text, units_of, units_text}
+
+and_false : (b : Bool) → (b && false) ≡ false
+and_false true = refl
+and_false false = refl
 
 no_length : (xs : List ℕ) → 0 < length xs → (length xs == 0) ≡ false
 no_length xs some = ne_eqb (length xs) 0 (λ e. omega (arith, e))
@@ -113,11 +117,24 @@ later_true false n some = rw (ne_eqb n 0 (λ e. omega (arith, e)))
 pub subnet_short : (octets : List ℕ) → length octets < 4 → octets_text octets ≡ subnet_text octets
 subnet_short octets short = rw (lt-ltb (length octets) 4 short)
 
+-- Four octets of zeros are no subnet.
+pub subnet_none : (octets : List ℕ) → length octets ≡ 4 → number_32 octets ≡ 0 → codes " 0/0/0" ≡ subnet_text octets
+subnet_none octets four zero = rw (le-ltb (length octets) 4 (omega (arith, four)), eq-eqb (length octets) 4 four, eq-eqb (number_32 octets) 0 zero)
+
+some_family : (octets : List ℕ) → 0 < number_16 octets → ((length octets == 4) && (number_32 octets == 0)) ≡ false
+some_family octets some = rw (ne_eqb (number_32 octets) 0 (λ e. omega (arith, e))) (and_false (length octets == 4))
+
 -- A subnet of family 1 with at most 4 octets of address prints as an IPv4 subnet.
 pub subnet_ipv4 : (octets : List ℕ) → 4 ≤ length octets → number_16 octets ≡ 1 → length octets ≤ 8 → ipv4_subnet_text octets ≡ subnet_text octets
-subnet_ipv4 octets long family short = rw (le-ltb (length octets) 4 long, eq-eqb (number_16 octets) 1 family, le-leb (length octets) 8 short)
+subnet_ipv4 octets long family short = rw (le-ltb (length octets) 4 long, some_family octets (omega (arith, family)), eq-eqb (number_16 octets) 1 family, le-leb (length octets) 8 short)
 
 -- A subnet of family 2 with at most 16 octets of address prints as an IPv6 subnet.
 pub subnet_ipv6 : (octets : List ℕ) → 4 ≤ length octets → number_16 octets ≡ 2 → length octets ≤ 20 → ipv6_subnet_text octets ≡ subnet_text octets
 subnet_ipv6 octets long family short =
-    rw (le-ltb (length octets) 4 long, ne_eqb (number_16 octets) 1 (λ e. omega (arith, e, family)), eq-eqb (number_16 octets) 2 family, le-leb (length octets) 20 short)
+    rw (
+      le-ltb (length octets) 4 long,
+      some_family octets (omega (arith, family)),
+      ne_eqb (number_16 octets) 1 (λ e. omega (arith, e, family)),
+      eq-eqb (number_16 octets) 2 family,
+      le-leb (length octets) 20 short,
+    )

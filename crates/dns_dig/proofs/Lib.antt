@@ -6,11 +6,12 @@ mod Readings
 mod LineTexts
 mod Ends
 mod Pieces
+mod PrintedOnce
 mod Gaps
 mod Choices
-mod Places
 mod Values
 mod OptTexts
+mod OptItems
 mod ItemLines
 mod Durations
 mod ZoneLines

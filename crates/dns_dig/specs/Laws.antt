@@ -1,5 +1,6 @@
 -- What is true of the lines of records.
-use Rattle.std.specs.Prelude.{◌≡◌, ℕ, ◌+◌, ◌<◌, ◌⊎◌, Bool, if◌then◌else◌, List, ◌++◌, length, map, All, Some, Result, Ok, Err, codes, decimal}
+use Rattle.std.specs.Prelude.{◌≡◌, ℕ, ◌+◌, ◌<◌, ◌⊎◌, Bool, true, false, if◌then◌else◌, List, [], ◌∷◌, ◌++◌, length, map, All, Some, Result, Ok, Err, codes, decimal}
+use Rattle.std.specs.List.{concat, flat_map, list_any}
 use Rattle.dns_name.specs.Names.{Fault}
 use Rattle.dns_item.specs.ParsedRecord.{EncodedRecord}
 use Rattle.dns_read.specs.declared.section.Section.{Section}
@@ -9,9 +10,10 @@ use Rattle.dns_lines.specs.ZoneLines.{line_with, malformed_line}
 use Rattle.fields_plain.specs.TypeNames.{class_word, type_word}
 use Rattle.fields_plain.specs.ZoneNames.{zone_name_text}
 use Rattle.fields_table.specs.FieldData.{type_layout}
-use Rattle.dns_dig.specs.Opt.{is_opt}
+use Rattle.dns_dig.specs.Opt.{is_opt, opt_text}
 use Rattle.dns_dig.specs.Records.{record_data, record_line}
-use Rattle.dns_dig.specs.Sections.{is_signature, item_lines, section_lines}
+use Rattle.dns_dig.specs.Sections.{is_opt_item, is_signature, item_lines, opts_text, section_lines, signed_record_text, signatures_text}
+use Rattle.dns_dig.specs.declared.signature.Signature.{Signature}
 use Rattle.dns_dig.specs.declared.signature.Signature.TheVariants.{Tsig, Sig0}
 
 -- the line of an item: a record, or that it is malformed
@@ -27,17 +29,50 @@ HasEachLine section = (xs : List (Result EncodedRecord Fault)) → section_lines
 abbrev pub SectionsHaveEachLine : Type 0
 SectionsHaveEachLine = HasEachLine Answer × HasEachLine Authority
 
+-- the first OPT record of items prints before the sections, and the others in their section
+pub record IsOptPrinted (xs : List (Result EncodedRecord Fault)) : Type 0 where
+  pub before : List (Result EncodedRecord Fault)
+  pub opt : EncodedRecord
+  pub after : List (Result EncodedRecord Fault)
+  pub whole : xs ≡ before ++ Ok opt ∷ after
+  pub first : list_any is_opt_item before ≡ false
+  pub is : is_opt opt ≡ true
+  pub text : opts_text (Some xs) ≡ opt_text opt
+  pub lines : section_lines Additional (Some xs) ≡ flat_map (item_lines Additional) (before ++ after)
+
+-- items without an OPT record print in their section
+pub record HasNoOpt (xs : List (Result EncodedRecord Fault)) : Type 0 where
+  pub none : list_any is_opt_item xs ≡ false
+  pub text : opts_text (Some xs) ≡ []
+  pub lines : section_lines Additional (Some xs) ≡ flat_map (item_lines Additional) xs
+
+-- The additional section prints without its first OPT record, which prints before the sections.
+abbrev pub FirstOptIsPrinted : Type 0
+FirstOptIsPrinted = (xs : List (Result EncodedRecord Fault)) → IsOptPrinted xs ⊎ HasNoOpt xs
+
+-- the records that can be read and of which a test holds, in order
+abbrev pub records_with : (EncodedRecord → Bool) → List (Result EncodedRecord Fault) → List EncodedRecord
+records_with test [] = []
+records_with test (Ok x ∷ xs) = if test x then x ∷ records_with test xs else records_with test xs
+records_with test (Err f ∷ xs) = records_with test xs
+
+-- Each record that signs the message prints after the sections, in order.
+abbrev pub EachSignatureIsPrinted : Type 0
+EachSignatureIsPrinted =
+    (signature : Signature) (xs : List (Result EncodedRecord Fault))
+    → signatures_text signature (Some xs) ≡ concat (map (signed_record_text signature) (records_with (is_signature signature) xs))
+
 -- 1 if a test holds, else 0
 abbrev pub one_if : Bool → ℕ
 one_if test = if test then 1 else 0
 
--- how often a record of the additional section is printed: in its section, as OPT before all sections, and as a signature after them
-abbrev pub places : EncodedRecord → ℕ
-places x = length (item_lines Additional (Ok x)) + (one_if (is_opt x) + (one_if (is_signature Tsig x) + one_if (is_signature Sig0 x)))
+-- how often another record of the additional section is printed: in its section, and as a signature after the sections
+abbrev pub times_printed : EncodedRecord → ℕ
+times_printed x = length (item_lines Additional (Ok x)) + (one_if (is_signature Tsig x) + one_if (is_signature Sig0 x))
 
 -- Each is printed once.
 abbrev pub AdditionalsArePrintedOnce : Type 0
-AdditionalsArePrintedOnce = (x : EncodedRecord) → places x ≡ 1
+AdditionalsArePrintedOnce = (x : EncodedRecord) → times_printed x ≡ 1
 
 -- the fields of a record, with these texts between them
 abbrev pub fields_between : List ℕ → List ℕ → List ℕ → List ℕ → EncodedRecord → List ℕ

@@ -112,10 +112,11 @@ ipv4_subnet_text octets = codes " " ++ (ipv4_text (padded 4 (drop 4 octets)) ++ 
 abbrev pub ipv6_subnet_text : List ℕ → List ℕ
 ipv6_subnet_text octets = codes " " ++ (ipv6_text (segments_of (padded 16 (drop 4 octets))) ++ prefix_lengths octets)
 
--- Client subnet: family 1 is IPv4, and 2 is IPv6. RFC 7871 section 6.
+-- Client subnet: family 0 without an address, which is no subnet; 1 is IPv4, and 2 is IPv6. RFC 7871 sections 6 and 7.1.2.
 abbrev pub subnet_text : List ℕ → List ℕ
 subnet_text octets =
     if nat_lt (length octets) 4 then octets_text octets
+    else if (length octets == 4) && (number_32 octets == 0) then codes " 0/0/0"
     else if (number_16 octets == 1) && nat_le (length octets) 8 then ipv4_subnet_text octets
     else if (number_16 octets == 2) && nat_le (length octets) 20 then ipv6_subnet_text octets
     else octets_text octets

@@ -1,5 +1,5 @@
 -- The sections of a message as lines below headings. RFC 1035 section 4.1; of an update: RFC 2136 section 2.
-use Rattle.std.specs.Prelude.{ℕ, ◌==◌, ◌&&◌, ◌||◌, Bool, false, if◌then◌else◌, List, [], ◌∷◌, ◌++◌, map, Option, Some, None, Result, Ok, Err, codes}
+use Rattle.std.specs.Prelude.{ℕ, ◌==◌, ◌&&◌, ◌||◌, Bool, true, false, if◌then◌else◌, List, [], ◌∷◌, ◌++◌, map, Option, Some, None, Result, Ok, Err, codes}
 use Rattle.std.specs.List.{concat, flat_map}
 use Rattle.dns_name.specs.Names.{Fault}
 use Rattle.dns_item.specs.ParsedRecord.{EncodedRecord}
@@ -59,13 +59,9 @@ is_signature Sig0 x = (x.entry.rtype == 24) && covers_no_type (rdata_octets x)
 abbrev pub signs : EncodedRecord → Bool
 signs x = is_signature Tsig x || is_signature Sig0 x
 
--- whether a record is of the whole message, and isn't printed in its section: OPT that prints by its fields, or a record that signs the message
-abbrev pub is_of_message : EncodedRecord → Bool
-is_of_message x = is_opt x || signs x
-
--- whether a record is printed elsewhere: one of the message in the additional section is
+-- whether a record is printed elsewhere: one of the additional section that signs the message is
 abbrev pub is_elsewhere : Section → EncodedRecord → Bool
-is_elsewhere Additional x = is_of_message x
+is_elsewhere Additional x = signs x
 is_elsewhere section x = false
 
 -- the lines of an item of a section: one of a record, unless it is printed elsewhere, or one that says that a record is malformed
@@ -73,28 +69,56 @@ abbrev pub item_lines : Section → Result EncodedRecord Fault → List (List �
 item_lines section (Ok x) = if is_elsewhere section x then [] else record_line x ∷ []
 item_lines section (Err f) = malformed_line section ∷ []
 
+-- whether an item is an OPT record that prints by its fields
+abbrev pub is_opt_item : Result EncodedRecord Fault → Bool
+is_opt_item (Ok x) = is_opt x
+is_opt_item (Err f) = false
+
+-- items without the first OPT record
+abbrev pub without_opt : List (Result EncodedRecord Fault) → List (Result EncodedRecord Fault)
+without_opt [] = []
+without_opt (x ∷ xs) = if is_opt_item x then xs else x ∷ without_opt xs
+
+-- items, without the first OPT record if that is printed elsewhere
+abbrev pub items_left : Bool → List (Result EncodedRecord Fault) → List (Result EncodedRecord Fault)
+items_left elsewhere xs = if elsewhere then without_opt xs else xs
+
+-- whether a section is the additional one, whose first OPT record is printed elsewhere
+abbrev pub is_additional : Section → Bool
+is_additional Additional = true
+is_additional section = false
+
 -- the lines of a section; one that says so if it has no start
 abbrev pub section_lines : Section → Option (List (Result EncodedRecord Fault)) → List (List ℕ)
 section_lines section None = missing_line section ∷ []
-section_lines section (Some xs) = flat_map (item_lines section) xs
+section_lines section (Some xs) = flat_map (item_lines section) (items_left (is_additional section) xs)
 
 -- a section of records
 abbrev pub records_text : ℕ → Section → Option (List (Result EncodedRecord Fault)) → List ℕ
 records_text opcode section reading = section_text (record_heading opcode section) (section_lines section reading)
 
--- what is printed of an item of the additional section before all sections: its OPT record
+-- what is printed of an item before all sections: of an OPT record its fields
 abbrev pub opt_item_text : Result EncodedRecord Fault → List ℕ
 opt_item_text (Ok x) = if is_opt x then opt_text x else []
 opt_item_text (Err f) = []
+
+-- the first OPT record
+abbrev pub first_opt_text : List (Result EncodedRecord Fault) → List ℕ
+first_opt_text [] = []
+first_opt_text (x ∷ xs) = if is_opt_item x then opt_item_text x else first_opt_text xs
 
 -- the heading of a record that signs the message
 abbrev pub signature_heading : Signature → List ℕ
 signature_heading Tsig = codes ";; TSIG PSEUDOSECTION:\n"
 signature_heading Sig0 = codes ";; SIG0 PSEUDOSECTION:\n"
 
--- a record that signs the message below a heading; nothing for another
+-- a record below the heading, and an empty line
+abbrev pub signed_record_text : Signature → EncodedRecord → List ℕ
+signed_record_text signature x = signature_heading signature ++ (record_line x ++ codes "\n")
+
+-- a record that signs the message in this way; nothing for another
 abbrev pub signature_record_text : Signature → EncodedRecord → List ℕ
-signature_record_text signature x = if is_signature signature x then signature_heading signature ++ (record_line x ++ codes "\n") else []
+signature_record_text signature x = if is_signature signature x then signed_record_text signature x else []
 
 -- what is printed of an item of the additional section after all sections: a record that signs the message
 abbrev pub signature_item_text : Signature → Result EncodedRecord Fault → List ℕ
@@ -104,7 +128,7 @@ signature_item_text signature (Err f) = []
 -- what is printed of the items of the additional section before all sections, and after them; nothing if it has no start
 abbrev pub opts_text : Option (List (Result EncodedRecord Fault)) → List ℕ
 opts_text None = []
-opts_text (Some xs) = flat_map opt_item_text xs
+opts_text (Some xs) = first_opt_text xs
 
 abbrev pub signatures_text : Signature → Option (List (Result EncodedRecord Fault)) → List ℕ
 signatures_text signature None = []

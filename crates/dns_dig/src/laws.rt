@@ -1,15 +1,17 @@
 //! Theorems on what is printed of all messages. The functions do nothing: the contract of each is a
 //! theorem.
 ghost use Rattle.std.specs.Prelude.{◌≡◌};
-ghost use Rattle.dns_dig.specs.Laws.{AdditionalsArePrintedOnce, LinesAreZoneLines, SectionsHaveEachLine};
+ghost use Rattle.dns_dig.specs.Laws.{AdditionalsArePrintedOnce, EachSignatureIsPrinted, FirstOptIsPrinted, LinesAreZoneLines, SectionsHaveEachLine};
 
 use crate::message::MessageDig;
 
 /// The answer and the authority section have one line for each record that can be read, in order,
-/// and one for the error that ends it. A record of the additional section is printed once, in its
-/// section or in a section of its own.
+/// and one for the error that ends it. A record of the additional section is printed once: in its
+/// section, before the sections if it is the first OPT record, or after them if it signs the message.
 pub fn records_have_one_line()
     ensures sections { SectionsHaveEachLine }
+    ensures opt { FirstOptIsPrinted }
+    ensures signatures { EachSignatureIsPrinted }
     ensures additional { AdditionalsArePrintedOnce }
 {}
 

@@ -13,7 +13,7 @@ ghost use Rattle.dns_read.specs.RecordSection.{record_result, records_left};
 ghost use Rattle.dns_json.specs.Cursors.{reading_left};
 ghost use Rattle.dns_dig.specs.Opt.{edns_line, is_of_root, is_opt, opt_flags_text, opt_text, reserved_text, size_text, version_text};
 ghost use Rattle.dns_dig.specs.OptionTexts.{option_line};
-ghost use Rattle.dns_dig.specs.Sections.{opt_item_text, opts_text};
+ghost use Rattle.dns_dig.specs.Sections.{first_opt_text, is_opt_item, opt_item_text, opts_text};
 
 use crate::header::write_if;
 use crate::option::write_options;
@@ -27,7 +27,7 @@ use dns_print::{TextWriter, write_hex_octet, write_number};
 use dns_read::RecordSection;
 use std::fmt;
 
-/// Prints the OPT record of a section.
+/// Prints the first OPT record of a section that prints by its fields.
 pub(crate) fn write_opts<T: TextWriter>(
     writer: &mut T,
     records: Result<RecordSection<'_>, ParseError>,
@@ -37,21 +37,35 @@ pub(crate) fn write_opts<T: TextWriter>(
     ensures err { OnErr result T.MayFail }
 {
     match records {
-        Ok(records) => write_each(writer, records),
+        Ok(records) => write_first(writer, records),
         Err(_) => Ok(()),
     }
 }
 
-fn write_each<T: TextWriter>(writer: &mut T, records: RecordSection<'_>) -> fmt::Result
+fn write_first<T: TextWriter>(writer: &mut T, records: RecordSection<'_>) -> fmt::Result
     ensures text { PrintsOnOk T.takes writer.old result
-        (flat_map opt_item_text (records_left records.entry)) writer.new }
+        (first_opt_text (records_left records.entry)) writer.new }
     ensures err { OnErr result T.MayFail }
 {
     let mut records = records;
     while let Some(parsed) = records.next() {
-        write_item(writer, parsed)?;
+        if is_opt_item(&parsed) {
+            return write_item(writer, parsed);
+        }
     }
     Ok(())
+}
+
+/// Whether an item of a section is an OPT record that prints by its fields.
+pub(crate) fn is_opt_item(parsed: &Result<ParsedRecord<'_>, ParseError>) -> bool
+    requires read { IfOk parsed.now (λ r. IsRead (encoded_record r)) }
+    requires short { IfOk parsed.now (λ r. HasShortData (encoded_record r)) }
+    ensures { result ≡ is_opt_item (record_result parsed.now) }
+{
+    match parsed {
+        Ok(parsed) => is_opt(parsed),
+        Err(_) => false,
+    }
 }
 
 /// Prints a record if it is an OPT record that prints by its fields.
@@ -107,7 +121,7 @@ fn is_root(name: &ParsedName<'_>) -> bool
 }
 
 /// Whether a record is an OPT record that prints by its fields.
-pub(crate) fn is_opt(parsed: &ParsedRecord<'_>) -> bool
+fn is_opt(parsed: &ParsedRecord<'_>) -> bool
     requires read { IsRead (encoded_record parsed.now) }
     requires short { HasShortData (encoded_record parsed.now) }
     ensures { result ≡ is_opt (encoded_record parsed.now) }

@@ -1,5 +1,5 @@
 //! The sections of records.
-ghost use Rattle.std.specs.Prelude.{◌≡◌, IfOk, None, Ok, OnErr, OnOk, Some};
+ghost use Rattle.std.specs.Prelude.{◌≡◌, ◌&&◌, IfOk, None, Ok, OnErr, OnOk, Some};
 ghost use Rattle.std.specs.Fmt.{WritesInCalls};
 ghost use Rattle.dns_item.specs.ParsedRecord.{encoded_record};
 ghost use Rattle.dns_lines.specs.Show.{HasShortData, IsRead};
@@ -9,10 +9,10 @@ ghost use Rattle.dns_read.specs.RecordSection.{record_result, records_left};
 ghost use Rattle.dns_json.specs.Cursors.{reading_left};
 ghost use Rattle.dns_dig.specs.Lines.{begun_after, line_text, lines_text};
 ghost use Rattle.dns_dig.specs.Records.{record_line};
-ghost use Rattle.dns_dig.specs.Sections.{is_elsewhere, is_of_message, item_lines, query_heading, record_heading, records_text, section_lines, section_text, signs, update_heading};
+ghost use Rattle.dns_dig.specs.Sections.{is_additional, is_elsewhere, is_opt_item, item_lines, query_heading, record_heading, records_text, section_lines, section_text, signs, update_heading};
 
 use crate::line::{write_end, write_heading};
-use crate::opt::is_opt;
+use crate::opt::is_opt_item;
 use crate::record::write_record;
 use crate::signature::Signature;
 use dns_iana::Opcode;
@@ -74,7 +74,8 @@ fn query_heading(section: Section) -> &'static str
     }
 }
 
-/// Prints the lines of a section, below its heading if there are any.
+/// Prints the lines of a section, below its heading if there are any. The first OPT record of the
+/// additional section has none.
 fn write_each<T: TextWriter>(
     writer: &mut T,
     heading: &str,
@@ -88,10 +89,34 @@ fn write_each<T: TextWriter>(
 {
     let mut records = records;
     let mut begun = false;
+    let mut elsewhere = is_additional(section);
     while let Some(parsed) = records.next() {
-        begun = write_item(writer, heading, begun, section, parsed)?;
+        if is_printed_before(elsewhere, &parsed) {
+            elsewhere = false;
+        } else {
+            begun = write_item(writer, heading, begun, section, parsed)?;
+        }
     }
     write_end(writer, begun)
+}
+
+/// Whether a section is the additional one, whose first OPT record is printed elsewhere.
+fn is_additional(section: Section) -> bool
+    ensures { result ≡ is_additional section }
+{
+    match section {
+        Section::Additional => true,
+        Section::Answer | Section::Authority => false,
+    }
+}
+
+/// Whether an item is an OPT record, which is printed elsewhere.
+fn is_printed_before(elsewhere: bool, parsed: &Result<ParsedRecord<'_>, ParseError>) -> bool
+    requires read { IfOk parsed.now (λ r. IsRead (encoded_record r)) }
+    requires short { IfOk parsed.now (λ r. HasShortData (encoded_record r)) }
+    ensures { result ≡ (elsewhere && is_opt_item (record_result parsed.now)) }
+{
+    elsewhere && is_opt_item(parsed)
 }
 
 /// Prints the line of a record or of an error, if it has one, after the heading if it is the first.
@@ -151,18 +176,9 @@ fn is_elsewhere(section: Section, parsed: &ParsedRecord<'_>) -> bool
     ensures { result ≡ is_elsewhere section (encoded_record parsed.now) }
 {
     match section {
-        Section::Additional => is_of_message(parsed),
+        Section::Additional => signs(parsed),
         Section::Answer | Section::Authority => false,
     }
-}
-
-/// Whether a record is of the whole message: OPT or a signature.
-fn is_of_message(parsed: &ParsedRecord<'_>) -> bool
-    requires read { IsRead (encoded_record parsed.now) }
-    requires short { HasShortData (encoded_record parsed.now) }
-    ensures { result ≡ is_of_message (encoded_record parsed.now) }
-{
-    is_opt(parsed) || signs(parsed)
 }
 
 /// Whether a record signs the message.

@@ -3,20 +3,23 @@ ghost use Rattle.std.specs.Prelude.{◌≡◌, ◌≤◌, OnErr, length};
 ghost use Rattle.dns_print.specs.Printing.{PrintsOnOk};
 ghost use Rattle.dns_dig.specs.OptionTexts.{ipv4_subnet_text, ipv6_subnet_text, padded, prefix_lengths, subnet_text};
 
-use crate::value::{number_16, write_octets};
+use crate::value::{number_16, number_32, write_octets};
 use dns_print::{TextWriter, write_ipv4, write_number};
 use fields_plain::write_ipv6;
 use std::fmt;
 use std::net::Ipv6Addr;
 
 /// Prints the octets of a client subnet: the address, and the lengths of its prefixes.
-#[tactic(auto, using(dns_print::proofs::theory::Prints::prints, dns_print::proofs::theory::Prints::print_none, std::proofs::lemmas::Grind::common_steps, crate::proofs::Choices::subnet_short, crate::proofs::Choices::subnet_ipv4, crate::proofs::Choices::subnet_ipv6))]
+#[tactic(auto, using(dns_print::proofs::theory::Prints::prints, dns_print::proofs::theory::Prints::print_none, std::proofs::lemmas::Grind::common_steps, crate::proofs::Choices::subnet_short, crate::proofs::Choices::subnet_none, crate::proofs::Choices::subnet_ipv4, crate::proofs::Choices::subnet_ipv6))]
 pub(crate) fn write_subnet<T: TextWriter>(writer: &mut T, octets: &[u8]) -> fmt::Result
     ensures text { PrintsOnOk T.takes writer.old result (subnet_text octets.now) writer.new }
     ensures err { OnErr result T.MayFail }
 {
     if octets.len() < 4 {
         return write_octets(writer, octets);
+    }
+    if octets.len() == 4 && number_32(octets) == 0 {
+        return writer.write_text(" 0/0/0");
     }
     let family = number_16(octets);
     if family == 1 && octets.len() <= 8 {

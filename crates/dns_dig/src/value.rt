@@ -127,7 +127,7 @@ pub(crate) fn number_16(octets: &[u8]) -> u16
 }
 
 /// The first four octets as a number, big-endian.
-fn number_32(octets: &[u8]) -> u32
+pub(crate) fn number_32(octets: &[u8]) -> u32
     requires { 4 ≤ length octets.now }
     ensures { result ≡ number_32 octets.now }
 {

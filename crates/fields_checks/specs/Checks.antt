@@ -2,8 +2,8 @@
 use Rattle.std.specs.Prelude.{◌≡◌, ℕ, ◌-◌, ◌==◌, ◌||◌, if◌then◌else◌, Option, Some, None, List, [], ◌∷◌, length, map, Result, Ok, Err}
 use Rattle.fields_checks.specs.Digests.{digest_reason}
 use Rattle.fields_checks.specs.Services.{service_reason}
-use Rattle.fields_checks.specs.declared.value_fault.Reason.{Reason}
-use Rattle.fields_checks.specs.declared.value_fault.ValueFault.{ValueFault}
+use Rattle.fields_checks.specs.declared.check_error.ValueReason.{ValueReason}
+use Rattle.fields_checks.specs.declared.check_error.CheckError.{CheckError}
 use Rattle.fields_parameters.specs.ParameterItems.{parameters_of}
 use Rattle.fields_table.specs.Data.{parts_of, rtype_of}
 use Rattle.fields_table.specs.FieldParts.{NamedPart, named_parts}
@@ -41,7 +41,7 @@ last_octets octets [] = octets
 last_octets octets (value ∷ values) = last_octets (octets_or value octets) values
 
 -- what is wrong with the values of RDATA of this type: its parameters if it is SVCB or HTTPS, else its digest, by the number before it
-abbrev pub reason_of : ℕ → List FieldValue → Option Reason
+abbrev pub reason_of : ℕ → List FieldValue → Option ValueReason
 reason_of rtype values =
     if (rtype == 64) || (rtype == 65) then service_reason (parameters_of (last_octets [] values))
     else digest_reason rtype (last_number 0 values) (length (last_octets [] values))
@@ -51,9 +51,9 @@ abbrev pub last_field : ℕ → ℕ
 last_field rtype = length (definitions_of rtype) - 1
 
 -- nothing is wrong, or what is, in the last field
-abbrev pub checked : ℕ → Option Reason → Result Unit ValueFault
+abbrev pub checked : ℕ → Option ValueReason → Result Unit CheckError
 checked rtype None = Ok tt
 checked rtype (Some reason) = Err (record { field = last_field rtype; reason = reason })
 
-abbrev pub ChecksValues : ℕ → List FieldValue → Result Unit ValueFault → Type 0
+abbrev pub ChecksValues : ℕ → List FieldValue → Result Unit CheckError → Type 0
 ChecksValues rtype values result = result ≡ checked rtype (reason_of rtype values)

@@ -1,7 +1,7 @@
 -- The sizes of digests, in octets.
 use Rattle.std.specs.Prelude.{ℕ, ◌==◌, ◌&&◌, ◌||◌, nat_lt, if◌then◌else◌, Option, Some, None}
-use Rattle.fields_checks.specs.declared.value_fault.Reason.{Reason}
-use Rattle.fields_checks.specs.declared.value_fault.Reason.TheVariants.{DigestSize, ShortDigest}
+use Rattle.fields_checks.specs.declared.check_error.ValueReason.{ValueReason}
+use Rattle.fields_checks.specs.declared.check_error.ValueReason.TheVariants.{DigestSize, ShortDigest}
 
 -- a digest of a key, by its type: SHA-1 (RFC 3658), SHA-256 (RFC 4509), GOST R 34.11-94 (RFC 5933), SHA-384 (RFC 6605), GOST R 34.11-2012 (RFC 9558), SM3 (RFC 9563)
 abbrev pub delegation_size : ℕ → Option ℕ
@@ -28,14 +28,14 @@ digest_size rtype number =
     else None
 
 -- what is wrong with a digest of so many octets whose type says no size: that of a zone has twelve at least. RFC 8976 section 2.2.4
-abbrev pub short_reason : ℕ → ℕ → Option Reason
+abbrev pub short_reason : ℕ → ℕ → Option ValueReason
 short_reason rtype size = if (rtype == 63) && nat_lt size 12 then Some ShortDigest else None
 
 -- the same, if its type says this size
-abbrev pub size_reason : ℕ → ℕ → Option ℕ → Option Reason
+abbrev pub size_reason : ℕ → ℕ → Option ℕ → Option ValueReason
 size_reason rtype size None = short_reason rtype size
 size_reason rtype size (Some wanted) = if size == wanted then None else Some (DigestSize wanted)
 
 -- what is wrong with a digest of so many octets in RDATA of this type, after this number
-abbrev pub digest_reason : ℕ → ℕ → ℕ → Option Reason
+abbrev pub digest_reason : ℕ → ℕ → ℕ → Option ValueReason
 digest_reason rtype number size = size_reason rtype size (digest_size rtype number)

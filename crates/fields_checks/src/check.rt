@@ -4,9 +4,9 @@ ghost use Rattle.fields_checks.specs.Checks.{ChecksValues, last_field, last_numb
 ghost use Rattle.fields_table.specs.Data.{rtype_of};
 ghost use Rattle.fields_table.specs.Values.{value_shown};
 
+use crate::check_error::{CheckError, ValueReason};
 use crate::digest::digest_reason;
 use crate::service::service_reason;
-use crate::value_fault::{Reason, ValueFault};
 use dns_data::RecordData;
 use fields_table::{FieldData, Value, fields_of};
 
@@ -53,7 +53,7 @@ fn last_field(rtype: u16) -> usize
 }
 
 /// What is wrong with the values of RDATA.
-fn reason_of(data: &FieldData<'_>) -> Option<Reason>
+fn reason_of(data: &FieldData<'_>) -> Option<ValueReason>
     ensures { result ≡ reason_of (rtype_of data.now) (values_of data.now) }
 {
     let (number, octets) = last_values(data);
@@ -67,13 +67,14 @@ fn reason_of(data: &FieldData<'_>) -> Option<Reason>
 ///
 /// - The digest of a DS, CDS, DLV, TA or ZONEMD record and the fingerprint of an SSHFP record has the
 ///   size of its type, if the type is registered. A ZONEMD record's has 12 octets at least.
-/// - In an SVCB or HTTPS record each key that `mandatory` lists has a parameter, and
-///   `no-default-alpn` comes with `alpn` (RFC 9460 sections 7.1.1 and 8).
-pub fn check_values(data: &FieldData<'_>) -> Result<(), ValueFault>
+/// - In an SVCB or HTTPS record `mandatory` lists keys in ascending order, one at least, and not its
+///   own. Each of them has a parameter. `no-default-alpn` comes with `alpn` (RFC 9460 sections 7.1.1
+///   and 8).
+pub fn check_values(data: &FieldData<'_>) -> Result<(), CheckError>
     ensures { ChecksValues (rtype_of data.now) (values_of data.now) result }
 {
     match reason_of(data) {
-        Some(reason) => Err(ValueFault {
+        Some(reason) => Err(CheckError {
             field: last_field(data.rtype().to_int()),
             reason,
         }),

@@ -2,7 +2,7 @@
 ghost use Rattle.std.specs.Prelude.{◌≡◌, length};
 ghost use Rattle.fields_checks.specs.Digests.{delegation_size, digest_reason, digest_size, fingerprint_size, short_reason, zone_size};
 
-use crate::value_fault::Reason;
+use crate::check_error::ValueReason;
 
 /// The number of octets of a digest of a key (RFC 4034 section 5.1.3; the registry of digest types).
 fn delegation_size(digest_type: u64) -> Option<usize>
@@ -52,17 +52,17 @@ fn digest_size(rtype: u16, number: u64) -> Option<usize>
 
 /// What is wrong with a digest whose type says no size: a digest of a zone has twelve octets at least
 /// (RFC 8976 section 2.2.4).
-fn short_reason(rtype: u16, digest: &[u8]) -> Option<Reason>
+fn short_reason(rtype: u16, digest: &[u8]) -> Option<ValueReason>
     ensures { result ≡ short_reason rtype (length digest.now) }
 {
     if rtype == 63 && digest.len() < 12 {
-        return Some(Reason::ShortDigest);
+        return Some(ValueReason::ShortDigest);
     }
     None
 }
 
 /// What is wrong with the digest of RDATA of this type.
-pub(crate) fn digest_reason(rtype: u16, number: u64, digest: &[u8]) -> Option<Reason>
+pub(crate) fn digest_reason(rtype: u16, number: u64, digest: &[u8]) -> Option<ValueReason>
     ensures { result ≡ digest_reason rtype number (length digest.now) }
 {
     let Some(size) = digest_size(rtype, number) else {
@@ -71,5 +71,5 @@ pub(crate) fn digest_reason(rtype: u16, number: u64, digest: &[u8]) -> Option<Re
     if digest.len() == size {
         return None;
     }
-    Some(Reason::DigestSize(size))
+    Some(ValueReason::DigestSize(size))
 }

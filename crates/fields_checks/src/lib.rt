@@ -2,9 +2,10 @@
 #![tactic(auto)]
 
 mod check;
+mod check_error;
 mod digest;
+pub mod laws;
 mod service;
-mod value_fault;
 
 pub use check::check_values;
-pub use value_fault::{Reason, ValueFault};
+pub use check_error::{CheckError, ValueReason};

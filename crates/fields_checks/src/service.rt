@@ -1,12 +1,12 @@
 //! Service parameters that need others (RFC 9460 sections 7.1.1 and 8).
-ghost use Rattle.std.specs.Prelude.{◌≡◌, map, find, not};
+ghost use Rattle.std.specs.Prelude.{◌≡◌, find, map, not};
 ghost use Rattle.std.specs.Int.{from_be_bytes, w16};
-ghost use Rattle.fields_checks.specs.Services.{has_key, listed_keys, missing_key, service_reason};
+ghost use Rattle.fields_checks.specs.Services.{are_ascending, are_mandatory_keys, has_bad_mandatory, has_key, is_bad_mandatory, listed_keys, missing_key, service_reason};
 ghost use Rattle.fields_lists.specs.Groups.{groups};
 ghost use Rattle.fields_parameters.specs.ItemsLeft.{parameter_item};
 ghost use Rattle.fields_parameters.specs.ParameterItems.{parameters_of};
 
-use crate::value_fault::Reason;
+use crate::check_error::ValueReason;
 use fields_parameters::{Parameter, Parameters};
 
 /// Whether one of the parameters has this key.
@@ -60,15 +60,61 @@ fn missing_key(parameters: &[u8]) -> Option<u16>
     None
 }
 
+/// Whether these keys of two octets are in strictly ascending order, and greater than 0.
+fn are_ascending(keys: &[u8]) -> bool
+    ensures { result ≡ are_ascending 0 (map (from_be_bytes w16) (groups 2 keys.now)) }
+{
+    let mut before = 0;
+    let mut left = keys;
+    'keys: while let Some((octets, after)) = left.split_first_chunk::<2>() {
+        let key = u16::from_be_bytes(*octets);
+        if key <= before {
+            return false;
+        }
+        before = key;
+        left = after;
+    }
+    true
+}
+
+/// Whether octets are a list of mandatory keys.
+fn are_mandatory_keys(octets: &[u8]) -> bool
+    ensures { result ≡ are_mandatory_keys octets.now }
+{
+    !octets.is_empty() && octets.len() % 2 == 0 && are_ascending(octets)
+}
+
+/// Whether a parameter is `mandatory` with a malformed list.
+fn is_bad_mandatory(parameter: Parameter<'_>) -> bool
+    ensures { result ≡ is_bad_mandatory (parameter_item parameter.entry) }
+{
+    parameter.key == 0 && !are_mandatory_keys(parameter.value)
+}
+
+/// Whether one of the parameters is `mandatory` with a malformed list.
+fn has_bad_mandatory(parameters: &[u8]) -> bool
+    ensures { result ≡ has_bad_mandatory (parameters_of parameters.now) }
+{
+    for parameter in Parameters::new(parameters) {
+        if is_bad_mandatory(parameter) {
+            return true;
+        }
+    }
+    false
+}
+
 /// What is wrong with service parameters.
-pub(crate) fn service_reason(parameters: &[u8]) -> Option<Reason>
+pub(crate) fn service_reason(parameters: &[u8]) -> Option<ValueReason>
     ensures { result ≡ service_reason (parameters_of parameters.now) }
 {
+    if has_bad_mandatory(parameters) {
+        return Some(ValueReason::BadMandatory);
+    }
     if let Some(key) = missing_key(parameters) {
-        return Some(Reason::MissingKey(key));
+        return Some(ValueReason::MissingKey(key));
     }
     if has_key(parameters, 2) && !has_key(parameters, 1) {
-        return Some(Reason::NoAlpn);
+        return Some(ValueReason::NoAlpn);
     }
     None
 }

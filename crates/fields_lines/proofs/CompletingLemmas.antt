@@ -1,5 +1,5 @@
 -- Appending completed words.
-use Rattle.std.proofs.Common.{◌≡◌, ◌∙◌, inl, inr, ℕ, zero, suc, ◌+◌, ◌-◌, ◌<◌, ◌≤◌, List, [], ◌∷◌, ◌++◌, length, get_or, take, drop, refl, sym, ap, subst, arith, append_assoc}
+use Rattle.std.proofs.Common.{◌≡◌, ◌∙◌, inl, inr, ℕ, zero, suc, ◌+◌, ◌<◌, ◌≤◌, List, [], ◌∷◌, ◌++◌, length, get_or, take, drop, refl, sym, ap, subst, arith, append_assoc}
 use Rattle.std.specs.Prelude.{Option, Some, None, Result, Ok, Err}
 use Rattle.std.specs.Borrow.{Bor}
 use Rattle.std.proofs.lemmas.List.{at_drop_all, at_drop_more, drop-map, map-append, take-map, take_all, take_more}
@@ -71,14 +71,15 @@ module _ (origin : Option (List ℕ)) (at rtype index : ℕ) (fields : List Fiel
     (n : ℕ) (count : n ≡ own_count (get_or fields 0 d).1 (texts words)) (front : own ≡ take n words) (back : after ≡ drop n words) (way : Way)
     (is_way : way ≡ way_of rtype index (get_or fields 0 d).1) where
   -- the fields from this one on
-  abbrev all_fields : Completed
+  abbrev pub all_fields : Completed
   all_fields = completed_fields origin at rtype index (kinds fields) base (texts words)
 
   -- the fields after it
-  abbrev others : Texts → Completed
+  abbrev pub others : Texts → Completed
   others more = completed_fields origin (at + n) rtype (index + 1) (kinds (drop 1 fields)) more (texts after)
 
-  fields_split : all_fields ≡ and_then (completed_own origin at way (texts own) 0 base (texts own)) others
+  -- the words of the first field, and then those of the others
+  pub fields_split : all_fields ≡ and_then (completed_own origin at way (texts own) 0 base (texts own)) others
   fields_split =
       let kind = (get_or fields 0 d).1 in
       let rest = λ (m : ℕ) (ts : Texts) (more : Texts). completed_fields origin (at + m) rtype (index + 1) (kinds (drop 1 fields)) more ts in

@@ -3,4 +3,5 @@ mod DurationLemmas
 mod LineLemmas
 mod MnemonicLemmas
 mod NameLemmas
+mod ProblemLemmas
 mod WordLemmas

@@ -3,7 +3,6 @@ use Rattle.std.proofs.Common.{◌≡◌, ◌∙◌, ◌⊎◌, inl, inr, ℕ, �
 use Rattle.std.specs.Prelude.{Option, Some, None, Result, Ok, Err, MatchResult, decimal, unwrap_or}
 use Rattle.std.specs.Borrow.{Bor}
 use Rattle.std.proofs.lemmas.List.{length-map}
-use Rattle.std.specs.Option.{option_or}
 use Rattle.dns_octets.specs.declared.octets.Octets.{Ghosts}
 use Rattle.dns_name.specs.declared.name.Name.{Name}
 use Rattle.dns_item.specs.Items.{RecordItem}
@@ -17,8 +16,8 @@ use Rattle.fields_records.specs.FieldWords.{Words}
 use Rattle.fields_records.specs.RecordWords.{IsRecordText, MayBeRecord}
 use Rattle.fields_lines.specs.Completing.{Completed, completed_data}
 use Rattle.fields_lines.specs.FieldWays.{Texts}
-use Rattle.fields_lines.specs.Lines.{CompletesTo, HasProblem, IsAfterOwner, IsLine, IsNoRecord, IsTail, IsTypeOf, Outcome, Owner, Problem, ReadsCompleted}
-use Rattle.fields_lines.specs.Lines.{ReadsLine, Says, named_owner, outcome_at, owner_of, owner_or, text_of_name, with_ttl, with_type}
+use Rattle.fields_lines.specs.Lines.{CompletesTo, HasProblem, HasWords, IsAfterOwner, IsLine, IsNoRecord, IsTail, IsTypeOf, Outcome, Owner, Problem, ReadsCompleted}
+use Rattle.fields_lines.specs.Lines.{IsBadIndex, ReadsLine, Reports, ReportsWhich, named_owner, outcome_at, owner_of, owner_or, record_ttl, text_of_name, with_ttl, with_type}
 use Rattle.fields_lines.specs.NameWords.{completed_name}
 use Rattle.fields_lines.specs.declared.defaults.Defaults.{Defaults}
 use Rattle.fields_lines.specs.declared.line_error.LineError.{LineError}
@@ -80,11 +79,11 @@ module _ (defaults : Defaults) (size : ℕ) (owner : List ℕ) (ttl class : Opti
 
 module _ (defaults : Defaults) (at : ℕ) (owner : List ℕ) (ttl class : Option ℕ) (word : List ℕ) (rtype : ℕ) (value : Texts) where
   -- no TTL
-  pub no_ttl : None ≡ option_or ttl defaults.ttl → Err (at, NoTtl) ≡ with_type defaults at owner ttl class word (Some rtype) value
+  pub no_ttl : None ≡ record_ttl ttl defaults.ttl → Err (at, NoTtl) ≡ with_type defaults at owner ttl class word (Some rtype) value
   no_ttl none = ap (λ (found : Option ℕ). with_ttl defaults at owner found (unwrap_or class defaults.class) word rtype value) none
 
   -- the RDATA after the owner, the TTL, the class and the type
-  pub type_data : (seconds own number : ℕ) (origin : Option (List ℕ)) (head : Texts) (completed : Completed) → Some seconds ≡ option_or ttl defaults.ttl
+  pub type_data : (seconds own number : ℕ) (origin : Option (List ℕ)) (head : Texts) (completed : Completed) → Some seconds ≡ record_ttl ttl defaults.ttl
       → own ≡ unwrap_or class defaults.class → number ≡ rtype
       → origin ≡ text_of_name defaults.origin → head ≡ owner ∷ decimal seconds ∷ class_word own ∷ word ∷ [] → completed_data origin (at + 1) number head value ≡ completed
       → outcome_at (at + 1) completed ≡ with_type defaults at owner ttl class word (Some rtype) value
@@ -116,6 +115,13 @@ module _ (defaults : Defaults) (named : Bool) (words : Words) where
       subst (λ (found : Owner). CompletesTo (LineBy defaults (length (texts words)) found) completed result) (sym is)
       (subst (λ (n : ℕ). CompletesTo (IsAfterOwner defaults n owner after) completed result) (sized ∙ sym (length-map words (λ (w : Bor (List ℕ)). w.now))) done)
 
+  -- the same, of an outcome
+  pub line_is : (owner : List ℕ) (after : Texts) (outcome : Outcome) → owner_of defaults named (texts words) ≡ Ok (owner, after) → IsAfterOwner defaults (length words) owner after outcome
+      → IsLine defaults named (texts words) outcome
+  line_is owner after outcome is done =
+      subst (λ (found : Owner). LineBy defaults (length (texts words)) found outcome) (sym is)
+      (subst (λ (n : ℕ). IsAfterOwner defaults n owner after outcome) (sym (length-map words (λ (w : Bor (List ℕ)). w.now))) done)
+
   -- the owner can't be completed
   pub line_none : (problem : Problem) → owner_of defaults named (texts words) ≡ Err problem → IsLine defaults named (texts words) (Err problem)
   line_none problem is =
@@ -123,8 +129,8 @@ module _ (defaults : Defaults) (named : Bool) (words : Words) where
       subst (λ (found : Owner). LineBy defaults (length (texts words)) found (Err problem)) (sym is) same
 
   -- the same, as an error says it
-  pub line_fails : (error : LineError) → (error ≡ OutOfMemory) ⊎ ((problem : Problem) × (owner_of defaults named (texts words) ≡ Err problem) × Says error problem)
-      → (error ≡ OutOfMemory) ⊎ ((problem : Problem) × IsLine defaults named (texts words) (Err problem) × Says error problem)
+  pub line_fails : (error : LineError) → (error ≡ OutOfMemory) ⊎ ((problem : Problem) × (owner_of defaults named (texts words) ≡ Err problem) × Reports error problem)
+      → (error ≡ OutOfMemory) ⊎ ((problem : Problem) × IsLine defaults named (texts words) (Err problem) × Reports error problem)
   line_fails error (inl full) = inl full
   line_fails error (inr (problem, bad, says)) = inr (problem, line_none problem bad, says)
 
@@ -135,16 +141,24 @@ module _ {X : Type 0} {buffer : Ghosts X} (defaults : Defaults) (named : Bool) (
   pub line_read : (at : ℕ) (result : Result (Record (Name X buffer) OwnedFieldData) LineError) → IsLine defaults named (texts words) (Ok (at, completed)) → ReadsCompleted completed at result
       → ReadsLine defaults named words result
   line_read at (Ok record_read) line (found, same, is) = (at, found, subst (λ (ts : Texts). IsLine defaults named (texts words) (Ok (at, ts))) (sym same) line, is)
-  line_read at (Err error) line (inl full) = inl full
+  line_read at (Err error) line (inl full) = inl (full, (at, completed, line))
   line_read at (Err error) line (inr (found, same, none, says)) =
-      inr (inr (record { at = at; completed = found; is_line = subst (λ (ts : Texts). IsLine defaults named (texts words) (Ok (at, ts))) (sym same) line; none = none; says = says }))
+      inr
+      (inr
+      (record {
+        at = at;
+        completed = found;
+        is_line = subst (λ (ts : Texts). IsLine defaults named (texts words) (Ok (at, ts))) (sym same) line;
+        none = none;
+        reports = subst (λ (ts : Texts). ReportsWhich error ts at) (sym same) says;
+      }))
 
--- a line without complete words
-pub line_bad : (defaults : Defaults) (named : Bool) (words : Words) (error : LineError)
-    → (error ≡ OutOfMemory) ⊎ ((problem : Problem) × IsLine defaults named (texts words) (Err problem) × Says error problem)
-    → (error ≡ OutOfMemory) ⊎ (HasProblem defaults named words error ⊎ IsNoRecord defaults named words error)
-line_bad defaults named words error (inl full) = inl full
-line_bad defaults named words error (inr bad) = inr (inl bad)
+-- a line without complete words, or an allocation that fails
+pub line_bad : (defaults : Defaults) (named : Bool) (words : Words) (error : LineError) → HasWords (IsLine defaults named (texts words))
+    → (error ≡ OutOfMemory) ⊎ ((problem : Problem) × IsLine defaults named (texts words) (Err problem) × Reports error problem)
+    → ((error ≡ OutOfMemory) × HasWords (IsLine defaults named (texts words))) ⊎ (HasProblem defaults named words error ⊎ IsNoRecord defaults named words error)
+line_bad defaults named words error complete (inl full) = inl (full, complete)
+line_bad defaults named words error complete (inr bad) = inr (inl bad)
 
 -- words that are read as no record represent none
 pub no_record : (words : Words) (error : TextError) → error ≡ BadText
@@ -153,6 +167,5 @@ no_record words error bad (inl full) = absurd (cc (bad, full.0))
 no_record words error bad (inr none) = none.1
 
 -- the index of the owner or of the RDATA
-pub says_which : (error : LineError) (index at : ℕ) → error ≡ BadWord index NoValue → (index ≡ 0) ⊎ (index ≡ at) → Says error (0, NoValue) ⊎ Says error (at, NoValue)
-says_which error index at is (inl first) = inl (is ∙ ap (λ (n : ℕ). BadWord n NoValue) first)
-says_which error index at is (inr value) = inr (is ∙ ap (λ (n : ℕ). BadWord n NoValue) value)
+pub reports_which : (error : LineError) (completed words : Texts) (index at : ℕ) → words ≡ completed → IsBadIndex words at index → error ≡ BadWord index NoValue → ReportsWhich error completed at
+reports_which error completed words index at same bad is = (index, subst (λ (ts : Texts). IsBadIndex ts at index) same bad, is)

@@ -1,5 +1,5 @@
 -- The complete words of RDATA, by the fields of its type.
-use Rattle.std.specs.Prelude.{◌≡◌, ◌⊎◌, ℕ, ◌+◌, Bool, Option, Some, None, List, [], ◌∷◌, ◌++◌, take, drop, map, codes, bytes_eq, if◌then◌else◌, Ok, Err, Result, MatchResult}
+use Rattle.std.specs.Prelude.{◌≡◌, ◌⊎◌, ℕ, ◌+◌, Bool, Option, Some, None, List, [], ◌∷◌, ◌++◌, take, drop, map, codes, bytes_eq, if◌then◌else◌, Ok, Err, Result, MatchResult, MatchOption}
 use Rattle.fields_table.specs.Table.{kinds_of}
 use Rattle.fields_table.specs.declared.kind.Kind.{Kind}
 use Rattle.fields_lines.specs.FieldWays.{Texts, own_count, text_at, way_of, word_way}
@@ -58,3 +58,7 @@ abbrev pub PushesWords : Completed → List Word → Result Unit LineError → T
 PushesWords completed new result =
     MatchResult result (λ _. completed ≡ Ok (texts_of new))
     (λ error. (error ≡ OutOfMemory) ⊎ ((index : ℕ) × (completed ≡ Err index) × (error ≡ BadWord index Relative)))
+
+-- the words can be completed; or the index of the first relative name, without an origin
+abbrev pub FindsRelative : Completed → Option ℕ → Type 0
+FindsRelative completed found = MatchOption found ((words : Texts) × (completed ≡ Ok words)) (λ index. completed ≡ Err index)

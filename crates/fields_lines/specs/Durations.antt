@@ -1,4 +1,4 @@
--- Times in units, as `1h30m`: what BIND and dnspython read as a TTL.
+-- Times in units, as `1h30m`, as BIND and dnspython read TTLs. A number without a unit stands alone, also after zero seconds: BIND reads `0s5` as 5.
 use Rattle.std.specs.Prelude.{ℕ, ◌+◌, ◌*◌, ◌-◌, ◌^◌, ◌==◌, ◌||◌, nat_lt, if◌then◌else◌, Option, Some, None, option_and_then, option_map, unwrap_or, List, [], ◌∷◌}
 use Rattle.std.specs.Char.{is_ascii_digit}
 

@@ -8,11 +8,11 @@ use Rattle.fields_lines.specs.declared.way.Way.TheVariants.{Same, Name, Duration
 abbrev pub Texts : Type 0
 Texts = List (List ℕ)
 
--- numbers with names, by the index of the field and the record type: flags of KEY; types of CERT; algorithms of SIG, DS, RRSIG, CDS, TA and DLV, and of KEY, CERT,
--- DNSKEY, RKEY and CDNSKEY; errors of TKEY and TSIG
+-- numbers with names, by the index of the field and the record type: flags of KEY, DNSKEY and CDNSKEY; types of CERT; algorithms of SIG, DS, RRSIG, CDS, TA and DLV,
+-- and of KEY, CERT, DNSKEY, RKEY and CDNSKEY; errors of TKEY and TSIG
 abbrev pub number_way : ℕ → ℕ → Way
 number_way rtype index =
-    if (index == 0) && (rtype == 25) then KeyFlags
+    if (index == 0) && ((rtype == 25) || (rtype == 48) || (rtype == 60)) then KeyFlags
     else if (index == 0) && (rtype == 37) then CertificateType
     else if (index == 1) && ((rtype == 24) || (rtype == 43) || (rtype == 46) || (rtype == 59) || (rtype == 32768) || (rtype == 32769)) then Algorithm
     else if (index == 2) && ((rtype == 25) || (rtype == 37) || (rtype == 48) || (rtype == 57) || (rtype == 60)) then Algorithm

@@ -1,10 +1,15 @@
--- The TTL and the class of a line, each of which may be left out, in either order. RFC 1035 section 5.1.
-use Rattle.std.specs.Prelude.{◌≡◌, ◌↔◌, ℕ, Option, Some, None, List, [], ◌∷◌, codes}
+-- What a line begins with: its owner, or a blank; and its TTL and class, each of which may be left out, in either order. RFC 1035 section 5.1.
+use Rattle.std.specs.Prelude.{◌≡◌, ◌↔◌, ℕ, ◌==◌, ◌||◌, not, Bool, true, Option, Some, None, List, [], ◌∷◌, codes}
 use Rattle.std.specs.Bool.{MatchBool}
 use Rattle.std.specs.Str.{str_eq_ignore_ascii_case}
 use Rattle.dns_iana.specs.RegisteredTexts.{SpellsRegisteredClass}
 use Rattle.fields_lines.specs.Durations.{duration}
 use Rattle.fields_lines.specs.FieldWays.{Texts}
+
+-- whether a line begins with its owner: not with a space or a tab
+abbrev pub begins_with_owner : List ℕ → Bool
+begins_with_owner [] = true
+begins_with_owner (c ∷ line) = not ((c == 0x20) || (c == 0x09))
 
 -- the class of a word: `CHAOS`, `HESIOD`, else its registered name, or CLASS and its number, ignoring ASCII case; none if it is no class
 abbrev pub IsClassOf : List ℕ → Option ℕ → Type 0

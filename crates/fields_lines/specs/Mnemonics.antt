@@ -74,7 +74,7 @@ errors =
     ∷ (23, codes "BADCOOKIE")
     ∷ []
 
--- flags of KEY records. RFC 2535 section 3.1.2
+-- flags of KEY, DNSKEY and CDNSKEY records. RFC 2535 section 3.1.2, RFC 4034 section 2.1.1
 unfoldable pub key_flags : Mnemonics
 key_flags =
     (0x4000, codes "NOCONF")
@@ -130,6 +130,6 @@ abbrev pub flags_after : ℕ → List (List ℕ) → Option ℕ
 flags_after flags [] = Some flags
 flags_after flags (name ∷ names) = option_and_then (λ flag. flags_after (bit_or flags flag) names) (named key_flags name)
 
--- the flags of a KEY record by their names, with vertical bars between them
+-- the flags of a key by their names, with vertical bars between them
 abbrev pub flags_of : List ℕ → Option ℕ
 flags_of text = flags_after 0 (parts_of text)

@@ -24,7 +24,7 @@ fn without_zeros(word: &str) -> &str
 }
 
 /// The word at this index, or an empty one.
-fn text_at<'a>(words: &[&'a str], index: usize) -> &'a str
+pub(crate) fn text_at<'a>(words: &[&'a str], index: usize) -> &'a str
     ensures { result.now ≡ text_at (texts words.now) index }
 {
     if index < words.len() {
@@ -59,7 +59,7 @@ fn sized_count(words: &[&str]) -> usize
 }
 
 /// The number of words of a field of this kind, if these words are left.
-fn own_count(kind: Kind, words: &[&str]) -> usize
+pub(crate) fn own_count(kind: Kind, words: &[&str]) -> usize
     ensures value { result ≡ own_count kind (texts words.now) }
     ensures within { result ≤ length words.now }
 {
@@ -90,7 +90,7 @@ fn name_if(test: bool) -> Way
 }
 
 /// How the word at this index of a field is completed.
-fn word_way(way: Way, words: &[&str], index: usize) -> Way
+pub(crate) fn word_way(way: Way, words: &[&str], index: usize) -> Way
     ensures { result ≡ word_way way (texts words.now) index }
 {
     match way {
@@ -189,7 +189,7 @@ fn complete_fields<'a>(
 }
 
 /// Whether the first word is `\#`.
-fn is_marked(words: &[&str]) -> bool
+pub(crate) fn is_marked(words: &[&str]) -> bool
     ensures { result ≡ is_marked (texts words.now) }
 {
     text_at(words, 0) == "\\#"

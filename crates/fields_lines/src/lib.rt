@@ -5,17 +5,21 @@
 //! are read as `fields_records::read_record` reads them.
 #![tactic(auto)]
 
+mod blank;
 mod defaults;
 mod duration;
 mod field_words;
 mod head;
+pub mod laws;
 mod line;
 mod line_error;
 mod mnemonics;
 mod name_word;
+mod problem;
 mod way;
 mod word;
 
+pub use blank::begins_with_owner;
 pub use defaults::Defaults;
 pub use duration::read_duration;
 pub use line::read_line;

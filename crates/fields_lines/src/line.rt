@@ -1,16 +1,17 @@
 //! Records of zone files (RFC 1035 section 5.1).
-ghost use Rattle.std.specs.Prelude.{◌≡◌, ◌⊎◌, [], ◌∷◌, IfOk, OnOk, decimal, option_map, string_bytes};
+ghost use Rattle.std.specs.Prelude.{◌≡◌, [], ◌∷◌, IfOk, OnOk, decimal, option_map, string_bytes};
 ghost use Rattle.std.specs.Option.{option_copied, option_or};
 ghost use Rattle.fields_plain.specs.TypeNames.{class_word};
 ghost use Rattle.fields_lines.specs.Completing.{texts_of};
-ghost use Rattle.fields_lines.specs.Lines.{CompletesTo, IsAfterOwner, IsLine, ReadsCompleted, ReadsLine, TakesOwner, named_owner, owner_of, text_of_name};
+ghost use Rattle.fields_lines.specs.Lines.{CompletesTo, IsAfterOwner, IsBadIndex, IsLine, ReadsCompleted, ReadsLine, TakesOwner, in_31_bits, named_owner, owner_of, record_ttl, text_of_name};
 ghost use Rattle.fields_text.specs.LineWords.{texts};
 
 use crate::defaults::Defaults;
-use crate::field_words::complete_data;
+use crate::field_words::{complete_data, text_at};
 use crate::head::take_head;
 use crate::line_error::{LineError, WordReason};
 use crate::name_word::complete_name;
+use crate::problem::problem_of;
 use crate::word::Word;
 use arrayvec::ArrayVec;
 use dns_code::Ttl;
@@ -102,6 +103,27 @@ fn ttl_or(ttl: Option<u32>, default: Option<Ttl>) -> Option<Ttl>
     }
 }
 
+/// A TTL, or zero if it is above 2^31-1 seconds (RFC 2181 section 8).
+fn in_31_bits(ttl: Ttl) -> Ttl
+    ensures { result ≡ in_31_bits ttl }
+{
+    if ttl.as_secs() < 1 << 31 {
+        ttl
+    } else {
+        Ttl::ZERO
+    }
+}
+
+/// The TTL of a record: that of its line, or the default.
+pub(crate) fn record_ttl(ttl: Option<u32>, default: Option<Ttl>) -> Option<Ttl>
+    ensures { result ≡ record_ttl ttl default }
+{
+    match ttl_or(ttl, default) {
+        Some(ttl) => Some(in_31_bits(ttl)),
+        None => None,
+    }
+}
+
 /// Appends the owner, the TTL, the class and the type.
 fn push_head<'a>(
     alloc: Global,
@@ -149,7 +171,7 @@ fn complete_after<'a>(
     let Some(rtype) = read_type(type_word) else {
         return Err(bad_word(at, WordReason::NoType));
     };
-    let Some(ttl) = ttl_or(ttl, defaults.ttl) else {
+    let Some(ttl) = record_ttl(ttl, defaults.ttl) else {
         return Err(bad_word(at, WordReason::NoTtl));
     };
     let class = class.unwrap_or(defaults.class);
@@ -207,11 +229,11 @@ fn texts_of<'w>(alloc: Global, completed: &'w [Word<'_>]) -> Result<Vec<&'w str>
 
 /// The index in the line of what isn't read: 0 if the owner isn't a name, else that of the RDATA.
 fn bad_index(words: &[&str], at: usize) -> usize
-    ensures { (result ≡ 0) ⊎ (result ≡ at) }
+    ensures { IsBadIndex (texts words.now) at result }
 {
-    match words {
-        [owner, ..] if read_name(owner).is_none() => 0,
-        _ => at,
+    match read_name(text_at(words, 0)) {
+        Some(_) => at,
+        None => 0,
     }
 }
 
@@ -227,30 +249,32 @@ fn read_completed(
     let Ok(words) = texts_of(alloc, completed) else {
         return Err(LineError::OutOfMemory);
     };
-    match read_record(alloc, words.as_slice()) {
+    let words = words.as_slice();
+    match read_record(alloc, words) {
         Ok(found) => Ok(found),
         Err(TextError::OutOfMemory) => Err(LineError::OutOfMemory),
-        Err(TextError::BadWord) => Err(bad_word(
-            bad_index(words.as_slice(), at),
-            WordReason::NoValue,
-        )),
+        Err(TextError::BadWord) => Err(bad_word(bad_index(words, at), WordReason::NoValue)),
     }
 }
 
 /// The record that the words of a line represent (RFC 1035 section 5.1).
 ///
-/// `named` says whether the first word is the owner: the line doesn't begin with a blank. Else the
+/// `named` says whether the first word is the owner, as `begins_with_owner` says of the line. Else the
 /// owner is that of the last record. A TTL and a class may follow, in either order, and then come the
 /// type and the RDATA.
 ///
 /// - `@` is the origin, and a name without a final dot is relative to the origin: owners, names in
 ///   RDATA, gateways, relays and rendezvous servers.
-/// - A TTL and times in SOA records and signatures may have units, as `1h30m`.
-/// - Algorithms, types of certificates, errors of TSIG and flags of KEY may have their names. A class
-///   may be `CHAOS` or `HESIOD`. Record types in RDATA of SIG, RRSIG and NXT may be numbers.
+/// - A TTL, the times of SOA records and the original TTL of signatures may have units, as `1h30m`. A
+///   TTL above 2^31-1 seconds is zero (RFC 2181 section 8).
+/// - Algorithms, types of certificates, errors of TSIG and TKEY, and flags of KEY, DNSKEY and CDNSKEY
+///   may have their names. A class may be `CHAOS` or `HESIOD`. Record types in RDATA of SIG, RRSIG,
+///   NXT and DSYNC may be numbers.
 /// - A tag of CAA may be in quotes, and a hash of NSEC3 may be padded.
 ///
-/// An error is that of the first word that is wrong.
+/// Errors, checked in this order: `Missing`, `NoOwner` or `Relative` of the owner; `Missing`, `NoType`
+/// or `NoTtl` at the type; `Relative` at the first relative name of the RDATA; `OutOfMemory` if an
+/// allocation fails; `NoValue` at the owner if it isn't a name, else at the first word of the RDATA.
 pub fn read_line(
     alloc: Global,
     defaults: &Defaults<'_>,
@@ -259,6 +283,9 @@ pub fn read_line(
 ) -> Result<Record<Name<ArrayVec<u8, 255>>, OwnedFieldData>, LineError>
     ensures { ReadsLine defaults.now named words.now result }
 {
+    if let Some((index, reason)) = problem_of(defaults, named, words) {
+        return Err(bad_word(index, reason));
+    }
     let mut completed = Vec::new(alloc);
     match complete_line(alloc, &mut completed, defaults, named, words) {
         Ok(at) => read_completed(alloc, completed.as_slice(), at),

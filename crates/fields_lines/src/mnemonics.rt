@@ -76,7 +76,8 @@ pub(crate) const ERRORS: [Entry; 19] = [
     (23, "BADCOOKIE"),
 ];
 
-/// Flags of KEY records (RFC 2535 section 3.1.2), by the names that BIND reads.
+/// Flags of KEY, DNSKEY and CDNSKEY records (RFC 2535 section 3.1.2, RFC 4034 section 2.1.1), by the
+/// names that BIND reads.
 pub(crate) const KEY_FLAGS: [Entry; 32] = [
     (0x4000, "NOCONF"),
     (0x8000, "NOAUTH"),
@@ -124,7 +125,7 @@ pub(crate) fn number_of(entries: &[Entry], name: &str) -> Option<u32>
     None
 }
 
-/// The flag of KEY records that has this name.
+/// The flag of keys that has this name.
 #[tactic(auto, unfolding(crate::specs::Mnemonics::key_flags))]
 fn flag_of(name: &str) -> Option<u32>
     ensures { result ≡ named key_flags name.now }
@@ -132,7 +133,7 @@ fn flag_of(name: &str) -> Option<u32>
     number_of(&KEY_FLAGS, name)
 }
 
-/// The flags of a KEY record by their names, with `|` between them.
+/// The flags of a key by their names, with `|` between them.
 pub(crate) fn flags_of(text: &str) -> Option<u32>
     ensures { result ≡ flags_of text.now }
 {

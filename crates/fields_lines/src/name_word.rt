@@ -20,7 +20,7 @@ fn is_escape(escaped: bool, octet: u8) -> bool
 }
 
 /// Whether a word ends with a dot that has no backslash before it.
-fn ends_with_dot(word: &[u8]) -> bool
+pub(crate) fn ends_with_dot(word: &[u8]) -> bool
     ensures { result ≡ ends_with_dot false false word.now }
 {
     let mut separated = false;
@@ -33,7 +33,7 @@ fn ends_with_dot(word: &[u8]) -> bool
 }
 
 /// Appends what the first character after a backslash is written as, if that isn't the character: of
-/// a space its decimal number. Returns the text that isn't appended yet, in which a backslash begins
+/// a space or a tab its decimal number. Returns the text that isn't appended yet, in which a backslash begins
 /// an escape.
 fn push_escaped<'a>(text: &mut String, after: &'a str) -> Result<&'a str, AllocError>
     ensures same { IfOk result (λ left. string_bytes text.new ++ spaced false left.now
@@ -44,6 +44,10 @@ fn push_escaped<'a>(text: &mut String, after: &'a str) -> Result<&'a str, AllocE
         text.push_str("032")?;
         return Ok(left);
     }
+    if let Some(left) = after.strip_prefix('\t') {
+        text.push_str("009")?;
+        return Ok(left);
+    }
     if let Some(left) = after.strip_prefix('\\') {
         text.push_str("\\")?;
         return Ok(left);
@@ -51,7 +55,7 @@ fn push_escaped<'a>(text: &mut String, after: &'a str) -> Result<&'a str, AllocE
     Ok(after)
 }
 
-/// Appends a word whose spaces after a backslash are written by their number.
+/// Appends a word whose spaces and tabs after a backslash are written by their numbers.
 fn push_spaced(text: &mut String, word: &str) -> Result<(), AllocError>
     ensures { OnOk result (string_bytes text.new ≡ string_bytes text.old ++ spaced false word.now) }
 {

@@ -27,7 +27,7 @@ pub(crate) enum Way {
     CertificateType,
     /// The word is an error of TSIG, perhaps by its name.
     ErrorCode,
-    /// The word is the flags of a KEY record, perhaps by their names.
+    /// The word is the flags of a key, perhaps by their names.
     KeyFlags,
     /// The third word is a name if the first is 3.
     Gateway,
@@ -42,7 +42,7 @@ fn number_way(rtype: u16, index: usize) -> Way
     ensures { result ≡ number_way rtype index }
 {
     match (index, rtype) {
-        (0, 25) => Way::KeyFlags,
+        (0, 25 | 48 | 60) => Way::KeyFlags,
         (0, 37) => Way::CertificateType,
         (1, 24 | 43 | 46 | 59 | 32768 | 32769) => Way::Algorithm,
         (2, 25 | 37 | 48 | 57 | 60) => Way::Algorithm,

@@ -1,4 +1,4 @@
-use Rattle.std.proofs.Common.{◌+◌, ◌-◌, [], inr, refl, arith}
+use Rattle.std.proofs.Common.{◌+◌, [], inr, refl, arith}
 use Rattle.std.specs.Prelude.{Some, None, string_bytes}
 use Rattle.std.specs.Option.{option_copied}
 use Rattle.std.proofs.lemmas.List.{take_rest}
@@ -44,8 +44,8 @@ returns-in_default-read_type c =
       c.bad_word-in_default-read_type.ensures,
     )
 
-pub returns-in_default-ttl_or : goal.returns-in_default-ttl_or
-returns-in_default-ttl_or c =
+pub returns-in_default-record_ttl : goal.returns-in_default-record_ttl
+returns-in_default-record_ttl c =
     let head = c.take_head-ttl.result in
     inr (
       (c.saturating_sub-at.result, NoTtl),
@@ -58,9 +58,9 @@ returns-in_default-ttl_or c =
             tail_more c.args.defaults.now c.args.size (string_bytes c.args.owner) head.0 head.1 head.2.now c.saturating_sub-at.result _
             (record { ref_ptr = (0, 0); now = [] }) (Some c.in-Some.rtype) _ c.in-len1-up.len_at_least
             c.saturating_sub-at.ensures (take_rest head.2.now 1) c.in-Some.ensures
-            (no_ttl c.args.defaults.now c.saturating_sub-at.result (string_bytes c.args.owner) head.0 head.1 _ c.in-Some.rtype _ c.in_default-ttl_or.ensures);
+            (no_ttl c.args.defaults.now c.saturating_sub-at.result (string_bytes c.args.owner) head.0 head.1 _ c.in-Some.rtype _ c.in_default-record_ttl.ensures);
       },
-      c.bad_word-in_default-ttl_or.ensures,
+      c.bad_word-in_default-record_ttl.ensures,
     )
 
 pub returns-in-Ok-complete_data : goal.returns-in-Ok-complete_data
@@ -75,8 +75,8 @@ returns-in-Ok-complete_data c =
           tail_more c.args.defaults.now c.args.size (string_bytes c.args.owner) head.0 head.1 head.2.now c.saturating_sub-at.result _
           (record { ref_ptr = (0, 0); now = [] }) (Some c.in-Some.rtype) _ c.in-len1-up.len_at_least
           c.saturating_sub-at.ensures (take_rest head.2.now 1) c.in-Some.ensures
-          (type_data c.args.defaults.now c.saturating_sub-at.result (string_bytes c.args.owner) head.0 head.1 _ c.in-Some.rtype _ c.in-Some-ttl_or.ttl c.unwrap_or-class.result c.to_int.result
-          (option_copied c.args.origin) (texts_of c.push_head.new.completed.items) _ c.in-Some-ttl_or.ensures c.unwrap_or-class.ensures c.to_int.ensures
+          (type_data c.args.defaults.now c.saturating_sub-at.result (string_bytes c.args.owner) head.0 head.1 _ c.in-Some.rtype _ c.in-Some-record_ttl.ttl c.unwrap_or-class.result c.to_int.result
+          (option_copied c.args.origin) (texts_of c.push_head.new.completed.items) _ c.in-Some-record_ttl.ensures c.unwrap_or-class.ensures c.to_int.ensures
           c.requires.origin c.in-Ok.ensures c.in-Ok-complete_data.ensures);
     }
 
@@ -94,7 +94,7 @@ returns-in-Err c =
           tail_more c.args.defaults.now c.args.size (string_bytes c.args.owner) head.0 head.1 head.2.now c.saturating_sub-at.result _
           (record { ref_ptr = (0, 0); now = [] }) (Some c.in-Some.rtype) _ c.in-len1-up.len_at_least
           c.saturating_sub-at.ensures (take_rest head.2.now 1) c.in-Some.ensures
-          (type_data c.args.defaults.now c.saturating_sub-at.result (string_bytes c.args.owner) head.0 head.1 _ c.in-Some.rtype _ c.in-Some-ttl_or.ttl c.unwrap_or-class.result c.to_int.result
-          (option_copied c.args.origin) (texts_of c.push_head.new.completed.items) completed c.in-Some-ttl_or.ensures c.unwrap_or-class.ensures c.to_int.ensures
+          (type_data c.args.defaults.now c.saturating_sub-at.result (string_bytes c.args.owner) head.0 head.1 _ c.in-Some.rtype _ c.in-Some-record_ttl.ttl c.unwrap_or-class.result c.to_int.result
+          (option_copied c.args.origin) (texts_of c.push_head.new.completed.items) completed c.in-Some-record_ttl.ensures c.unwrap_or-class.ensures c.to_int.ensures
           c.requires.origin c.in-Ok.ensures done);
     }) c.in-Err.ensures
