@@ -17,6 +17,7 @@
  *     15. Responses, and items of other messages
  *     16. Replies, and what a cache asks of them
  *     17. Responses from a cache
+ *     18. Messages of a stream, and transfers of zones
  *
  * and each begins with an example. There `message` are the `message_len` octets of a message, and `record` is its first record, as
  * dnsm_next wrote it. Each call is in an example.
@@ -25,8 +26,8 @@
  * prints, blocks, or ends the process.
  *
  * Threads. No call keeps state, so any thread may make any call at any time, if no other thread changes what the call uses.
- * Only dnsm_build, dnsm_data_from_text, dnsm_record_from_text and dnsm_age allocate, by malloc, realloc and free. Don't call them
- * from a signal handler, nor in the forked child of a process with threads. All other calls may be made in both.
+ * Only dnsm_build, dnsm_data_from_text and dnsm_record_from_text allocate, by malloc, realloc and free. Don't call them from a
+ * signal handler, nor in the forked child of a process with threads. All other calls may be made in both.
  *
  * Lifetimes. No call keeps a pointer that it was passed, and none returns memory that the caller has to free. Items, options
  * and cursors contain offsets into a message, no pointers: they stay valid as long as the message does, also if it is moved.
@@ -92,7 +93,7 @@ enum {
     DNSM_BAD_LABEL = 3,     /* a length octet has the high bits 01 or 10 */
     DNSM_BAD_POINTER = 4,   /* a compression pointer doesn't lead to an offset before its own */
     DNSM_LONG_NAME = 5,     /* a name has more than 255 octets */
-    DNSM_FORM = 6,          /* returned only if the caller gave the cursor this status */
+    DNSM_FORM = 6,          /* octets follow the RDATA of an SOA record, in dnsm_next_step; else only the caller gave a cursor this status */
     DNSM_NO_ROOM = 7,       /* the output buffer, or the limit of a draft, is too short */
     DNSM_BAD_TEXT = 8,      /* a text can't be read, or the name of an item to put can't */
     DNSM_NO_QUESTION = 9,   /* the query doesn't have exactly one question */
@@ -112,7 +113,15 @@ enum {
     DNSM_TWO_OPTS = 23,     /* the additional section has two OPT records */
     DNSM_BAD_OWNER = 24,    /* the owner of the OPT record isn't the root */
     DNSM_NO_RESPONSE = 25,  /* QR isn't set, so this is no response */
-    DNSM_OTHER_QUERY = 26   /* the ID, the opcode or the questions of a response aren't those of the query */
+    DNSM_OTHER_QUERY = 26,  /* the ID, the opcode or the questions of a response aren't those of the query */
+    DNSM_BAD_RCODE = 27,    /* the rcode isn't NOERROR */
+    DNSM_TRUNCATED = 28,    /* TC is set */
+    DNSM_WRONG_CLASS = 29,  /* a record has another class than the zone */
+    DNSM_OUTSIDE_ZONE = 30, /* the owner of a record is outside of the zone */
+    DNSM_NO_SOA = 31,       /* the first record of a transfer is no SOA record */
+    DNSM_WRONG_SOA = 32,    /* an SOA record isn't the one that may come next in a transfer */
+    DNSM_AFTER_END = 33,    /* a record or a message follows the end of a transfer */
+    DNSM_INCOMPLETE = 34    /* a transfer hasn't ended */
 };
 
 /* Writes what a status means, in English, as "the output buffer is too short", or "unknown status" with the number if there is no
@@ -923,12 +932,112 @@ dnsm_status dnsm_records_end(const uint8_t *message, size_t message_len, size_t 
 
 /* Lowers the TTL of each record of a message by `seconds`, but not below 0, in place: for a response that was in a cache for so long.
  * The records of OPT, TSIG, TKEY and SIG have none. No other octet changes, and what is read of the message stays the same, but for the
- * TTLs. A TTL with its highest bit set is a large number. The call allocates, and frees all that it allocated.
+ * TTLs. A TTL with its highest bit set is a large number. Takes 2 KB of stack.
  *
- * Errors: DNSM_SHORT_INPUT if the message has fewer than 12 octets; DNSM_NO_MEMORY; else the error of the first question or record that
- * isn't as dnsm_is_regular wants it: DNSM_BAD_POINTER if a pointer leads to anything but a label of an earlier name. Then nothing has
- * changed. */
+ * Errors: DNSM_SHORT_INPUT if the message has fewer than 12 octets; else the error of the first question or record that isn't as
+ * dnsm_is_regular wants it: DNSM_BAD_POINTER if a pointer leads to anything but a label of an earlier name. Then nothing has changed. */
 dnsm_status dnsm_age(uint8_t *message, size_t message_len, uint32_t seconds);
+
+/* 18. Messages of a stream, and transfers of zones
+ *
+ *     static const uint8_t root[1] = {0};
+ *     static const uint8_t stream[52] = "\0\x32\x12\x34\x84\0\0\1\0\1\0\0\0\0\0\0\xfb\0\1\0\0\6\0\1\0\0\0\0\0\x16\0\0\0\0\0\1";
+ *     size_t len, missing;
+ *     dnsm_transfer transfer;
+ *     dnsm_cursor cursor;
+ *     dnsm_step step;
+ *     if (dnsm_begin_transfer(&transfer, 4660, root, 1, DNSM_CLASS_IN, true, 1) == DNSM_OK &&
+ *         dnsm_first_message(stream, 52, &len, &missing) == DNSM_OK && dnsm_open_transfer(&transfer, stream + 2, len, &cursor) == DNSM_OK &&
+ *         dnsm_next_step(&transfer, stream + 2, len, &cursor, &step) == DNSM_OK && dnsm_end_transfer(&transfer) == DNSM_OK)
+ *         printf("step %u with serial %lu, the last\n", step.kind, (unsigned long)step.serial);
+ *
+ * Over TCP each message follows its length in two octets (RFC 1035 section 4.2.2). Keep what was received in a buffer of 65,537 octets:
+ * receive more while dnsm_first_message returns DNSM_END, then take all steps of the message at offset 2, and move what follows it to the
+ * start. examples/transfer.c does so. A response to AXFR or IXFR has one or several messages (RFC 5936 section 2.2, RFC 1995 section 4). */
+
+/* What a record of a transfer does. */
+enum {
+    DNSM_STEP_BEGIN = 0,      /* the version with this serial is transferred. The record is its SOA record: part of a zone that is sent whole,
+                               * but changes add it again */
+    DNSM_STEP_UP_TO_DATE = 1, /* the server's version has this serial, and isn't newer: nothing follows */
+    DNSM_STEP_WHOLE = 2,      /* in place of changes the whole zone follows: forget the version before, and begin with the record of _BEGIN */
+    DNSM_STEP_REMOVE = 3,     /* remove the record */
+    DNSM_STEP_ADD = 4,        /* add the record */
+    DNSM_STEP_END = 5         /* the zone is now the version with this serial */
+};
+
+/* What was read of a transfer: DNSM_TRANSFER_ENDED, or something else while a message is still to come. */
+enum {
+    DNSM_TRANSFER_WANTED = 0,   /* nothing */
+    DNSM_TRANSFER_FIRST = 1,    /* the first SOA record of changes */
+    DNSM_TRANSFER_WHOLE = 2,    /* records of the whole zone */
+    DNSM_TRANSFER_REMOVING = 3, /* records to be removed */
+    DNSM_TRANSFER_ADDING = 4,   /* records to be added */
+    DNSM_TRANSFER_ENDED = 5     /* everything */
+};
+
+/* A transfer of a zone. The caller owns it, and may copy it. dnsm_begin_transfer sets all fields, which belong to the calls: with other
+ * values there, each call is safe, but its results mean nothing. */
+typedef struct dnsm_transfer {
+    uint32_t known;     /* the serial of the version that is known */
+    uint32_t version;   /* the serial of the version from which records are removed, or to which they are added */
+    uint32_t last;      /* the serial of the server's version, once the first SOA record was read */
+    dnsm_status status; /* DNSM_OK, or the error that ended the transfer */
+    uint16_t id;
+    uint16_t class_;
+    uint8_t state;      /* DNSM_TRANSFER_WANTED, or one of those after it */
+    uint8_t changes;    /* 0 if the whole zone is asked for */
+    uint8_t zone_len;
+    uint8_t zone[255];  /* the name of the zone, uncompressed */
+} dnsm_transfer;
+
+/* A step of a transfer. */
+typedef struct dnsm_step {
+    dnsm_item item;  /* the record, which of _UP_TO_DATE, _WHOLE and _END is only the one that says so */
+    uint32_t serial; /* of _BEGIN, _UP_TO_DATE and _END, else 0 */
+    uint8_t kind;    /* DNSM_STEP_BEGIN, or one of those after it */
+} dnsm_step;
+
+/* Sets `*len` to the number of octets of the first message of a stream, which is at offset 2. The next one begins after it.
+ *
+ * Returns DNSM_OK with a message, or DNSM_END if octets of its frame are missing. Without a message, `*len` isn't written. `*missing` is
+ * how many are missing: from the length or, once that is there, from the message.
+ *
+ * Errors: DNSM_SHORT_INPUT if the length is less than 12. Close the connection then. */
+dnsm_status dnsm_first_message(const uint8_t *stream, size_t stream_len, size_t *len, size_t *missing);
+
+/* Begins the transfer that a query asks for: with `changes` by IXFR, of the changes since the version with serial `known` (RFC 1995
+ * section 3), else by AXFR, of the whole zone. `id` is the query's, `zone` the name of its question as uncompressed octets, `class_` its
+ * class. The query by IXFR has the SOA record of that version in its authority section: dnsm_build writes it.
+ *
+ * Errors: DNSM_BAD_TEXT if `zone` isn't exactly one uncompressed name. Then the transfer isn't written. */
+dnsm_status dnsm_begin_transfer(dnsm_transfer *transfer, uint16_t id, const uint8_t *zone, size_t zone_len, uint16_t class_,
+                                bool changes, uint32_t known);
+
+/* Checks the header and the questions of the next message of a transfer, and sets the cursor, which needn't be initialised, before its
+ * first record. TSIG isn't checked.
+ *
+ * Errors: DNSM_SHORT_INPUT if the message has fewer than 12 octets; DNSM_BAD_TEXT if the transfer has no zone; DNSM_AFTER_END if it has
+ * ended; DNSM_OTHER_QUERY for another ID; DNSM_NO_RESPONSE, also for another opcode; DNSM_BAD_RCODE, DNSM_TRUNCATED; the error of reading
+ * a question, or DNSM_OTHER_QUERY if there is another one, several, or none in the first message (RFC 5936 section 2.2.2). The transfer
+ * keeps the error, and each later call returns it. Then the cursor isn't written. */
+dnsm_status dnsm_open_transfer(dnsm_transfer *transfer, const uint8_t *message, size_t message_len, dnsm_cursor *cursor);
+
+/* Sets `*step` to the next step of a message, and moves the cursor past its record, but at DNSM_STEP_WHOLE before it: then the record is
+ * the next step, too. The cursor is one that dnsm_open_transfer has set, for the same octets and this transfer. With another cursor, or
+ * over other octets, the call is safe, but its results mean nothing.
+ *
+ * Returns DNSM_OK with a step, or DNSM_END after the last one of the message. Without a step, `*step` isn't written.
+ *
+ * Errors: that of reading the record, or the RDATA of an SOA record; DNSM_WRONG_CLASS, DNSM_OUTSIDE_ZONE; DNSM_NO_SOA; DNSM_WRONG_SOA if
+ * the owner of an SOA record isn't the zone, or its serial isn't the one that has to follow; DNSM_AFTER_END. The transfer keeps the error,
+ * and each later call returns it. What the steps before did is to be undone: a zone changes at DNSM_STEP_END. */
+dnsm_status dnsm_next_step(dnsm_transfer *transfer, const uint8_t *message, size_t message_len, dnsm_cursor *cursor, dnsm_step *step);
+
+/* Says that no message follows. Over UDP there is one message: if the transfer hasn't ended, ask again over TCP (RFC 1995 section 2).
+ *
+ * Errors: that which the transfer keeps, or DNSM_INCOMPLETE if it hasn't ended. */
+dnsm_status dnsm_end_transfer(const dnsm_transfer *transfer);
 
 #ifdef __cplusplus
 }

@@ -106,7 +106,7 @@ func (m *Message) RecordsEnd() (int, error) {
 
 // AgeTTLs lowers the TTL of each record of a message by some seconds, but not below 0, in place: for a response that was in a cache for so
 // long. Records of OPT, TSIG, TKEY and SIG have none. No other octet changes. With an error nothing does: ShortInput for fewer than 12
-// octets, NoMemory, or why the message isn't regular: that of the first item that can't be skipped, or BadPointer.
+// octets, or why the message isn't regular: that of the first item that can't be skipped, or BadPointer.
 func AgeTTLs(octets []byte, seconds uint32) error {
 	return failure(C.dnsm_age(pointer(octets), C.size_t(len(octets)), C.uint32_t(seconds)))
 }

@@ -443,3 +443,111 @@ func TestTTLsAreLowered(t *testing.T) {
 		t.Error(err)
 	}
 }
+
+func TestStreamsAreCutIntoMessages(t *testing.T) {
+	stream := append([]byte{0, 12}, bytes.Repeat([]byte{7}, 12)...)
+	message, after, err := FirstMessage(append(stream, 9))
+	if !bytes.Equal(message, stream[2:]) || !bytes.Equal(after, []byte{9}) || err != nil {
+		t.Error(message, after, err)
+	}
+	if message, _, err := FirstMessage(stream[:13]); message != nil || err != nil || MissingOctets(stream[:13]) != 1 || MissingOctets(nil) != 2 {
+		t.Error(message, err)
+	}
+	if _, _, err := FirstMessage([]byte{0, 11}); !errors.Is(err, ShortInput) {
+		t.Error(err)
+	}
+}
+
+// transferred is a message of a transfer of the root: its question, if the type isn't 0, and SOA records with these serials, or an NS
+// record for 0.
+func transferred(id uint16, flags uint16, qtype Type, serials ...byte) []byte {
+	octets := []byte{byte(id >> 8), byte(id), byte(flags >> 8), byte(flags), 0, 0, 0, byte(len(serials)), 0, 0, 0, 0}
+	if qtype != 0 {
+		octets[5] = 1
+		octets = append(octets, 0, byte(qtype>>8), byte(qtype), 0, 1)
+	}
+	for _, serial := range serials {
+		if serial == 0 {
+			octets = append(octets, 0, 0, 2, 0, 1, 0, 0, 0, 9, 0, 1, 0)
+		} else {
+			octets = append(octets, 0, 0, 6, 0, 1, 0, 0, 0, 0, 0, 22, 0, 0, 0, 0, 0, serial)
+			octets = append(octets, make([]byte, 16)...)
+		}
+	}
+	return octets
+}
+
+// stepsOf is the kinds of the steps of a message, their serials and the types of their records, and the error that ends them.
+func stepsOf(transfer *Transfer, message []byte) (said string, err error) {
+	steps, err := transfer.Take(message)
+	if err != nil {
+		return "", err
+	}
+	for steps.Next() {
+		step := steps.Step()
+		said += string("bu w-+e"[[]int{0, 1, 3, 4, 5, 6}[step.Kind]])
+		if step.Serial != 0 {
+			said += string('0' + rune(step.Serial))
+		}
+		if step.Kind == StepBegin || step.Kind == StepRemove || step.Kind == StepAdd {
+			said += step.Record.Type().String()
+		}
+	}
+	return said, steps.Err()
+}
+
+// RFC 5936 section 2.2, RFC 1995 sections 2 and 4.
+func TestTransfersAreRead(t *testing.T) {
+	whole, _ := NewAXFR(7, []byte{0}, ClassIN)
+	if said, err := stepsOf(whole, transferred(7, QR, TypeAXFR, 3, 0)); said != "b3SOA+NS" || err != nil || whole.HasEnded() {
+		t.Error(said, err)
+	}
+	if err := whole.End(); !errors.Is(err, Incomplete) {
+		t.Error(err)
+	}
+	if said, err := stepsOf(whole, transferred(7, QR, 0, 3)); said != "e3" || err != nil || !whole.HasEnded() || whole.End() != nil {
+		t.Error(said, err)
+	}
+	for wanted, serials := range map[string][]byte{"b3SOA-SOA-NS+SOA+NSe3": {3, 1, 0, 3, 0, 3}, "b3SOAw+NSe3": {3, 0, 3}, "u1": {1}} {
+		changes, _ := NewIXFR(7, []byte{0}, ClassIN, 1)
+		if said, err := stepsOf(changes, transferred(7, QR, TypeIXFR, serials...)); said != wanted || err != nil || !changes.HasEnded() {
+			t.Error(said, err)
+		}
+	}
+}
+
+func TestOtherMessagesEndATransfer(t *testing.T) {
+	for _, each := range []struct {
+		message []byte
+		said    string
+		wanted  Status
+	}{
+		{transferred(8, QR, TypeAXFR, 3), "", OtherQuery},
+		{transferred(7, QR, TypeIXFR, 3), "", OtherQuery},
+		{transferred(7, 0, TypeAXFR, 3), "", NoResponse},
+		{transferred(7, QR|5, TypeAXFR, 3), "", BadRcode},
+		{transferred(7, QR|TC, TypeAXFR, 3), "", Truncated},
+		{transferred(7, QR, TypeAXFR, 0), "", NoSOA},
+		{transferred(7, QR, TypeAXFR, 3, 0, 4), "b3SOA+NS", WrongSOA},
+		{transferred(7, QR, TypeAXFR, 3, 3, 0), "b3SOAe3", AfterEnd},
+		{make([]byte, 11), "", ShortInput},
+	} {
+		transfer, _ := NewAXFR(7, []byte{0}, ClassIN)
+		if said, err := stepsOf(transfer, each.message); said != each.said || !errors.Is(err, each.wanted) {
+			t.Error(said, err)
+		}
+		if said, err := stepsOf(transfer, transferred(7, QR, TypeAXFR, 3, 3)); said != "" || !errors.Is(err, each.wanted) {
+			t.Error(said, err)
+		}
+		if err := transfer.End(); !errors.Is(err, each.wanted) || transfer.HasEnded() {
+			t.Error(err)
+		}
+	}
+	other, _ := NewAXFR(7, []byte{0}, ClassCH)
+	if _, err := stepsOf(other, transferred(7, QR, TypeAXFR, 3)); !errors.Is(err, OtherQuery) {
+		t.Error(err)
+	}
+	if transfer, err := NewAXFR(7, []byte{0, 0}, ClassIN); transfer != nil || !errors.Is(err, BadText) {
+		t.Error(err)
+	}
+}

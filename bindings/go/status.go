@@ -12,6 +12,7 @@ const (
 	BadLabel    Status = C.DNSM_BAD_LABEL    // a length octet has the high bits 01 or 10
 	BadPointer  Status = C.DNSM_BAD_POINTER  // a compression pointer doesn't lead to an offset before its own
 	LongName    Status = C.DNSM_LONG_NAME    // a name has more than 255 octets
+	Form        Status = C.DNSM_FORM         // octets follow the RDATA of an SOA record, in a transfer
 	NoRoom      Status = C.DNSM_NO_ROOM      // the buffer or the limit of a builder leaves too few octets
 	BadText     Status = C.DNSM_BAD_TEXT     // a text represents nothing, or octets are no valid name
 	NoQuestion  Status = C.DNSM_NO_QUESTION  // the query doesn't have exactly one question
@@ -32,6 +33,14 @@ const (
 	BadOwner    Status = C.DNSM_BAD_OWNER    // the owner of the OPT record isn't the root
 	NoResponse  Status = C.DNSM_NO_RESPONSE  // QR isn't set, so this is no response
 	OtherQuery  Status = C.DNSM_OTHER_QUERY  // the ID, the opcode or the questions of a response aren't those of the query
+	BadRcode    Status = C.DNSM_BAD_RCODE    // the rcode isn't NOERROR
+	Truncated   Status = C.DNSM_TRUNCATED    // TC is set
+	WrongClass  Status = C.DNSM_WRONG_CLASS  // a record has another class than the zone
+	OutsideZone Status = C.DNSM_OUTSIDE_ZONE // the owner of a record is outside of the zone
+	NoSOA       Status = C.DNSM_NO_SOA       // the first record of a transfer is no SOA record
+	WrongSOA    Status = C.DNSM_WRONG_SOA    // an SOA record isn't the one that may come next in a transfer
+	AfterEnd    Status = C.DNSM_AFTER_END    // a record or a message follows the end of a transfer
+	Incomplete  Status = C.DNSM_INCOMPLETE   // a transfer hasn't ended
 )
 
 // Error is a sentence that says why, in English.

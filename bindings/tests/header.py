@@ -22,6 +22,7 @@ PYTHON = {
     "usize": ctypes.c_size_t,
     "bool": ctypes.c_bool,
     "dnsm_status": ctypes.c_uint32,
+    "dnsm_item": _calls.Item,
     "[u16; 4]": ctypes.c_uint16 * 4,
     "[u16; 64]": ctypes.c_uint16 * 64,
     "[u8; 255]": ctypes.c_uint8 * 255,
@@ -39,6 +40,8 @@ STRUCTS = {
     "dnsm_put_item": _calls.PutItem,
     "dnsm_data_field": _calls.DataField,
     "dnsm_saying": _calls.Saying,
+    "dnsm_transfer": _calls.Transfer,
+    "dnsm_step": _calls.Step,
 }
 # The names of buffers for octets.
 BUFFERS = {"message", "out"}
@@ -59,6 +62,8 @@ ENUMS = {
     "": (dnsm.Status, dnsm.Section, dnsm.Flag),
     "FIELD_": (dnsm.FieldKind,),
     "REPLY_": (dnsm.ReplyKind,),
+    "STEP_": (dnsm.StepKind,),
+    "TRANSFER_": (dnsm.TransferState,),
     "TYPE_": (dnsm.Type,),
     "CLASS_": (dnsm.Class,),
     "OPCODE_": (dnsm.Opcode,),

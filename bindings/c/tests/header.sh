@@ -19,7 +19,7 @@ rust_as_c() {
     s/([a-z_]+): &\[u8; 4\]/const uint8_t \1[4]/g; s/([a-z_]+): \[u(8|16); ([0-9]+)\]/uint\2_t \1[\3]/g
     s/([a-z_]+): &\[([A-Z][a-z]+)([A-Z][a-z]+)\]/const dnsm_\L\2_\3\E *\1, size_t \1_len/g
     s/([a-z_]+): &mut ([A-Z][a-z]+)([A-Z][a-z]+)/dnsm_\L\2_\3\E *\1/g; s/([a-z_]+): &mut ([A-Z][a-z]+)/dnsm_\L\2\E *\1/g
-    s/([a-z_]+): &([A-Z][a-z]+)([A-Z][a-z]+)/const dnsm_\L\2_\3\E *\1/g; s/([a-z_]+): &([A-Z][a-z]+)/const dnsm_\L\2\E *\1/g
+    s/([a-z_]+): &([A-Z][a-z]+)([A-Z][a-z]+)/const dnsm_\L\2_\3\E *\1/g; s/([a-z_]+): &([A-Z][a-z]+)/const dnsm_\L\2\E *\1/g; s/([a-z_]+): Item\b/dnsm_item \1/g
     s/([a-z_]+): &mut usize/size_t *\1/g; s/([a-z_]+): &mut (bool|u8|u16|u32|u64)\b/\2 *\1/g
     s/\bstatus: u32\b/dnsm_status status/g; s/([a-z_]+): (u8|u16|u32|u64)\b/\2 \1/g; s/\bu(8|16|32|64) /uint\1_t /g
     s/([a-z_]+): usize\b/size_t \1/g; s/([a-z_]+): bool\b/bool \1/g
@@ -95,6 +95,12 @@ sed -nE 's/^Shows b field \(([A-Za-z0-9]+) .*field\.kind ≡ ([0-9]+).*/DNSM_FIE
 # what replies say
 sed -nE 's/^const ([A-Z_]+): u8 = ([0-9]+);$/DNSM_REPLY_\1 \2/p' "$crates/dnsm_replies/src/saying.rt" >"$folder/sayings"
 [ -s "$folder/sayings" ] && diff "$folder/sayings" <(enumerated REPLY)
+
+# what steps do, and what was read of a transfer
+for kinds in step:STEP transfer:TRANSFER; do
+  sed -nE 's/^const ([A-Z_]+): u8 = ([0-9]+);$/DNSM_'"${kinds#*:}"'_\1 \2/p' "$crates/dnsm_transfers/src/${kinds%:*}.rt" >"$folder/kinds"
+  [ -s "$folder/kinds" ] && diff "$folder/kinds" <(enumerated "${kinds#*:}")
+done
 
 # the length that is always enough for a call, as its clause `short` has it
 bound_of() {

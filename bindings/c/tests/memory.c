@@ -22,8 +22,6 @@ int main(void)
         {TEXT("example.org"), NULL, 0, 0, DNSM_TYPE_NS, DNSM_CLASS_IN, DNSM_QUESTION},
         {TEXT("example.org"), target, sizeof target, 300, DNSM_TYPE_NS, DNSM_CLASS_IN, DNSM_ANSWER},
     };
-    /* A record with a TTL of 300 seconds. */
-    static uint8_t response[] = "\0\1\x80\0\0\0\0\1\0\0\0\0\0\0\1\0\1\0\0\1\x2c\0\4\xc0\0\2\1";
     dnsm_item item;
     size_t len;
     dnsm_status status = dnsm_build(1, DNSM_QR, items, 2, out, sizeof out, &len);
@@ -32,7 +30,5 @@ int main(void)
     refused += is_refused(status, len, 16);
     status = dnsm_record_from_text(TEXT("example.org. 300 IN NS ns.example.org."), out, sizeof out, &len, &item);
     refused += is_refused(status, len, 13 + 10 + 16);
-    status = dnsm_age(response, sizeof response - 1, 45);
-    refused += is_refused(status, status == DNSM_OK ? response[20] : 300 - 256 - response[20], 255);
     return refused;
 }

@@ -101,6 +101,15 @@ reads() {
   [ $status = 1 ] && diff "$packages/$2.txt" "$build/output" && diff "$packages/$2_told.txt" "$build/told"
 }
 
+# A zone that is sent whole, at once and in pieces; and a transfer that is cut off, or that of another query.
+reads_transfer() {
+  local stream=$here/../../../crates/example_transfer/stdin
+  "$build/transfer" 4660 example.com <"$stream" | diff "$here/transfer.txt" - &&
+    { head -c 300 "$stream" && sleep 1 && tail -c +301 "$stream"; } | "$build/transfer" 4660 example.com | diff "$here/transfer.txt" - &&
+    ends_with 1 "$build/transfer" 4660 example.com < <(head -c 300 "$stream") && ends_with 1 "$build/transfer" 4661 example.com <"$stream" &&
+    ends_with 1 "$build/transfer" 4660 example.com 1 <"$stream" && ends_with 1 "$build/transfer" 4660 a..b <"$stream"
+}
+
 # What the programs that print messages make of long lines: the number of words of each line that they print.
 prints_long() {
   long_messages | "$build/show" | awk 'NF { print $1, NF }' | diff <(printf '%s\n' 'header 6' 'counts 5' 'header 6' 'counts 5' 'answer 65542') - &&
@@ -154,12 +163,12 @@ refuse_words() {
 examples() {
   local source
   has_sanitizers "$1" || echo "$1 has no sanitizers: the examples in C run without" >&3
-  for source in "$here"/{ask,build,edge,servers,show}.c "$here"/../examples/{forward,mx,respond,serve,write}.c; do
+  for source in "$here"/{ask,build,edge,servers,show}.c "$here"/../examples/{forward,mx,respond,serve,transfer,write}.c; do
     compile "$1" c11 "$source" || return
   done
   compile "$1" c11 "$here/../examples/show.c" show_simply || return
   "$build/edge" && "$build/servers" && quoted "$1" && "$build/mx" | diff "$build/expected_data" - && messages >"$build/messages" &&
-    "$build/show" <"$build/messages" | diff "$build/expected" - &&
+    "$build/show" <"$build/messages" | diff "$build/expected" - && reads_transfer &&
     "$build/write" | diff "$packages/written.txt" - && reads messages shown show_simply && reads queries responded respond &&
     prints_long && reads_all && statuses && serves &&
     "$build/show" prefixes <"$build/messages" && "$build/show" changes <"$build/messages"
@@ -185,7 +194,7 @@ checked() {
 }
 
 # The calls that allocate, with the first allocation refused, then with the second, and so on until none is. A smaller allocation may
-# take the place of a refused one. Else the call has to tell, and each of the four calls does once.
+# take the place of a refused one. Else the call has to tell, and each of the three calls does once.
 refuses() {
   local place status refused told=0
   "$1" -O1 -shared -fPIC -o "$build/refuse.so" "$here/../../../campaigns/refuse.c" &&
@@ -198,7 +207,7 @@ refuses() {
     [ "$refused" = 1 ] || break
     told=$((told + status))
   done
-  [ $told -ge 4 ]
+  [ $told -ge 3 ]
 }
 
 # The version check of dnsm.h, without the library, and that of a header of version 2.1.3.

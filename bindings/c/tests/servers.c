@@ -406,6 +406,151 @@ static void aged(void)
     assert(dnsm_age(octets, RESPONSE, 600) == DNSM_BAD_LABEL && octets[37] == 0xe);
 }
 
+/* The messages of a stream, each after its length. */
+static void frames(void)
+{
+    static const uint8_t stream[] = "\0\xc............\0\xb";
+    size_t first = 7, missing = 7;
+    assert(dnsm_first_message(NULL, 0, &first, &missing) == DNSM_END && missing == 2 && first == 7);
+    assert(dnsm_first_message(stream, 1, &first, &missing) == DNSM_END && missing == 1);
+    assert(dnsm_first_message(stream, 2, &first, &missing) == DNSM_END && missing == 12);
+    assert(dnsm_first_message(stream, 13, &first, &missing) == DNSM_END && missing == 1 && first == 7);
+    assert(dnsm_first_message(stream, 16, &first, &missing) == DNSM_OK && missing == 0 && first == 12);
+    assert(dnsm_first_message(stream + 14, 2, &first, &missing) == DNSM_SHORT_INPUT && first == 12);
+}
+
+/* Makes the message of a transfer in `out`: a question for example.org, if its type isn't 0, and records. */
+static void make_message(uint16_t id, uint16_t flags, uint16_t qtype, const char *const *lines)
+{
+    const dnsm_put_item question = {(const uint8_t *)"\7example\3org", 13, NULL, 0, 0, qtype, DNSM_CLASS_IN, DNSM_QUESTION};
+    dnsm_draft draft;
+    assert(dnsm_begin(&draft, out, sizeof out, id, flags) == DNSM_OK);
+    assert(qtype == 0 || dnsm_put(&draft, out, sizeof out, &question) == DNSM_OK);
+    for (; *lines; lines++) {
+        uint8_t octets[128];
+        dnsm_item item;
+        assert(dnsm_record_from_text(*lines, strlen(*lines), octets, sizeof octets, &len, &item) == DNSM_OK);
+        item.section = DNSM_ANSWER;
+        assert(dnsm_put_from(&draft, out, sizeof out, octets, len, &item) == DNSM_OK);
+    }
+    assert(dnsm_finish(&draft, out, sizeof out, &len) == DNSM_OK);
+}
+
+/* The kinds of the steps of that message, as digits. Returns how it ends. */
+static dnsm_status take(dnsm_transfer *transfer, char *kinds)
+{
+    dnsm_cursor cursor;
+    dnsm_step step;
+    dnsm_status status = dnsm_open_transfer(transfer, out, len, &cursor);
+    while (status == DNSM_OK && (status = dnsm_next_step(transfer, out, len, &cursor, &step)) == DNSM_OK)
+        *kinds++ = (char)('0' + step.kind);
+    *kinds = 0;
+    return status;
+}
+
+#define SOA_LINE(serial) "example.org. 300 IN SOA ns.example.org. admin.example.org. " serial " 7200 900 1209600 300"
+#define NS "example.org. 300 IN NS ns.example.org."
+#define A "ns.example.org. 300 IN A 192.0.2.1"
+#define B "ns.example.org. 300 IN A 192.0.2.2"
+#define LINES(...) (const char *const[]){__VA_ARGS__, NULL}
+
+static dnsm_transfer begun(bool changes, uint32_t known)
+{
+    dnsm_transfer transfer = {.zone_len = 7};
+    assert(dnsm_begin_transfer(&transfer, 4660, OCTETS("\7EXAMPLE\3org\0\0"), DNSM_CLASS_IN, changes, known) == DNSM_BAD_TEXT);
+    assert(transfer.zone_len == 7);
+    assert(dnsm_begin_transfer(&transfer, 4660, OCTETS("\7EXAMPLE\3org\0"), DNSM_CLASS_IN, changes, known) == DNSM_OK);
+    return transfer;
+}
+
+/* RFC 5936 section 2.2, RFC 1995 sections 2 and 4. */
+static void transfers(void)
+{
+    const struct { bool changes; uint16_t qtype; const char *const *lines; const char *kinds; } each[] = {
+        {false, DNSM_TYPE_AXFR, LINES(SOA_LINE("3"), NS, A, SOA_LINE("3")), "0445"},
+        {true, DNSM_TYPE_IXFR, LINES(SOA_LINE("3"), SOA_LINE("1"), A, SOA_LINE("3"), B, SOA_LINE("3")), "033445"},
+        {true, DNSM_TYPE_IXFR, LINES(SOA_LINE("3"), SOA_LINE("1"), SOA_LINE("2"), A, SOA_LINE("2"), A, SOA_LINE("3"), SOA_LINE("3")),
+         "03443345"},
+        {true, DNSM_TYPE_IXFR, LINES(SOA_LINE("3"), NS, SOA_LINE("3")), "0245"},
+        {true, DNSM_TYPE_IXFR, LINES(SOA_LINE("1")), "1"}};
+    char kinds[16];
+    dnsm_transfer transfer;
+    for (size_t i = 0; i < sizeof each / sizeof *each; i++) {
+        transfer = begun(each[i].changes, 1);
+        make_message(4660, DNSM_QR | DNSM_AA, each[i].qtype, each[i].lines);
+        assert(take(&transfer, kinds) == DNSM_END && strcmp(kinds, each[i].kinds) == 0);
+        assert(dnsm_end_transfer(&transfer) == DNSM_OK && transfer.state == DNSM_TRANSFER_ENDED && transfer.status == DNSM_OK);
+    }
+    /* Several messages: the later ones need no question. A copy goes on from where it was taken. */
+    transfer = begun(false, 0);
+    make_message(4660, DNSM_QR, DNSM_TYPE_AXFR, LINES(SOA_LINE("3"), NS));
+    assert(take(&transfer, kinds) == DNSM_END && strcmp(kinds, "04") == 0 && transfer.last == 3);
+    assert(dnsm_end_transfer(&transfer) == DNSM_INCOMPLETE && transfer.state == DNSM_TRANSFER_WHOLE);
+    dnsm_transfer copy = transfer;
+    make_message(4660, DNSM_QR, 0, LINES(A, SOA_LINE("3")));
+    assert(take(&transfer, kinds) == DNSM_END && strcmp(kinds, "45") == 0 && dnsm_end_transfer(&transfer) == DNSM_OK);
+    assert(take(&copy, kinds) == DNSM_END && strcmp(kinds, "45") == 0);
+    assert(take(&copy, kinds) == DNSM_AFTER_END && dnsm_end_transfer(&copy) == DNSM_AFTER_END);
+    /* The record of a step, and its serial. */
+    dnsm_cursor cursor;
+    dnsm_step step;
+    transfer = begun(false, 0);
+    make_message(4660, DNSM_QR, DNSM_TYPE_AXFR, LINES(SOA_LINE("4294967295"), A));
+    assert(dnsm_open_transfer(&transfer, out, len, &cursor) == DNSM_OK && cursor.left == 2);
+    assert(dnsm_next_step(&transfer, out, len, &cursor, &step) == DNSM_OK && step.serial == UINT32_MAX && step.item.type == DNSM_TYPE_SOA);
+    assert(dnsm_next_step(&transfer, out, len, &cursor, &step) == DNSM_OK && step.serial == 0 && step.item.type == DNSM_TYPE_A);
+    assert(step.item.ttl == 300 && step.item.data_len == 4 && memcmp(out + step.item.data, "\300\0\2\1", 4) == 0);
+    assert(dnsm_next_step(&transfer, out, len, &cursor, &step) == DNSM_END && step.item.type == DNSM_TYPE_A);
+}
+
+/* Messages that aren't the next ones of a transfer: each error, and the steps before it. */
+static void no_transfers(void)
+{
+    const struct { uint16_t id, flags, qtype; const char *const *lines; dnsm_status status; const char *kinds; } each[] = {
+        {4661, DNSM_QR, DNSM_TYPE_AXFR, LINES(SOA_LINE("3")), DNSM_OTHER_QUERY, ""},
+        {4660, 0, DNSM_TYPE_AXFR, LINES(SOA_LINE("3")), DNSM_NO_RESPONSE, ""},
+        {4660, DNSM_QR | 0x2000, DNSM_TYPE_AXFR, LINES(SOA_LINE("3")), DNSM_NO_RESPONSE, ""},
+        {4660, DNSM_QR | 5, DNSM_TYPE_AXFR, LINES(SOA_LINE("3")), DNSM_BAD_RCODE, ""},
+        {4660, DNSM_QR | DNSM_TC, DNSM_TYPE_AXFR, LINES(SOA_LINE("3")), DNSM_TRUNCATED, ""},
+        {4660, DNSM_QR, DNSM_TYPE_IXFR, LINES(SOA_LINE("3")), DNSM_OTHER_QUERY, ""},
+        {4660, DNSM_QR, 0, LINES(SOA_LINE("3")), DNSM_OTHER_QUERY, ""},
+        {4660, DNSM_QR, DNSM_TYPE_AXFR, LINES(SOA_LINE("3"), "example.org. 300 CH NS ns.example.org."), DNSM_WRONG_CLASS, "0"},
+        {4660, DNSM_QR, DNSM_TYPE_AXFR, LINES(SOA_LINE("3"), "org. 300 IN NS ns.example.org."), DNSM_OUTSIDE_ZONE, "0"},
+        {4660, DNSM_QR, DNSM_TYPE_AXFR, LINES(NS), DNSM_NO_SOA, ""},
+        {4660, DNSM_QR, DNSM_TYPE_AXFR, LINES("a." SOA_LINE("3")), DNSM_WRONG_SOA, ""},
+        {4660, DNSM_QR, DNSM_TYPE_AXFR, LINES(SOA_LINE("3"), NS, SOA_LINE("4")), DNSM_WRONG_SOA, "04"},
+        {4660, DNSM_QR, DNSM_TYPE_AXFR, LINES(SOA_LINE("3"), SOA_LINE("3"), NS), DNSM_AFTER_END, "05"}};
+    char kinds[16];
+    dnsm_transfer transfer;
+    dnsm_cursor cursor = {.left = 7};
+    dnsm_step step = {.kind = 99};
+    for (size_t i = 0; i < sizeof each / sizeof *each; i++) {
+        transfer = begun(false, 0);
+        make_message(each[i].id, each[i].flags, each[i].qtype, each[i].lines);
+        assert(take(&transfer, kinds) == each[i].status && strcmp(kinds, each[i].kinds) == 0);
+        /* The error stays, whatever comes. */
+        make_message(4660, DNSM_QR, DNSM_TYPE_AXFR, LINES(SOA_LINE("3")));
+        assert(dnsm_open_transfer(&transfer, out, len, &cursor) == each[i].status && cursor.left == 7);
+        assert(dnsm_next_step(&transfer, out, len, &cursor, &step) == each[i].status && step.kind == 99);
+        assert(dnsm_end_transfer(&transfer) == each[i].status && transfer.status == each[i].status);
+    }
+    transfer = begun(false, 0);
+    assert(dnsm_open_transfer(&transfer, out, 11, &cursor) == DNSM_SHORT_INPUT && dnsm_end_transfer(&transfer) == DNSM_SHORT_INPUT);
+    transfer = begun(false, 0);
+    assert(dnsm_open_transfer(&transfer, out, 20, &cursor) == DNSM_SHORT_INPUT);
+    /* The record is cut off, or an octet follows the fields of its RDATA. */
+    transfer = begun(false, 0);
+    assert(dnsm_open_transfer(&transfer, out, len - 1, &cursor) == DNSM_OK && cursor.left == 1);
+    assert(dnsm_next_step(&transfer, out, len - 1, &cursor, &step) == DNSM_SHORT_INPUT);
+    out[item_of(out, len, 1).data - 1]++;
+    transfer = begun(false, 0);
+    assert(dnsm_open_transfer(&transfer, out, len + 1, &cursor) == DNSM_OK);
+    assert(dnsm_next_step(&transfer, out, len + 1, &cursor, &step) == DNSM_FORM && transfer.status == DNSM_FORM);
+    /* A struct that no call has set. */
+    transfer = (dnsm_transfer){.zone_len = 1, .zone = {64}};
+    assert(dnsm_open_transfer(&transfer, out, len, &cursor) == DNSM_BAD_TEXT && transfer.status == DNSM_BAD_TEXT);
+}
+
 /* The response to the query, with items of the other response. */
 static void responses(void)
 {
@@ -473,6 +618,9 @@ int main(void)
     no_replies();
     cached();
     aged();
+    frames();
+    transfers();
+    no_transfers();
     responses();
     refused();
     puts("ok");

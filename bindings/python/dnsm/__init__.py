@@ -24,6 +24,7 @@ from ._errors import (
     NotAnswerable,
     Status,
     TooLong,
+    TransferError,
 )
 from ._items import Field, Question, Record
 from ._message import FoundOpt, Message, Reply
@@ -48,6 +49,8 @@ from ._numbers import (
     Rcode,
     ReplyKind,
     Section,
+    StepKind,
+    TransferState,
     Type,
     class_from_text,
     class_text,
@@ -62,6 +65,7 @@ from ._numbers import (
     type_from_text,
     type_text,
 )
+from ._transfer import Step, Transfer, first_message, missing_octets
 from ._write import NewRecord, build, data_from_text, query, record_from_text, respond_a
 
 # bindings/package writes the version of dnsm.h here.
@@ -95,7 +99,12 @@ __all__ = [
     "ReplyKind",
     "Section",
     "Status",
+    "Step",
+    "StepKind",
     "TooLong",
+    "Transfer",
+    "TransferError",
+    "TransferState",
     "Type",
     "build",
     "class_from_text",
@@ -104,7 +113,9 @@ __all__ = [
     "data_from_text",
     "extended_error_from_text",
     "extended_error_text",
+    "first_message",
     "library_version",
+    "missing_octets",
     "name_end",
     "name_from_text",
     "name_hash",

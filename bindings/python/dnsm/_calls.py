@@ -105,6 +105,25 @@ class Saying(ctypes.Structure):
     ]
 
 
+class Transfer(ctypes.Structure):
+    _fields_ = [
+        ("known", c_uint32),
+        ("version", c_uint32),
+        ("last", c_uint32),
+        ("status", c_uint32),
+        ("id", c_uint16),
+        ("class_", c_uint16),
+        ("state", c_uint8),
+        ("changes", c_uint8),
+        ("zone_len", c_uint8),
+        ("zone", c_uint8 * 255),
+    ]
+
+
+class Step(ctypes.Structure):
+    _fields_ = [("item", Item), ("serial", c_uint32), ("kind", c_uint8)]
+
+
 _OCTETS = [c_char_p, c_size_t]
 _BUFFER = [POINTER(c_char), c_size_t]
 _OUT = [*_BUFFER, POINTER(c_size_t)]
@@ -162,6 +181,11 @@ _CALLS = {
     "dnsm_min_ttl": [*_OCTETS, POINTER(c_uint32)],
     "dnsm_records_end": [*_OCTETS, POINTER(c_size_t)],
     "dnsm_age": [*_BUFFER, c_uint32],
+    "dnsm_first_message": [*_OCTETS, POINTER(c_size_t), POINTER(c_size_t)],
+    "dnsm_begin_transfer": [POINTER(Transfer), c_uint16, *_OCTETS, c_uint16, c_bool, c_uint32],
+    "dnsm_open_transfer": [POINTER(Transfer), *_OCTETS, POINTER(Cursor)],
+    "dnsm_next_step": [POINTER(Transfer), *_OCTETS, POINTER(Cursor), POINTER(Step)],
+    "dnsm_end_transfer": [POINTER(Transfer)],
     "dnsm_version": [],
 }
 

@@ -37,6 +37,14 @@ class Status(enum.IntEnum):
     BAD_OWNER = 24
     NO_RESPONSE = 25
     OTHER_QUERY = 26
+    BAD_RCODE = 27
+    TRUNCATED = 28
+    WRONG_CLASS = 29
+    OUTSIDE_ZONE = 30
+    NO_SOA = 31
+    WRONG_SOA = 32
+    AFTER_END = 33
+    INCOMPLETE = 34
 
 
 class Error(ValueError):
@@ -84,11 +92,16 @@ class NotAnswerable(Error):
     """Octets that `respond_a` or `Builder.response` doesn't answer."""
 
 
+class TransferError(Error):
+    """A message that isn't the next one of a transfer, or a transfer that hasn't ended."""
+
+
 _KINDS: Dict[int, Type[Error]] = {
     Status.SHORT_INPUT: MalformedMessage,
     Status.BAD_LABEL: MalformedMessage,
     Status.BAD_POINTER: MalformedMessage,
     Status.LONG_NAME: MalformedMessage,
+    Status.FORM: MalformedMessage,
     Status.BAD_OPTION: MalformedMessage,
     Status.TWO_OPTS: MalformedMessage,
     Status.BAD_OWNER: MalformedMessage,
@@ -103,6 +116,16 @@ _KINDS: Dict[int, Type[Error]] = {
     Status.OTHER_OPCODE: NotAnswerable,
     Status.OTHER_CLASS: NotAnswerable,
     Status.OTHER_TYPE: NotAnswerable,
+    Status.NO_RESPONSE: TransferError,
+    Status.OTHER_QUERY: TransferError,
+    Status.BAD_RCODE: TransferError,
+    Status.TRUNCATED: TransferError,
+    Status.WRONG_CLASS: TransferError,
+    Status.OUTSIDE_ZONE: TransferError,
+    Status.NO_SOA: TransferError,
+    Status.WRONG_SOA: TransferError,
+    Status.AFTER_END: TransferError,
+    Status.INCOMPLETE: TransferError,
 }
 
 

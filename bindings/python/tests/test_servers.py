@@ -1,6 +1,7 @@
 """What servers and forwarders use of the package."""
 
 import copy
+import struct
 import unittest
 
 from dnsm import (
@@ -23,11 +24,17 @@ from dnsm import (
     ReplyKind,
     Section,
     Status,
+    StepKind,
+    Transfer,
+    TransferError,
+    TransferState,
     Type,
     build,
     compare_names,
     data_from_text,
+    first_message,
     library_version,
+    missing_octets,
     name_end,
     name_from_text,
     name_hash,
@@ -315,6 +322,89 @@ class Replies(unittest.TestCase):
             Message(wanted).aged(600)
         self.assertEqual(raised.exception.status, Status.BAD_POINTER)
         self.assertRaises(ValueError, message.aged, 1 << 32)
+
+
+def soa(serial: int) -> bytes:
+    """An SOA record of the root."""
+    return b"\0" + struct.pack(">HHIH", Type.SOA, 1, 0, 22) + b"\0\0" + struct.pack(">5I", serial, 0, 0, 0, 0)
+
+
+def transferred(qtype: int, *records: bytes, id: int = 4660, flags: int = 0x8400) -> bytes:
+    """A message of a transfer of the root; without a question if the type is 0."""
+    question = b"\0" + struct.pack(">HH", qtype, 1) if qtype else b""
+    return struct.pack(">6H", id, flags, 1 if qtype else 0, len(records), 0, 0) + question + b"".join(records)
+
+
+NS = b"\0" + struct.pack(">HHIH", Type.NS, 1, 300, 1) + b"\0"
+
+
+class TransferTest(unittest.TestCase):
+    """RFC 1035 section 4.2.2, RFC 5936 section 2.2, RFC 1995 sections 2 and 4."""
+
+    def test_frames(self) -> None:
+        stream = b"\0\x0c" + bytes(12) + b"\0"
+        self.assertEqual((first_message(stream), missing_octets(stream)), (bytes(12), 0))
+        self.assertEqual((first_message(stream[:13]), missing_octets(stream[:13]), missing_octets(stream[14:])), (None, 1, 1))
+        with self.assertRaises(MalformedMessage):
+            first_message(b"\0\x0b" + bytes(11))
+        with self.assertRaises(MalformedMessage):
+            missing_octets(b"\0\0")
+
+    def test_whole(self) -> None:
+        transfer = Transfer(4660, ".")
+        self.assertEqual(transfer.state, TransferState.WANTED)
+        begin, add = transfer.take(transferred(Type.AXFR, soa(3), NS))
+        self.assertEqual((begin.kind, begin.serial, begin.record.type if begin.record else 0), (StepKind.BEGIN, 3, Type.SOA))
+        self.assertEqual((add.kind, add.serial, str(add.record)), (StepKind.ADD, None, ". 300 IN NS ."))
+        self.assertEqual((transfer.state, transfer.has_ended()), (TransferState.WHOLE, False))
+        with self.assertRaises(TransferError) as waits:
+            transfer.end()
+        self.assertEqual(waits.exception.status, Status.INCOMPLETE)
+        (end,) = transfer.take(transferred(0, soa(3)))
+        self.assertEqual((end, transfer.state, transfer.has_ended()), ((StepKind.END, 3, None), TransferState.ENDED, True))
+        transfer.end()
+
+    def test_changes(self) -> None:
+        each = {
+            "033445": transferred(Type.IXFR, soa(3), soa(1), NS, soa(3), NS, soa(3)),
+            "0245": transferred(Type.IXFR, soa(3), NS, soa(3)),
+            "1": transferred(Type.IXFR, soa(1)),
+        }
+        for kinds, message in each.items():
+            transfer = Transfer(4660, b"\0", known=1)
+            self.assertEqual("".join(str(int(step.kind)) for step in transfer.take(message)), kinds)
+            self.assertTrue(transfer.has_ended())
+        self.assertEqual(next(Transfer(4660, ".", known=1).take(each["1"])), (StepKind.UP_TO_DATE, 1, None))
+
+    def test_errors(self) -> None:
+        other = NS[:4] + b"\3" + NS[5:]
+        each = {
+            transferred(Type.AXFR, soa(3), id=1): Status.OTHER_QUERY,
+            transferred(Type.IXFR, soa(3)): Status.OTHER_QUERY,
+            transferred(Type.AXFR, soa(3), flags=0): Status.NO_RESPONSE,
+            transferred(Type.AXFR, soa(3), flags=0x8405): Status.BAD_RCODE,
+            transferred(Type.AXFR, soa(3), flags=0x8600): Status.TRUNCATED,
+            transferred(Type.AXFR, soa(3), other): Status.WRONG_CLASS,
+            transferred(Type.AXFR, NS): Status.NO_SOA,
+            transferred(Type.AXFR, soa(3), NS, soa(4)): Status.WRONG_SOA,
+            transferred(Type.AXFR, soa(3), soa(3), NS): Status.AFTER_END,
+            transferred(Type.AXFR, soa(3))[:-1]: Status.SHORT_INPUT,
+            b"": Status.SHORT_INPUT,
+        }
+        for message, status in each.items():
+            transfer = Transfer(4660, ".")
+            for again in (message, transferred(Type.AXFR, soa(3), soa(3))):
+                with self.assertRaises((MalformedMessage, TransferError)) as raised:
+                    list(transfer.take(again))
+                self.assertEqual((raised.exception.status, transfer.has_ended()), (status, False))
+        with self.assertRaises(TransferError) as outside:
+            list(Transfer(4660, "example").take(transferred(Type.AXFR, soa(3)).replace(b"\0\0\xfc", b"\7example\0\0\xfc")))
+        self.assertEqual(outside.exception.status, Status.OUTSIDE_ZONE)
+        for zone, words in ((".", {"known": 1 << 32}), (".", {"class_": -1})):
+            with self.assertRaises(ValueError):
+                Transfer(4660, zone, **words)
+        with self.assertRaises(NameTextError):
+            Transfer(4660, b"\0\0")
 
 
 class Versions(unittest.TestCase):

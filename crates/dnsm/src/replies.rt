@@ -5,6 +5,7 @@ ghost use Rattle.dns_edit.specs.Acceptance.{IsRegular};
 ghost use Rattle.dns_edit.specs.Edits.{ChangesTtls, IsLeastTtl};
 ghost use Rattle.dns_edit.specs.Ends.{RecordsEndAt};
 ghost use Rattle.dns_edit.specs.Readings.{ReadsAlike};
+ghost use Rattle.dns_edit.specs.Ttls.{changed};
 ghost use Rattle.dns_edit.specs.declared.change.TtlChange.TheVariants.{Age};
 ghost use Rattle.dnsm_status.specs.Codes.{number_of};
 ghost use Rattle.dnsm_text.specs.NamePairs.{IsFlagOf};
@@ -14,7 +15,6 @@ ghost use Rattle.dnsm_replies.specs.Replies.{LacksReply, SaysReply};
 
 use dnsm_replies::{Saying, age, reply, whole};
 use dnsm_status::{CallError, code};
-use std::alloc::Global;
 
 /// Sets `regular` to 1 if all entries can be skipped and each pointer of a name leads to a label of an
 /// earlier name (RFC 1035 section 4.1.4), else to 0.
@@ -26,7 +26,7 @@ pub extern "C" fn dnsm_is_regular(message: &[u8], regular: &mut u8) -> u32
         × (length message.now < header_size) }
     ensures unchanged { result ≢ 0 → regular.new ≡ regular.old }
 {
-    match whole::regular(message) {
+    match whole::is_regular(message) {
         Ok(found) => {
             *regular = u8::from(found);
             0
@@ -44,7 +44,7 @@ pub extern "C" fn dnsm_min_ttl(message: &[u8], ttl: &mut u32) -> u32
     ensures fault { result ≢ 0 → result ≢ 1 → LacksRecords message.now result }
     ensures unchanged { result ≢ 0 → ttl.new ≡ ttl.old }
 {
-    match whole::least_ttl(message) {
+    match whole::min_ttl(message) {
         Ok(Some(least)) => {
             *ttl = least;
             0
@@ -62,7 +62,7 @@ pub extern "C" fn dnsm_records_end(message: &[u8], end: &mut usize) -> u32
     ensures fault { result ≢ 0 → LacksRecords message.now result }
     ensures unchanged { result ≢ 0 → end.new ≡ end.old }
 {
-    match whole::end(message) {
+    match whole::records_end(message) {
         Ok(found) => {
             *end = found;
             0
@@ -89,18 +89,17 @@ pub extern "C" fn dnsm_reply(query: &[u8], received: &[u8], zone: &[u8], saying:
 }
 
 /// Lowers the TTL of each record by `seconds`, but not below 0. Returns the number of the error of
-/// the first question or record that isn't as `dnsm_is_regular` wants it. Allocates.
+/// the first question or record that isn't as `dnsm_is_regular` wants it.
 #[unsafe(no_mangle)]
-pub extern "C" fn dnsm_age(alloc: Global, message: &mut [u8], seconds: u32) -> u32
-    ensures changes { result ≡ 0 → ChangesTtls (Age seconds) message.old message.new }
-    ensures reads { result ≡ 0 → ReadsAlike (Age seconds) message.old message.new }
+pub extern "C" fn dnsm_age(message: &mut [u8], seconds: u32) -> u32
+    ensures changes { result ≡ 0 → ChangesTtls (changed (Age seconds)) message.old message.new }
+    ensures reads { result ≡ 0 → ReadsAlike (changed (Age seconds)) message.old message.new }
     ensures regular { result ≡ 0 → IsRegular message.old }
     ensures long { result ≡ 0 → header_size ≤ length message.old }
-    ensures refused { result ≢ 0 → result ≢ number_of CallError.NoMemory
-        → RefusesAge message.old result }
+    ensures refused { result ≢ 0 → RefusesAge message.old result }
     ensures unchanged { result ≢ 0 → message.new ≡ message.old }
 {
-    match age::age(alloc, message, seconds) {
+    match age::age(message, seconds) {
         Ok(()) => 0,
         Err(fault) => code::of_fault(fault),
     }

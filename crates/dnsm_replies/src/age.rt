@@ -1,46 +1,34 @@
 //! Lowers the TTLs of a message in the caller's buffer.
-ghost use Rattle.std.specs.Prelude.{◌≡◌, ◌≢◌, ◌≤◌, length, IfErr, OnErr, OnOk};
+ghost use Rattle.std.specs.Prelude.{◌≡◌, ◌≤◌, length, IfErr, OnErr, OnOk};
 ghost use Rattle.dns_code.specs.HeaderSection.{header_size};
 ghost use Rattle.dns_edit.specs.Acceptance.{IsRegular};
 ghost use Rattle.dns_edit.specs.Edits.{ChangesTtls};
 ghost use Rattle.dns_edit.specs.Readings.{ReadsAlike};
+ghost use Rattle.dns_edit.specs.Ttls.{changed};
 ghost use Rattle.dns_edit.specs.declared.change.TtlChange.TheVariants.{Age};
 ghost use Rattle.dnsm_status.specs.Codes.{number_of};
 ghost use Rattle.dnsm_replies.specs.Ages.{IsReportedEdit, RefusesAge, ReportsEdit};
 
 use dns_code::HeaderSection;
-use dns_edit::laws::names_read_alike;
 use dns_edit::{EditError, age_ttls};
 use dns_read::Message;
 use dnsm_status::{CallError, code};
-use std::alloc::Global;
 
-/// Lowers each TTL by `seconds`, but not below 0. OPT, TSIG, TKEY and SIG records stay. The message is
-/// changed in a copy, so the only error besides those of the message is that memory fails.
-pub fn age(alloc: Global, octets: &mut [u8], seconds: u32) -> Result<(), CallError>
-    ensures changes { OnOk result (ChangesTtls (Age seconds) octets.old octets.new) }
-    ensures reads { OnOk result (ReadsAlike (Age seconds) octets.old octets.new) }
+/// Lowers each TTL by `seconds`, but not below 0. OPT, TSIG, TKEY and SIG records stay.
+pub fn age(octets: &mut [u8], seconds: u32) -> Result<(), CallError>
+    ensures changes { OnOk result (ChangesTtls (changed (Age seconds)) octets.old octets.new) }
+    ensures reads { OnOk result (ReadsAlike (changed (Age seconds)) octets.old octets.new) }
     ensures regular { OnOk result (IsRegular octets.old) }
     ensures long { OnOk result (header_size ≤ length octets.old) }
-    ensures refused { IfErr result (λ fault. fault ≢ CallError.NoMemory
-        → RefusesAge octets.old (number_of fault)) }
+    ensures refused { IfErr result (λ fault. RefusesAge octets.old (number_of fault)) }
     ensures kept { OnErr result (octets.new ≡ octets.old) }
 {
     if octets.len() < HeaderSection::LEN {
         return Err(CallError::ShortInput);
     }
-    let Ok(copy) = Vec::from_slice(alloc, octets) else {
-        return Err(CallError::NoMemory);
-    };
-    let Ok(mut message) = Message::from_octets(copy) else {
-        return Err(CallError::ShortInput);
-    };
+    let mut message = Message::from_octets_unchecked(octets);
     match age_ttls(&mut message, seconds) {
-        Ok(()) => {
-            names_read_alike();
-            octets.copy_from_slice(message.as_slice());
-            Ok(())
-        }
+        Ok(()) => Ok(()),
         Err(error) => Err(fault_of_edit(error)),
     }
 }

@@ -1,7 +1,7 @@
 //! Replies: what one says of a query, whether a message is regular, its least TTL, where it ends, and
 //! its TTLs lowered.
 //!
-//! No function requires anything of what it gets. Only `age` allocates. `dnsm` exports these functions
+//! No function requires anything of what it gets. Nothing is allocated. `dnsm` exports these functions
 //! to C.
 #![tactic(auto)]
 

@@ -37,6 +37,14 @@ number_of faults.TwoOpts = 23
 number_of faults.BadOwner = 24
 number_of faults.NoResponse = 25
 number_of faults.OtherQuery = 26
+number_of faults.BadRcode = 27
+number_of faults.Truncated = 28
+number_of faults.WrongClass = 29
+number_of faults.OutsideZone = 30
+number_of faults.NoSoa = 31
+number_of faults.WrongSoa = 32
+number_of faults.AfterEnd = 33
+number_of faults.Incomplete = 34
 
 -- the status of a call: 0 if there is an item, 1 at the end, otherwise the number of the fault
 abbrev pub code_of : Result Bool CallError → ℕ

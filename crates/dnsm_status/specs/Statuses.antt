@@ -35,6 +35,14 @@ status_sentences =
     ∷ (number_of faults.BadOwner, codes "the owner of the OPT record isn't the root")
     ∷ (number_of faults.NoResponse, codes "the message is no response")
     ∷ (number_of faults.OtherQuery, codes "the response is that of another query")
+    ∷ (number_of faults.BadRcode, codes "the rcode isn't NOERROR")
+    ∷ (number_of faults.Truncated, codes "the message is truncated")
+    ∷ (number_of faults.WrongClass, codes "a record has another class than the zone")
+    ∷ (number_of faults.OutsideZone, codes "the owner of a record is outside of the zone")
+    ∷ (number_of faults.NoSoa, codes "the first record of the transfer is no SOA record")
+    ∷ (number_of faults.WrongSoa, codes "an SOA record isn't the one that may come next")
+    ∷ (number_of faults.AfterEnd, codes "a record or a message follows the end of the transfer")
+    ∷ (number_of faults.Incomplete, codes "the transfer hasn't ended")
     ∷ []
 
 -- the text of a status

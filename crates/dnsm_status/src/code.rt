@@ -61,6 +61,22 @@ pub enum CallError {
     NoResponse,
     /// The ID, the opcode or the questions aren't those of the query.
     OtherQuery,
+    /// The rcode isn't NOERROR.
+    BadRcode,
+    /// TC is set.
+    Truncated,
+    /// A record has another class than the zone.
+    WrongClass,
+    /// The owner of a record is outside of the zone.
+    OutsideZone,
+    /// The first record of a transfer isn't an SOA record.
+    NoSoa,
+    /// An SOA record isn't the one that may come next in a transfer.
+    WrongSoa,
+    /// A record or a message follows the end of a transfer.
+    AfterEnd,
+    /// A transfer hasn't ended.
+    Incomplete,
 }
 
 impl From<ShortMessage> for CallError {
@@ -133,6 +149,14 @@ pub fn of_fault(fault: CallError) -> u32
         CallError::BadOwner => 24,
         CallError::NoResponse => 25,
         CallError::OtherQuery => 26,
+        CallError::BadRcode => 27,
+        CallError::Truncated => 28,
+        CallError::WrongClass => 29,
+        CallError::OutsideZone => 30,
+        CallError::NoSoa => 31,
+        CallError::WrongSoa => 32,
+        CallError::AfterEnd => 33,
+        CallError::Incomplete => 34,
     }
 }
 

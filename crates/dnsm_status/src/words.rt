@@ -74,6 +74,14 @@ fn sentence(status: u32) -> Option<&'static str>
         24 => Some("the owner of the OPT record isn't the root"),
         25 => Some("the message is no response"),
         26 => Some("the response is that of another query"),
+        27 => Some("the rcode isn't NOERROR"),
+        28 => Some("the message is truncated"),
+        29 => Some("a record has another class than the zone"),
+        30 => Some("the owner of a record is outside of the zone"),
+        31 => Some("the first record of the transfer is no SOA record"),
+        32 => Some("an SOA record isn't the one that may come next"),
+        33 => Some("a record or a message follows the end of the transfer"),
+        34 => Some("the transfer hasn't ended"),
         _ => None,
     }
 }

@@ -33,6 +33,14 @@ pub const DNSM_TWO_OPTS: dnsm_status = 23;
 pub const DNSM_BAD_OWNER: dnsm_status = 24;
 pub const DNSM_NO_RESPONSE: dnsm_status = 25;
 pub const DNSM_OTHER_QUERY: dnsm_status = 26;
+pub const DNSM_BAD_RCODE: dnsm_status = 27;
+pub const DNSM_TRUNCATED: dnsm_status = 28;
+pub const DNSM_WRONG_CLASS: dnsm_status = 29;
+pub const DNSM_OUTSIDE_ZONE: dnsm_status = 30;
+pub const DNSM_NO_SOA: dnsm_status = 31;
+pub const DNSM_WRONG_SOA: dnsm_status = 32;
+pub const DNSM_AFTER_END: dnsm_status = 33;
+pub const DNSM_INCOMPLETE: dnsm_status = 34;
 
 pub const DNSM_QUESTION: u8 = 0;
 pub const DNSM_ANSWER: u8 = 1;
@@ -262,6 +270,20 @@ pub const DNSM_REPLY_MANY_OPTS: u8 = 10;
 pub const DNSM_REPLY_LOOP: u8 = 11;
 pub const DNSM_REPLY_LAME: u8 = 12;
 
+pub const DNSM_STEP_BEGIN: u8 = 0;
+pub const DNSM_STEP_UP_TO_DATE: u8 = 1;
+pub const DNSM_STEP_WHOLE: u8 = 2;
+pub const DNSM_STEP_REMOVE: u8 = 3;
+pub const DNSM_STEP_ADD: u8 = 4;
+pub const DNSM_STEP_END: u8 = 5;
+
+pub const DNSM_TRANSFER_WANTED: u8 = 0;
+pub const DNSM_TRANSFER_FIRST: u8 = 1;
+pub const DNSM_TRANSFER_WHOLE: u8 = 2;
+pub const DNSM_TRANSFER_REMOVING: u8 = 3;
+pub const DNSM_TRANSFER_ADDING: u8 = 4;
+pub const DNSM_TRANSFER_ENDED: u8 = 5;
+
 #[repr(C)]
 #[derive(Debug, Default, Clone, Copy)]
 pub struct dnsm_header {
@@ -373,6 +395,29 @@ pub struct dnsm_saying {
     pub name: [u8; 255],
     pub owner: [u8; 255],
     pub target: [u8; 255],
+}
+
+#[repr(C)]
+#[derive(Debug, Clone, Copy)]
+pub struct dnsm_transfer {
+    pub known: u32,
+    pub version: u32,
+    pub last: u32,
+    pub status: dnsm_status,
+    pub id: u16,
+    pub class_: u16,
+    pub state: u8,
+    pub changes: u8,
+    pub zone_len: u8,
+    pub zone: [u8; 255],
+}
+
+#[repr(C)]
+#[derive(Debug, Default, Clone, Copy)]
+pub struct dnsm_step {
+    pub item: dnsm_item,
+    pub serial: u32,
+    pub kind: u8,
 }
 
 extern "C" {
@@ -625,4 +670,28 @@ extern "C" {
     pub fn dnsm_min_ttl(message: *const u8, message_len: usize, ttl: *mut u32) -> dnsm_status;
     pub fn dnsm_records_end(message: *const u8, message_len: usize, end: *mut usize) -> dnsm_status;
     pub fn dnsm_age(message: *mut u8, message_len: usize, seconds: u32) -> dnsm_status;
+    pub fn dnsm_first_message(stream: *const u8, stream_len: usize, len: *mut usize, missing: *mut usize) -> dnsm_status;
+    pub fn dnsm_begin_transfer(
+        transfer: *mut dnsm_transfer,
+        id: u16,
+        zone: *const u8,
+        zone_len: usize,
+        class_: u16,
+        changes: bool,
+        known: u32,
+    ) -> dnsm_status;
+    pub fn dnsm_open_transfer(
+        transfer: *mut dnsm_transfer,
+        message: *const u8,
+        message_len: usize,
+        cursor: *mut dnsm_cursor,
+    ) -> dnsm_status;
+    pub fn dnsm_next_step(
+        transfer: *mut dnsm_transfer,
+        message: *const u8,
+        message_len: usize,
+        cursor: *mut dnsm_cursor,
+        step: *mut dnsm_step,
+    ) -> dnsm_status;
+    pub fn dnsm_end_transfer(transfer: *const dnsm_transfer) -> dnsm_status;
 }

@@ -49,6 +49,8 @@ errors! {
     BadPointer = DNSM_BAD_POINTER,
     /// A name has more than 255 octets.
     LongName = DNSM_LONG_NAME,
+    /// Octets follow the RDATA of an SOA record, in a transfer.
+    Form = DNSM_FORM,
     /// The buffer or the limit of a builder leaves too few octets.
     NoRoom = DNSM_NO_ROOM,
     /// A text represents nothing, or octets are no valid name.
@@ -89,6 +91,22 @@ errors! {
     NoResponse = DNSM_NO_RESPONSE,
     /// The ID, the opcode or the questions of a response aren't those of the query.
     OtherQuery = DNSM_OTHER_QUERY,
+    /// The rcode isn't NOERROR.
+    BadRcode = DNSM_BAD_RCODE,
+    /// TC is set.
+    Truncated = DNSM_TRUNCATED,
+    /// A record has another class than the zone.
+    WrongClass = DNSM_WRONG_CLASS,
+    /// The owner of a record is outside of the zone.
+    OutsideZone = DNSM_OUTSIDE_ZONE,
+    /// The first record of a transfer is no SOA record.
+    NoSoa = DNSM_NO_SOA,
+    /// An SOA record isn't the one that may come next in a transfer.
+    WrongSoa = DNSM_WRONG_SOA,
+    /// A record or a message follows the end of a transfer.
+    AfterEnd = DNSM_AFTER_END,
+    /// A transfer hasn't ended.
+    Incomplete = DNSM_INCOMPLETE,
 }
 
 impl fmt::Display for Error {
@@ -104,15 +122,15 @@ impl std::error::Error for Error {}
 mod tests {
     use super::Error;
 
-    /// 0 is success, 1 the end and 6 a status that only a caller can make.
+    /// 0 is success, and 1 the end.
     #[test]
     fn each_status_has_its_error() {
-        for status in (2..=26).filter(|&status| status != 6) {
+        for status in 2..=34 {
             let error = Error::from_status(status);
             assert_eq!(error.status(), status);
             assert!(!matches!(error, Error::Other(_)), "{status}");
         }
-        for status in [6, 27, 99, u32::MAX] {
+        for status in [35, 99, u32::MAX] {
             assert_eq!(Error::from_status(status), Error::Other(status));
         }
         assert_eq!((Error::check(0), Error::check(11)), (Ok(()), Err(Error::NoMemory)));

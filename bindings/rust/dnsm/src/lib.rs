@@ -22,6 +22,7 @@ mod number;
 mod opt;
 mod out;
 mod reply;
+mod transfer;
 mod write;
 
 /// The programs of the page.
@@ -37,4 +38,5 @@ pub use number::{library_version, Class, ExtendedErrorCode, Opcode, OptionCode, 
 pub use number::{AA, AD, CD, QR, RA, RD, TC};
 pub use opt::{EdnsOption, Opt, Options};
 pub use reply::{Reply, ReplyKind};
+pub use transfer::{first_message, missing_octets, Split, Step, Steps, Transfer};
 pub use write::{build, data_from_text, name_from_text, query, query_opt, record_from_text, respond_a, TextRecord};

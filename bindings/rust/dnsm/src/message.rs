@@ -171,7 +171,7 @@ impl<'a> Message<'a> {
 ///
 /// # Errors
 ///
-/// `ShortInput` if there are fewer than 12 octets, `NoMemory`, and why the message isn't [regular](Message::is_regular): the error of the
+/// `ShortInput` if there are fewer than 12 octets, and why the message isn't [regular](Message::is_regular): the error of the
 /// first item that can't be skipped, or `BadPointer`. Then nothing has changed.
 pub fn age_ttls(octets: &mut [u8], seconds: u32) -> Result<(), Error> {
     // SAFETY: the pointer and the length are those of the octets.

@@ -1,7 +1,8 @@
 //! What servers and forwarders use.
 use dnsm::{
-    age_ttls, build, data_from_text, library_version, name_from_text, query, record_from_text, Builder, Class, Error, Field,
-    Item, Message, Name, NewItem, Opcode, OptionCode, Rcode, ReplyKind, Rtype, Section, QR, RD,
+    age_ttls, build, data_from_text, first_message, library_version, missing_octets, name_from_text, query, record_from_text,
+    Builder, Class, Error, Field, Item, Message, Name, NewItem, Opcode, OptionCode, Rcode, ReplyKind, Rtype, Section, Step,
+    Transfer, QR, RD, TC,
 };
 use std::cmp::Ordering;
 use std::collections::HashSet;
@@ -283,4 +284,94 @@ fn ttls_are_lowered() {
     (octets[51], wanted[51]) = (35, 35);
     assert_eq!((age_ttls(&mut octets, 600), octets), (Err(Error::BadPointer), wanted));
     assert_eq!(age_ttls(&mut [], 600), Err(Error::ShortInput));
+}
+
+/// RFC 1035 section 4.2.2.
+#[test]
+fn streams_are_cut_into_messages() {
+    let stream = [b"\0\x0c".as_slice(), &[7; 12], b"\0"].concat();
+    assert_eq!((first_message(&stream), missing_octets(&stream)), (Ok(Some((&[7; 12][..], &[0][..]))), 0));
+    assert_eq!((first_message(&stream[..13]), missing_octets(&stream[..13])), (Ok(None), 1));
+    assert_eq!((first_message(&stream[14..]), missing_octets(&[])), (Ok(None), 2));
+    assert_eq!(first_message(b"\0\x0b"), Err(Error::ShortInput));
+}
+
+/// A message of a transfer of the root: its question, if it has a type, and SOA records with these serials, or an NS record for 0.
+fn transferred(id: u16, flags: u16, qtype: Option<Rtype>, serials: &[u32]) -> Vec<u8> {
+    let data: Vec<_> = serials.iter().map(|serial| [&[0, 0][..], &serial.to_be_bytes(), &[0; 16]].concat()).collect();
+    let question = qtype.map(|qtype| NewItem::question(".", qtype, Class::IN));
+    let records = serials.iter().zip(&data).map(|(&serial, data)| match serial {
+        0 => NewItem::record(Section::Answer, ".", Rtype::NS, 300, &[0]),
+        _ => NewItem::record(Section::Answer, ".", Rtype::SOA, 0, data),
+    });
+    build(id, flags, &question.into_iter().chain(records).collect::<Vec<_>>()).unwrap()
+}
+
+/// The steps of a message, a letter for each, with serials, and the error that ends them.
+fn steps(transfer: &mut Transfer, message: &[u8]) -> (String, Option<Error>) {
+    let (mut said, mut error) = (String::new(), None);
+    match transfer.take(message) {
+        Ok(steps) => {
+            for step in steps {
+                said += &match step {
+                    Ok(Step::Begin(serial, soa)) => format!("b{serial}{} ", soa.rtype()),
+                    Ok(Step::UpToDate(serial)) => format!("u{serial} "),
+                    Ok(Step::Whole) => "w ".to_string(),
+                    Ok(Step::Remove(record)) => format!("-{} ", record.rtype()),
+                    Ok(Step::Add(record)) => format!("+{} ", record.rtype()),
+                    Ok(Step::End(serial)) => format!("e{serial} "),
+                    Ok(_) => "? ".to_string(),
+                    Err(found) => {
+                        error = Some(found);
+                        String::new()
+                    }
+                }
+            }
+        }
+        Err(found) => error = Some(found),
+    }
+    (said, error)
+}
+
+/// RFC 5936 section 2.2, RFC 1995 sections 2 and 4.
+#[test]
+fn transfers_are_read() {
+    let mut whole = Transfer::axfr(7, b"\0", Class::IN).unwrap();
+    assert_eq!(steps(&mut whole, &transferred(7, QR, Some(Rtype::AXFR), &[3, 0])), ("b3SOA +NS ".to_string(), None));
+    assert_eq!((whole.has_ended(), whole.end()), (false, Err(Error::Incomplete)));
+    assert_eq!(steps(&mut whole, &transferred(7, QR, None, &[3])), ("e3 ".to_string(), None));
+    assert_eq!((whole.has_ended(), whole.end()), (true, Ok(())));
+    let changes = |serials: &[u32]| {
+        let mut transfer = Transfer::ixfr(7, b"\0", Class::IN, 1).unwrap();
+        let found = steps(&mut transfer, &transferred(7, QR, Some(Rtype::IXFR), serials));
+        assert!(transfer.has_ended());
+        found.0
+    };
+    assert_eq!(changes(&[3, 1, 0, 3, 0, 3]), "b3SOA -SOA -NS +SOA +NS e3 ");
+    assert_eq!(changes(&[3, 0, 3]), "b3SOA w +NS e3 ");
+    assert_eq!(changes(&[1]), "u1 ");
+}
+
+#[test]
+fn other_messages_end_a_transfer() {
+    let axfr = Some(Rtype::AXFR);
+    for (message, said, error) in [
+        (transferred(8, QR, axfr, &[3]), "", Error::OtherQuery),
+        (transferred(7, QR, Some(Rtype::IXFR), &[3]), "", Error::OtherQuery),
+        (transferred(7, 0, axfr, &[3]), "", Error::NoResponse),
+        (transferred(7, QR | 5, axfr, &[3]), "", Error::BadRcode),
+        (transferred(7, QR | TC, axfr, &[3]), "", Error::Truncated),
+        (transferred(7, QR, axfr, &[0]), "", Error::NoSoa),
+        (transferred(7, QR, axfr, &[3, 0, 4]), "b3SOA +NS ", Error::WrongSoa),
+        (transferred(7, QR, axfr, &[3, 3, 0]), "b3SOA e3 ", Error::AfterEnd),
+        (vec![0; 11], "", Error::ShortInput),
+    ] {
+        let mut transfer = Transfer::axfr(7, b"\0", Class::IN).unwrap();
+        assert_eq!(steps(&mut transfer, &message), (said.to_string(), Some(error)));
+        assert_eq!(steps(&mut transfer, &transferred(7, QR, axfr, &[3, 3])), (String::new(), Some(error)));
+        assert_eq!((transfer.has_ended(), transfer.end()), (false, Err(error)));
+    }
+    let mut other = Transfer::axfr(7, b"\0", Class::CH).unwrap();
+    assert_eq!(steps(&mut other, &transferred(7, QR, axfr, &[3])).1, Some(Error::OtherQuery));
+    assert_eq!(Transfer::axfr(7, b"\0\0", Class::IN).err(), Some(Error::BadText));
 }

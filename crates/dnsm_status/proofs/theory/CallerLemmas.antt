@@ -5,7 +5,8 @@ use Rattle.dnsm_status.specs.Codes.{number_of}
 use Rattle.dnsm_status.specs.declared.code.CallError.{CallError}
 use Rattle.dnsm_status.specs.declared.code.CallError.TheVariants.{ShortInput, BadLabel, BadPointer, LongName, Form, NoRoom, BadText, NoQuestion, BadSection, NoMemory}
 use Rattle.dnsm_status.specs.declared.code.CallError.TheVariants.{LongData, TooMany, IsResponse, OtherOpcode, OtherClass, OtherType, NotOpt, BadOption, NoName}
-use Rattle.dnsm_status.specs.declared.code.CallError.TheVariants.{BadData, NoOpt, TwoOpts, BadOwner, NoResponse, OtherQuery}
+use Rattle.dnsm_status.specs.declared.code.CallError.TheVariants.{BadData, NoOpt, TwoOpts, BadOwner, NoResponse, OtherQuery, BadRcode, Truncated, WrongClass, OutsideZone, NoSoa, WrongSoa}
+use Rattle.dnsm_status.specs.declared.code.CallError.TheVariants.{AfterEnd, Incomplete}
 
 -- the number of a fault isn't that of success
 no_success : (fault : CallError) → number_of fault ≡ 0 → ⊥
@@ -34,6 +35,14 @@ no_success TwoOpts is = omega arith
 no_success BadOwner is = omega arith
 no_success NoResponse is = omega arith
 no_success OtherQuery is = omega arith
+no_success BadRcode is = omega arith
+no_success Truncated is = omega arith
+no_success WrongClass is = omega arith
+no_success OutsideZone is = omega arith
+no_success NoSoa is = omega arith
+no_success WrongSoa is = omega arith
+no_success AfterEnd is = omega arith
+no_success Incomplete is = omega arith
 
 module _ (out : List ℕ) (len status : ℕ) (none : len ≡ 0) where
   -- a call that fails writes nothing

@@ -3,7 +3,7 @@ use Rattle.dns_name.specs.Names.{fault_of}
 use Rattle.dns_edit.specs.Edits.{RecordsFault}
 use Rattle.dnsm_replies.proofs.FaultLemmas.{reported_records}
 use Rattle.dnsm_replies.proofs.ReplyLemmas.{is_long}
-use Rattle.dnsm_replies.proofs.whole.least_ttl.Goals as goal
+use Rattle.dnsm_replies.proofs.whole.min_ttl.Goals as goal
 
 pub returns-in-Err-clause-none : goal.returns-in-Err-clause-none
 returns-in-Err-clause-none c =

@@ -1,0 +1,4 @@
+mod KindLemmas
+mod OwnerLemmas
+mod MessageLemmas
+mod ActLemmas
