@@ -1,127 +1,110 @@
--- How answers are pushed one by one.
-use Rattle.std.proofs.Common.{◌≡◌, ◌≢◌, ◌⊎◌, inl, inr, ◌∙◌, ℕ, ◌+◌, ◌<◌, ◌≤◌, Bool, true, false, cond, List, [], ◌∷◌, ◌++◌, length, length-append, take, drop}
-use Rattle.std.proofs.Common.{get_or, append_assoc, ap, sym, refl, subst, arith, None}
-use Rattle.std.proofs.lemmas.Bool.{le-leb, lt-leb}
-use Rattle.std.proofs.Math.Seq.{take-length}
-use Rattle.std.proofs.lemmas.List.{take_more, map-append, take-append-drop}
-use Rattle.std.specs.Prelude.{map, nat_le, Result, Ok, Err}
+-- How a response is put together.
+use Rattle.std.proofs.Common.{◌≡◌, ◌∙◌, ℕ, ◌+◌, ◌-◌, ◌≤◌, true, false, None, Some, List, [], ap, arith, length, refl, subst, sym}
+use Rattle.std.specs.List.{flat_map}
+use Rattle.std.specs.Prelude.{Err, IfErr, IfOk, Ok, Option, Result, is_some, option_map}
+use Rattle.dns_build.specs.Fitting.{fit_sets, fitting}
+use Rattle.dns_build.specs.Reserved.{Reserving}
+use Rattle.dns_build.specs.Responses.{header_to, opt_for as built, rcode_to}
+use Rattle.dns_message.specs.Builders.{Built, Gathered, InAdditional, InAnswer, InAuthority, IsMessageOf, MovesState, Represents, State, move_to, with_limit}
+use Rattle.dns_message.specs.Data.{OptionItem, encode_options}
+use Rattle.dns_message.specs.Messages.{opt_of}
+use Rattle.dns_message.specs.Records.{OptItem}
 use Rattle.dns_message.specs.Targets.{Tree}
-use Rattle.dns_message.specs.Records.{RecordItem}
-use Rattle.dns_message.specs.Builders.{Built, PushReturns, Represents, MovesState, InEach, size_after, InAnswer, State, with_record, with_records, most_entries, tc_rewound}
 use Rattle.dns_message.specs.declared.builder.PushError.{PushError}
-use Rattle.dns_message.specs.declared.builder.PushError.TheVariants.{CountOverflow, LimitExceeded, ShortBuf, OutOfMemory}
-use Rattle.example_response.specs.Response.{all_or_none, size}
-use Rattle.dns_message.proofs.CallerLemmas.{longer_with_answers, items_are_few}
+use Rattle.example_response.specs.Answers.{StepItem, end_of, is_authoritative}
+use Rattle.example_response.specs.Sets.{additional_sets, answer_sets, authority_sets, filled}
+use Rattle.example_response.specs.Zones.{CaseItem}
+use Rattle.example_response.specs.Responses.{IsAnswered, IsEnded, IsEndedBy, IsReasonFor, opt_for, own_opt, reserved_for, size_of_opt, started, whole_limit, with_own_opt}
+use Rattle.example_response.proofs.Fitting.{fits-limit}
+use Rattle.example_response.specs.declared.zone.Zone.{Zone}
 
--- a state with further answers
-abbrev with_answers : List RecordItem → State → State
-with_answers = with_records InAnswer
+-- Filling the sections leaves the limit.
+filled-limit : (reserved : ℕ) (zone : Zone) (steps : List StepItem) (s : State) → (filled reserved zone steps s).limit ≡ s.limit
+filled-limit reserved zone steps s =
+    let answers = fit_sets None Tree InAnswer reserved (flat_map answer_sets steps) s in
+    let authorities = fit_sets None Tree InAuthority reserved (authority_sets zone (end_of steps)) (move_to InAuthority answers) in
+    fits-limit InAdditional reserved (additional_sets zone (end_of steps)) (move_to InAdditional authorities)
+    ∙ fits-limit InAuthority reserved (authority_sets zone (end_of steps)) (move_to InAuthority answers) ∙ fits-limit InAnswer reserved (flat_map answer_sets steps) s
 
--- a builder with these answers added to a state, and within the limit if the state is
-pub record MoreAnswers (s : State) (new : Built) (xs : List RecordItem) : Type 0 where
-  pub represents : Represents InAnswer Tree (with_answers xs s) new
-  pub within : size s ≤ s.limit → size (with_answers xs s) ≤ s.limit
+sized : (f : OptItem → Gathered) (o : Option OptItem) → ((x : OptItem) → (f x).options ≡ []) → size_of_opt (option_map own_opt (option_map f o)) ≡ reserved_for (option_map own_opt (option_map f o))
+sized f None none = refl
+sized f (Some x) none = ap (λ (options : List OptionItem). 11 + length (encode_options options)) (none x)
 
--- a builder within its limit gets all of these answers, or none and TC
-abbrev pub AddsAllOrNone : List RecordItem → Built → Built → Type 0
-AddsAllOrNone xs old new = InEach InAnswer Tree old (λ s. size s ≤ s.limit → Represents InAnswer Tree (all_or_none xs s) new)
+-- The OPT record of a response takes the octets that are reserved for it.
+pub size_of_own_opt : (rcode : ℕ) (b : List ℕ) → size_of_opt (opt_for rcode b) ≡ reserved_for (opt_for rcode b)
+size_of_own_opt rcode b = sized (built (rcode_to rcode b) (header_to rcode b)) (opt_of b) (λ x. refl)
 
--- the result of pushing an answer onto a state
-abbrev pub ReturnsAnswer : RecordItem → Result (Unit {0}) PushError → State → Type 0
-ReturnsAnswer x result t = PushReturns None true t.limit (size_after Tree (with_record InAnswer x) t) (length t.answers) result
+module _ (zone : Zone) (rcode : ℕ) (steps : List StepItem) (limit : ℕ) (b : List ℕ) (old : Built) (h : Represents InAnswer Tree (started rcode (is_authoritative steps) limit b) old)
+    (opt : Option Gathered) (is : opt ≡ opt_for rcode b) (reserved : ℕ) (r : reserved ≡ reserved_for opt) (fit full : Reserving) (fit_reserved : fit.reserved ≡ reserved)
+    (fits : MovesState InAnswer InAnswer Tree (fitting limit reserved) old fit.built) (room : length old.written.octets + reserved ≤ limit)
+    (full_reserved : full.reserved ≡ fit.reserved) (fills : MovesState InAnswer InAdditional Tree (filled fit.reserved zone steps) fit.built full.built) where
+  -- the state with all records but the OPT record
+  abbrev state : State
+  state = filled reserved zone steps (fitting limit reserved (started rcode (is_authoritative steps) limit b))
 
--- an answer after others
-joined : (s : State) (xs : List RecordItem) (x : RecordItem) → with_record InAnswer x (with_answers xs s) ≡ with_answers (xs ++ x ∷ []) s
-joined s xs x = λ i. record s { answers = append_assoc s.answers xs (x ∷ []) i }
+  pub represents : Represents InAdditional Tree state full.built
+  represents = subst (λ n. Represents InAdditional Tree (filled n zone steps (fitting limit reserved (started rcode (is_authoritative steps) limit b))) full.built) fit_reserved
+      (fills (fitting limit reserved (started rcode (is_authoritative steps) limit b)) (fits (started rcode (is_authoritative steps) limit b) h))
 
--- one further answer after others
-one_more : (s : State) (xs : List RecordItem) (x : RecordItem) (mid new : Built) → MoreAnswers s mid xs
-    → MovesState InAnswer InAnswer Tree (with_record InAnswer x) mid new → InEach InAnswer Tree mid (ReturnsAnswer x (Ok tt)) → MoreAnswers s new (xs ++ x ∷ [])
-one_more s xs x mid new h moves accepted = record {
-  represents = subst (λ (t : State). Represents InAnswer Tree t new) (joined s xs x) (moves (with_answers xs s) h.represents);
-  within = λ l. subst (λ (t : State). size t ≤ s.limit) (joined s xs x) (accepted (with_answers xs s) h.represents).1;
-}
+  whole : whole_limit full ≡ limit
+  whole =
+      let left : full.built.limit ≡ limit - reserved = represents.limit ∙ filled-limit reserved zone steps (fitting limit reserved (started rcode (is_authoritative steps) limit b)) in
+      omega (arith, left, full_reserved, fit_reserved, room)
 
--- with the first of further answers, a message is no longer than with all
-some_within : (s : State) (b : Built) → Represents InAnswer Tree s b → (xs ys : List RecordItem) → size (with_answers xs s) ≤ size (with_answers (xs ++ ys) s)
-some_within s b h xs ys =
-    subst (λ (t : State). size (with_answers xs t) ≤ size (with_answers (xs ++ ys) t)) (sym h.last) (longer_with_answers Tree s xs ys)
+  own_reserved : reserved ≡ reserved_for (opt_for rcode b)
+  own_reserved = r ∙ ap reserved_for is
 
--- if one answer exceeds the limit, all of them do
-limit_exceeded : (s : State) (xs : List RecordItem) (x : RecordItem) (ys : List RecordItem) (b mid : Built) → Represents InAnswer Tree s b → MoreAnswers s mid xs
-    → InEach InAnswer Tree mid (ReturnsAnswer x (Err LimitExceeded)) → s.limit < size (with_answers ((xs ++ x ∷ []) ++ ys) s)
-limit_exceeded s xs x ys b mid h so_far exceeds =
-    let l : s.limit < size (with_answers (xs ++ x ∷ []) s) = subst (λ (t : State). s.limit < size t) (joined s xs x) (exceeds (with_answers xs s) so_far.represents).1 in
-    let m = some_within s b h (xs ++ x ∷ []) ys in
-    omega (arith, l, m)
+  -- The response is the message that is ended.
+  pub answered_by : (octets : List ℕ) → IsEnded full opt octets → IsAnswered zone rcode steps limit b octets
+  answered_by octets ends =
+      let e = ends state represents in
+      record {
+        short = subst (λ n. length octets ≤ n) whole e.1;
+        message =
+            subst (λ n. IsMessageOf Tree (with_own_opt (opt_for rcode b) (with_limit limit (filled n zone steps (fitting limit n (started rcode (is_authoritative steps) limit b))))) octets)
+            own_reserved
+            (subst (λ o. IsMessageOf Tree (with_own_opt o (with_limit limit state)) octets) is
+            (subst (λ n. IsMessageOf Tree (with_own_opt opt (with_limit n state)) octets) whole e.0));
+      }
 
--- if an answer can't be counted, the limit exceeds the greatest count
-count_exceeded : (s : State) (xs : List RecordItem) (x : RecordItem) (mid : Built) → MoreAnswers s mid xs → InEach InAnswer Tree mid (ReturnsAnswer x (Err CountOverflow)) → most_entries < s.limit
-count_exceeded s xs x mid so_far exceeds =
-    let t = with_answers xs s in
-    let p = exceeds t so_far.represents in
-    let k = items_are_few Tree (with_record InAnswer x t) in
-    let n = length-append t.answers (x ∷ []) in
-    omega (arith, p, k, n)
+  -- Else an allocation failed.
+  pub refused_by : limit ≤ 65535 → (e : PushError) → IsEndedBy full opt e → IsReasonFor rcode (is_authoritative steps) limit b e
+  refused_by small e ends =
+      let size : size_of_opt opt ≡ reserved = ap size_of_opt is ∙ size_of_own_opt rcode b ∙ sym own_reserved in
+      subst (IsReasonFor rcode (is_authoritative steps) limit b) (sym (ends state represents (omega (arith, size, full_reserved, fit_reserved)) (omega (arith, whole, small)))) tt
 
--- the choice of `all_or_none`, by a test whose outcome is known
-chosen : (xs : List RecordItem) (s : State) (b : Bool) → nat_le (size (with_answers xs s)) s.limit ≡ b → all_or_none xs s ≡ cond b (with_answers xs s) (tc_rewound InAnswer s)
-chosen xs s b is = ap (λ (t : Bool). cond t (with_answers xs s) (tc_rewound InAnswer s)) is
+-- The sections are filled one after another.
+pub filled_by : (zone : Zone) (steps : List StepItem) (end : CaseItem) → end ≡ end_of steps → (old answered moved authorized ended new : Reserving)
+    → MovesState InAnswer InAnswer Tree (fit_sets None Tree InAnswer old.reserved (flat_map answer_sets steps)) old.built answered.built → answered.reserved ≡ old.reserved
+    → MovesState InAnswer InAuthority Tree (move_to InAuthority) answered.built moved.built → moved.reserved ≡ answered.reserved
+    → MovesState InAuthority InAuthority Tree (fit_sets None Tree InAuthority moved.reserved (authority_sets zone end)) moved.built authorized.built → authorized.reserved ≡ moved.reserved
+    → MovesState InAuthority InAdditional Tree (move_to InAdditional) authorized.built ended.built → ended.reserved ≡ authorized.reserved
+    → MovesState InAdditional InAdditional Tree (fit_sets None Tree InAdditional ended.reserved (additional_sets zone end)) ended.built new.built
+    → MovesState InAnswer InAdditional Tree (filled old.reserved zone steps) old.built new.built
+filled_by zone steps end is old answered moved authorized ended new answers r1 to_authority r2 authorities r3 to_additional r4 additionals = λ s h.
+    let first = fit_sets None Tree InAnswer old.reserved (flat_map answer_sets steps) s in
+    let second = fit_sets None Tree InAuthority moved.reserved (authority_sets zone end) (move_to InAuthority first) in
+    let in_authority : moved.reserved ≡ old.reserved = r2 ∙ r1 in
+    let in_additional : ended.reserved ≡ old.reserved = r4 ∙ r3 ∙ in_authority in
+    subst (λ (t : State). Represents InAdditional Tree t new.built)
+    (λ i. fit_sets None Tree InAdditional (in_additional i) (additional_sets zone (is i))
+    (move_to InAdditional (fit_sets None Tree InAuthority (in_authority i) (authority_sets zone (is i)) (move_to InAuthority first))))
+    (additionals (move_to InAdditional second) (to_additional second (authorities (move_to InAuthority first) (to_authority first (answers s h)))))
 
-module _ {R : Type 0} (item : R → RecordItem) (answers : List R) where
-  -- the first answers
-  abbrev pub first : ℕ → List RecordItem
-  first i = map item (take i answers)
+-- The octets that are reserved are those for the OPT record.
+pub reserved_some : {X : Type 0} (f : X → Gathered) (o : Option X) → is_some o ≡ true → 11 ≡ reserved_for (option_map f o)
+reserved_some f None is = absurd (let e = is in cc)
+reserved_some f (Some x) is = refl
 
-  -- one further answer
-  next : (i : ℕ) (x d : R) → i < length answers → x ≡ get_or answers i d → first (i + 1) ≡ first i ++ item x ∷ []
-  next i x d l is =
-      ap (map item) (take_more answers i d l) ∙ ap (λ (y : R). map item (take i answers ++ y ∷ [])) (sym is) ∙ map-append item (take i answers) (x ∷ [])
+pub reserved_none : {X : Type 0} (f : X → Gathered) (o : Option X) → is_some o ≡ false → 0 ≡ reserved_for (option_map f o)
+reserved_none f None is = refl
+reserved_none f (Some x) is = absurd (let e = is in cc)
 
-  -- the first answers, followed by the others, are all
-  first_then : (i : ℕ) → first i ++ map item (drop i answers) ≡ map item answers
-  first_then i = sym (map-append item (take i answers) (drop i answers)) ∙ ap (map item) (take-append-drop i answers)
+-- What follows for the octets of a message follows for its result.
+pub ok_by : {M E : Type 0} (octets : M → List ℕ) (P Q : List ℕ → Type 0) → ((o : List ℕ) → P o → Q o) → (r : Result M E) → IfOk r (λ m. P (octets m)) → IfOk r (λ m. Q (octets m))
+ok_by octets P Q follows (Ok m) h = follows (octets m) h
+ok_by octets P Q follows (Err e) h = tt
 
-  -- an answer is pushed
-  pub pushes_next : (i : ℕ) (x d : R) → i < length answers → x ≡ get_or answers i d → (old mid new : Built)
-      → MovesState InAnswer InAnswer Tree (with_record InAnswer (item x)) mid new → InEach InAnswer Tree mid (ReturnsAnswer (item x) (Ok tt))
-      → InEach InAnswer Tree old (λ s. MoreAnswers s mid (first i)) → InEach InAnswer Tree old (λ s. MoreAnswers s new (first (i + 1)))
-  pushes_next i x d l is old mid new moves accepted so_far s h =
-      subst (MoreAnswers s new) (sym (next i x d l is)) (one_more s (first i) (item x) mid new (so_far s h) moves accepted)
-
-  -- an answer exceeds the limit, so none is added
-  pub adds_none : (i : ℕ) (x d : R) → i < length answers → x ≡ get_or answers i d → (old mid new : Built)
-      → InEach InAnswer Tree old (λ s. MoreAnswers s mid (first i)) → (e : PushError) → e ≡ LimitExceeded → InEach InAnswer Tree mid (ReturnsAnswer (item x) (Err e))
-      → MovesState InAnswer InAnswer Tree (tc_rewound InAnswer) mid new → AddsAllOrNone (map item answers) old new
-  adds_none i x d l is old mid new so_far e limit fails moves s h within =
-      let exceeds = subst (λ (e : PushError). InEach InAnswer Tree mid (ReturnsAnswer (item x) (Err e))) limit fails in
-      let others = map item (drop (i + 1) answers) in
-      let all : (first i ++ item x ∷ []) ++ others ≡ map item answers = ap (λ (ys : List RecordItem). ys ++ others) (sym (next i x d l is)) ∙ first_then (i + 1) in
-      let long = subst (λ (ys : List RecordItem). s.limit < size (with_answers ys s)) all (limit_exceeded s (first i) (item x) others old mid h (so_far s h) exceeds) in
-      let other = lt-leb (size (with_answers (map item answers) s)) s.limit long in
-      subst (λ (t : State). Represents InAnswer Tree t new) (sym (chosen (map item answers) s false other)) (moves (with_answers (first i) s) (so_far s h).represents)
-
-  -- an answer exceeds the limit, or the target is full, which this one never is: so none is added
-  pub adds_none_if_full : (i : ℕ) (x d : R) → i < length answers → x ≡ get_or answers i d → (old mid new : Built)
-      → InEach InAnswer Tree old (λ s. MoreAnswers s mid (first i)) → (e : PushError) → (e ≡ LimitExceeded) ⊎ (e ≡ ShortBuf) → InEach InAnswer Tree mid (ReturnsAnswer (item x) (Err e))
-      → MovesState InAnswer InAnswer Tree (tc_rewound InAnswer) mid new → AddsAllOrNone (map item answers) old new
-  adds_none_if_full i x d l is old mid new so_far e (inl limit) fails moves s h within = adds_none i x d l is old mid new so_far e limit fails moves s h within
-  adds_none_if_full i x d l is old mid new so_far e (inr full) fails moves s h within =
-      let never = subst (λ (e : PushError). InEach InAnswer Tree mid (ReturnsAnswer (item x) (Err e))) full fails in
-      absurd (never (with_answers (first i) s) (so_far s h).represents)
-
-  -- pushing an answer fails otherwise: an allocation failed
-  pub refused_for_memory : (i : ℕ) (x : R) (old mid : Built) → InEach InAnswer Tree old (λ s. MoreAnswers s mid (first i)) → (e : PushError) → InEach InAnswer Tree mid (ReturnsAnswer (item x) (Err e))
-      → (s : State) → Represents InAnswer Tree s old → s.limit ≤ 512 → e ≢ LimitExceeded → e ≡ OutOfMemory
-  refused_for_memory i x old mid so_far ShortBuf fails s h small other = absurd (fails (with_answers (first i) s) (so_far s h).represents)
-  refused_for_memory i x old mid so_far OutOfMemory fails s h small other = refl
-  refused_for_memory i x old mid so_far LimitExceeded fails s h small other = absurd (other refl)
-  refused_for_memory i x old mid so_far CountOverflow fails s h small other =
-      let l = count_exceeded s (first i) (item x) mid (so_far s h) fails in absurd (omega (arith, l, small))
-
-  -- at the end all answers are added
-  pub adds_all : (old new : Built) → InEach InAnswer Tree old (λ s. MoreAnswers s new (first (length answers))) → AddsAllOrNone (map item answers) old new
-  adds_all old new so_far s h within =
-      let all = subst (λ (ys : List R). MoreAnswers s new (map item ys)) (take-length answers) (so_far s h) in
-      let fits = le-leb (size (with_answers (map item answers) s)) s.limit (all.within within) in
-      subst (λ (t : State). Represents InAnswer Tree t new) (sym (chosen (map item answers) s true fits)) all.represents
+pub err_by : {M E : Type 0} (P Q : E → Type 0) → ((e : E) → P e → Q e) → (r : Result M E) → IfErr r P → IfErr r Q
+err_by P Q follows (Ok m) h = tt
+err_by P Q follows (Err e) h = follows e h

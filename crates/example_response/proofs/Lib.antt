@@ -1,4 +1,7 @@
 mod Answering
-mod Opts
-mod Sizes
+mod Asking
+mod Ending
+mod Fitting
 mod Starting
+mod StepLemmas
+mod WildcardLemmas

@@ -1,1 +1,4 @@
-pub mod Response
+pub mod Zones
+pub mod Answers
+pub mod Sets
+pub mod Responses

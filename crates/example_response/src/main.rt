@@ -1,87 +1,76 @@
-//! The program `example_response` answers a query with two addresses:
+//! The program `example_response` answers queries as an authoritative server of one zone does (RFC
+//! 1034 section 4.3.2), without the network:
 //!
-//!     example_response < DIGITS
+//!     example_response udp|tcp ZONE < QUERIES
 //!
-//! It reads the query from standard input and prints the response, both as hexadecimal digits. A
-//! query that isn't regular is refused: its names may be dear to read. The contract of `response`
-//! says which response.
+//! `ZONE` is a file with a record a line (RFC 1035 section 5.1), in canonical order, the SOA record
+//! first. Each line of standard input is a query in hexadecimal digits. For each the program prints
+//! the response in the same form, or an empty line if a message gets none: it is no query, it isn't
+//! regular, so that its names may be dear to read, or its questions alone exceed the limit.
+//!
+//! The contract of `response::response` says which response, and that of `zone::Zone::case_of`
+//! which case of RFC 1034 section 4.3.2 a question is.
 #![tactic(auto)]
 
-ghost use Rattle.std.specs.Prelude.{◌≡◌, ◌↔◌, ◌⊎◌, IfErr, IfOk, IsTrue, map};
-ghost use Rattle.dns_message.specs.Builders.{gathered};
-ghost use Rattle.dns_message.specs.Headers.{fields};
-ghost use Rattle.dns_message.specs.Messages.{message_octets};
-ghost use Rattle.example_response.specs.Response.{IsReason, IsResponse, own_opt};
+mod answer;
+mod reading;
+mod response;
+mod zone;
 
-use dns_message::builder::{MessageBuilder, OptBuilder, PushError};
-use dns_message::code::Rcode;
-use dns_message::data::A;
+use crate::reading::read_zone;
+use crate::response::response;
+use crate::zone::Zone;
+use anyhow::{Context, Result};
 use dns_message::edit::is_regular;
-use dns_message::header::Header;
 use dns_message::message::Message;
-use dns_message::record::ComposeRecord;
-use dns_message::target::TreeCompressor;
 use std::alloc::Global;
+use std::{env, fs, io};
 
-fn main(rt: HostRuntime) -> anyhow::Result<()> {
-    let digits = std::io::read_to_string(rt.alloc(), rt.stdin())?;
-    let query = Message::from_octets(hex::decode(rt.alloc(), digits.trim_ascii())?)?;
-    anyhow::ensure!(is_regular(&query), "the query isn't regular");
-    let question = query.sole_question()?;
-    let answers = [1, 2].map(|host| (question.qname(), 3600u32, A::from_octets(192, 0, 2, host)));
-    let response = response(rt.alloc(), &query, &answers)?;
-    println!(rt; "{}", hex::encode(rt.alloc(), response.as_slice())?)?;
+/// How the program is called.
+const USAGE: &str = "usage: example_response udp|tcp ZONE";
+
+/// The most octets of a response over UDP (RFC 6891 section 6.2.5), if the client accepts them.
+const MOST_OVER_UDP: u16 = 1232;
+
+fn main(rt: HostRuntime) -> Result<()> {
+    let words: Vec<String> = env::args(&rt)?.skip(1).collect(rt.alloc())?;
+    let over_tcp = words.get(0).context(USAGE)?.as_str() == "tcp";
+    let path = words.get(1).context(USAGE)?;
+    let text = fs::read_to_string(&rt, path.as_str())?;
+    let zone = read_zone(rt.alloc(), &text)?;
+    let queries = io::read_to_string(rt.alloc(), rt.stdin())?;
+    for line in queries.lines() {
+        let octets = hex::decode(rt.alloc(), line.trim_ascii())?;
+        println!(rt; "{}", responded(rt.alloc(), &zone, octets, over_tcp)?)?;
+    }
     Ok(())
 }
 
-/// The response to a query, with all of `answers` if it then has at most 512 octets, else with none
-/// of them and TC. The response has an OPT record if `query.opt()` finds one.
-fn response<R: ComposeRecord>(
-    alloc: Global,
-    query: &Message<Vec<u8>>,
-    answers: &[R],
-) -> Result<Message<Vec<u8>>, PushError>
-    ensures ok { IfOk result (λ response. IsResponse (message_octets query.now)
-        (map R.item answers.now) (message_octets response)) }
-    ensures err { IfErr result (IsReason (message_octets query.now)) }
-{
-    let mut builder = MessageBuilder::from_target(TreeCompressor::new(alloc, Vec::new(alloc)))?;
-    builder.set_push_limit(512);
-    let mut builder = builder.start_answer(query, Rcode::NOERROR)?;
-    let reserved = match query.opt() {
-        Some(_) => Some(builder.reserve_opt(own_opt(alloc, builder.header()))?),
-        None => None,
+/// The response to a message in hexadecimal digits, or none.
+fn responded(alloc: Global, zone: &Zone, octets: Vec<u8>, over_tcp: bool) -> Result<String> {
+    let Ok(query) = Message::from_octets(octets) else {
+        return Ok(String::new(alloc));
     };
-    for answer in answers {
-        match builder.push_ref(answer) {
-            Ok(()) => {}
-            Err(error) if is_too_long(error) => {
-                builder = builder.tc_rewind_into();
-                break;
-            }
-            Err(error) => return Err(error),
-        }
+    if query.header().qr() || !is_regular(&query) {
+        return Ok(String::new(alloc));
     }
-    let mut builder = builder.additional();
-    if let Some(reserved) = reserved {
-        builder.push_reserved(reserved)?;
+    let limit = if over_tcp {
+        u16::MAX
+    } else {
+        limit_over_udp(&query)
+    };
+    match response(alloc, zone, &query, limit) {
+        Ok(response) => Ok(hex::encode(alloc, response.as_slice())?),
+        Err(error) if error.is_too_long() => Ok(String::new(alloc)),
+        Err(error) => Err(error.into()),
     }
-    Ok(builder.into_message())
 }
 
-/// Whether a push failed since the message would exceed its limit or the capacity of its target. A
-/// target that is a `Vec` is never full (`ShortBuf`).
-fn is_too_long(error: PushError) -> bool
-    ensures { IsTrue result ↔ ((error ≡ PushError.LimitExceeded) ⊎ (error ≡ PushError.ShortBuf)) }
-{
-    matches!(error, PushError::LimitExceeded | PushError::ShortBuf)
-}
-
-/// The OPT record of a response: its sender can receive 1,232 octets.
-fn own_opt(alloc: Global, header: Header) -> OptBuilder
-    ensures { gathered result ≡ own_opt (fields header) }
-{
-    let mut opt = OptBuilder::new(alloc, header);
-    opt.set_udp_payload_size(1232);
-    opt
+/// The most octets of a response over UDP: what the client accepts, at least 512 (RFC 6891 section
+/// 6.2.3).
+fn limit_over_udp(query: &Message<Vec<u8>>) -> u16 {
+    match query.opt() {
+        Some(opt) => opt.udp_payload_size().clamp(512, MOST_OVER_UDP),
+        None => 512,
+    }
 }
