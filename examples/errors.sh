@@ -103,11 +103,15 @@ run answer_truncated 0 "123483000001000000000000${asked}00010001" '' example_ans
 # 30 questions, which alone have 522 octets.
 refuses answer_many_questions example_answer 'no answer: limit exceeded' < <(printf '12340100001e000000000000'; printf "${asked}00010001%.0s" {1..30})
 full answer_full_disk 1 "$disk" example_answer <crates/example_answer/stdin
-refuses response_no_digits example_response 'Odd number of digits' <<<000
-refuses response_short_message example_response 'short message' <<<0001
-refuses response_no_question example_response 'no question' <<<123401000000000000000000
-refuses response_irregular example_response "isn't regular" <<<"${irregular/8180/0100}"
-full response_full_disk 1 "$disk" example_response <crates/example_response/stdin
+zone=crates/example_response/data/zone
+run response_no_words 1 '' 'usage: example_response' example_response </dev/null
+run response_no_zone 1 '' 'No such file' example_response udp crates/example_response/data/none </dev/null
+run response_no_digits 1 '' 'Odd number of digits' example_response udp "$zone" <<<000
+# No query, so no response; FORMERR to a query without a question.
+run response_short_message 0 '' '' example_response udp "$zone" <<<0001
+run response_no_question 0 123481010000000000000000 '' example_response udp "$zone" <<<123401000000000000000000
+run response_irregular 0 '' '' example_response udp "$zone" <<<"${irregular/8180/0100}"
+full response_full_disk 1 "$disk" example_response udp "$zone" <crates/example_response/stdin
 refuses rewrite_one_line example_rewrite 'two lines are wanted' <<<600
 refuses rewrite_no_number example_rewrite 'invalid digit' < <(printf 'x\n00\n')
 refuses rewrite_no_digits example_rewrite 'Invalid character' < <(printf '600\n0001zz\n')
@@ -124,7 +128,6 @@ transfer transfer_half 1 "$(head -n 3 crates/example_transfer/stdout)" 'the tran
 transfer transfer_other_id 1 '' 'wrong ID' < <(frames "$(changes 1 "$(soa 1)" | sed s/^1234/1235/)")
 # RFC 1995 section 4: changes from version 1 to 2 and to 3, in two messages; the whole zone in place of them; no newer version.
 transfer transfer_changes 0 "$(
-    soa_line 3
     for line in "$(soa_line 1)" "$(host_line 1)"; do echo "- $line"; done
     soa_line 2
     host_line 2
@@ -133,12 +136,12 @@ transfer transfer_changes 0 "$(
     host_line 3
 )" '' 1 < <(frames "$(changes 5 "$(soa 3)$(soa 1)$(host 1)$(soa 2)$(host 2)")" "$(changes 4 "$(soa 2)$(soa 3)$(host 3)$(soa 3)")")
 transfer transfer_whole_zone 0 "$(
-    soa_line 3
     echo '; the whole zone'
+    soa_line 3
     host_line 3
 )" '' 1 < <(frames "$(changes 3 "$(soa 3)$(host 3)$(soa 3)")")
 transfer transfer_up_to_date 0 '; up to date' '' 3 < <(frames "$(changes 1 "$(soa 3)")")
-transfer transfer_other_soa 1 "$(soa_line 3)"$'\n'"; the whole zone" 'wrong SOA record' 1 < <(frames "$(changes 2 "$(soa 3)$(soa 2)")")
+transfer transfer_other_soa 1 "; the whole zone"$'\n'"$(soa_line 3)" 'wrong SOA record' 1 < <(frames "$(changes 2 "$(soa 3)$(soa 2)")")
 transfer transfer_after_end 1 '; up to date' 'data after the end' 3 < <(frames "$(changes 2 "$(soa 3)$(soa 3)")")
 run transfer_no_words 1 '' 'usage: example_transfer ID ZONE [SERIAL]' example_transfer </dev/null
 refuses transfer_no_number example_transfer 'invalid digit' x </dev/null

@@ -1,11 +1,9 @@
 -- What is printed for items, one after the other, and the lines of records.
-use Rattle.std.proofs.Common.{◌≡◌, ◌∙◌, ℕ, inl, inr, Option, Some, Result, Ok, Err, OnOk, List, [], ◌∷◌, ◌++◌, drop}
+use Rattle.std.proofs.Common.{◌≡◌, ◌∙◌, ℕ, inl, inr, Bool, Option, Some, Result, Ok, Err, OnOk, List, [], ◌∷◌, ◌++◌, drop}
 use Rattle.std.proofs.Common.{length, ap, refl, sym, subst, append-nil, append_assoc, codes, arith}
 use Rattle.std.specs.Fmt.{◌++?◌, decimal}
 use Rattle.std.specs.Io.KnownBytes.{Appends}
-use Rattle.std.specs.List.{AllZip}
 use Rattle.std.proofs.lemmas.Bool.{cases_lt}
-use Rattle.std.proofs.lemmas.List.Folds.{concat-append}
 use Rattle.dns_message.specs.Names.{fault_of, labels}
 use Rattle.dns_message.specs.Data.{Part, Octets, Layout, opaque_layout, opaque_text}
 use Rattle.dns_message.specs.Fields.{class_word, data_text, definitions_of, named_parts, parts_of, record_line, record_text, rtype_of, type_layout, type_word, zone_name_text}
@@ -17,57 +15,71 @@ use Rattle.dns_message.specs.declared.record.Record.{Record}
 use Rattle.dns_message.specs.declared.wire.ParseError.{ParseError}
 use Rattle.dns_message.proofs.CallerLemmas.{appends_both, appends_none}
 use Rattle.dns_transfer.specs.Steps.{Item}
-use Rattle.example_transfer.specs.Printed.{AreItemTexts, HasNoOctets, IsItemText, IsRecordText, IsRemovedText, octets_line, Prints}
+use Rattle.example_transfer.specs.Printed.{AreItemTexts, HasNoOctets, IsRecordText, IsRemovedText, octets_line, Prints, PrintsItem, PrintsItems}
+use Rattle.example_transfer.specs.Printed.AreItemTexts.{none, more}
 use Rattle.example_transfer.specs.Printed.IsRecordLine.{as_fields, as_octets}
 
--- from `old` to `new`, the writer got the texts of the items of `whole` that aren't in `left`
-pub record PrintedUpTo (whole left : List Item) (old new : Option (List ℕ)) : Type 0 where
-  pub done : List ℕ
-  pub appended : Appends old new done
-  pub later : (text : List ℕ) → AreItemTexts left text → AreItemTexts whole (done ++ text)
+module _ (by_ixfr : Bool) where
+  -- from `old` to `new`, the writer got the texts of the items of `whole` that aren't in `left`; `first` was kept before them, and `kept` is then
+  pub record PrintedUpTo (whole left : List Item) (first kept : List ℕ) (old new : Option (List ℕ)) : Type 0 where
+    pub done : List ℕ
+    pub appended : Appends old new done
+    pub later : (text last : List ℕ) → AreItemTexts by_ixfr kept left text last → AreItemTexts by_ixfr first whole (done ++ text) last
 
--- no text is printed at first
-pub none_printed : (whole : List Item) (old : Option (List ℕ)) → PrintedUpTo whole whole old old
-none_printed whole old = record { done = []; appended = appends_none old; later = λ text h. h }
+  -- no text is printed at first
+  pub none_printed : (whole : List Item) (first : List ℕ) (old : Option (List ℕ)) → PrintedUpTo whole whole first first old old
+  none_printed whole first old = record { done = []; appended = appends_none old; later = λ text last h. h }
 
--- the text of the next item is printed
-pub more_printed : (whole left xs : List Item) (x : Item) (a b c : Option (List ℕ)) → PrintedUpTo whole left a b → left ≡ x ∷ xs → Prints (IsItemText x) b c → PrintedUpTo whole xs a c
-more_printed whole left xs x a b c p is h = record {
-  done = p.done ++ h.0;
-  appended = appends_both a b c p.done h.0 p.appended h.2;
-  later = λ text k.
-      let next : AreItemTexts (x ∷ xs) (h.0 ++ text) = (h.0 ∷ k.0, (h.1, k.1), ap (λ l. h.0 ++ l) k.2) in
-      subst (λ (l : List ℕ). AreItemTexts whole l) (sym (append_assoc p.done h.0 text))
-      (p.later (h.0 ++ text) (subst (λ (l : List Item). AreItemTexts l (h.0 ++ text)) (sym is) next));
-}
+  -- the text of the next item is printed
+  pub more_printed : (whole left xs : List Item) (x : Item) (first kept later : List ℕ) (a b c : Option (List ℕ)) → PrintedUpTo whole left first kept a b → left ≡ x ∷ xs
+      → PrintsItem by_ixfr kept x later b c → PrintedUpTo whole xs first later a c
+  more_printed whole left xs x first kept later a b c p is h = record {
+    done = p.done ++ h.0;
+    appended = appends_both a b c p.done h.0 p.appended h.2;
+    later = λ text last k.
+        subst (λ (l : List ℕ). AreItemTexts by_ixfr first whole l last) (sym (append_assoc p.done h.0 text))
+        (p.later (h.0 ++ text) last (subst (λ (l : List Item). AreItemTexts by_ixfr kept l (h.0 ++ text) last) (sym is) (more h.0 h.1 k)));
+  }
 
--- all texts are printed if no item is left
-pub all_printed : (whole left : List Item) (a b : Option (List ℕ)) → PrintedUpTo whole left a b → left ≡ [] → Prints (AreItemTexts whole) a b
-all_printed whole left a b p is =
-    let last : AreItemTexts [] [] = ([], tt, refl) in
-    let texts = p.later [] (subst (λ (l : List Item). AreItemTexts l []) (sym is) last) in
-    (p.done, subst (λ (l : List ℕ). AreItemTexts whole l) (append-nil p.done) texts, p.appended)
+  -- all texts are printed if no item is left
+  pub all_printed : (whole left : List Item) (first kept : List ℕ) (a b : Option (List ℕ)) → PrintedUpTo whole left first kept a b → left ≡ [] → PrintsItems by_ixfr first whole kept a b
+  all_printed whole left first kept a b p is =
+      let texts = p.later [] kept (subst (λ (l : List Item). AreItemTexts by_ixfr kept l [] kept) (sym is) none) in
+      (p.done, subst (λ (l : List ℕ). AreItemTexts by_ixfr first whole l kept) (append-nil p.done) texts, p.appended)
 
-zip_both : (xs : List Item) (ts : List (List ℕ)) (ys : List Item) (us : List (List ℕ)) → AllZip IsItemText xs ts → AllZip IsItemText ys us → AllZip IsItemText (xs ++ ys) (ts ++ us)
-zip_both [] [] ys us h k = k
-zip_both [] (t ∷ ts) ys us h k = absurd h
-zip_both (x ∷ xs) [] ys us h k = absurd h
-zip_both (x ∷ xs) (t ∷ ts) ys us h k = (h.0, zip_both xs ts ys us h.1 k)
+  both_texts : {first kept last text texts : List ℕ} {xs ys : List Item} → AreItemTexts by_ixfr first xs text kept → AreItemTexts by_ixfr kept ys texts last
+      → AreItemTexts by_ixfr first (xs ++ ys) (text ++ texts) last
+  both_texts none k = k
+  both_texts {first = first} {last = last} {texts = others} {xs = x ∷ xs} {ys = ys} (more {texts = texts} text h r) k =
+      subst (λ (l : List ℕ). AreItemTexts by_ixfr first (x ∷ xs ++ ys) l last) (sym (append_assoc text texts others)) (more text h (both_texts r k))
 
--- the texts of items are printed, and then those of others
-pub both_printed : (xs ys : List Item) (a b c : Option (List ℕ)) → Prints (AreItemTexts xs) a b → Prints (AreItemTexts ys) b c → Prints (AreItemTexts (xs ++ ys)) a c
-both_printed xs ys a b c h k =
-    let first = h.1 in
-    let second = k.1 in (
-      h.0 ++ k.0,
-      (first.0 ++ second.0, zip_both xs first.0 ys second.0 first.1 second.1, (λ i. first.2 i ++ second.2 i) ∙ sym (concat-append first.0 second.0)),
-      appends_both a b c h.0 k.0 h.2 k.2,
-    )
+  -- the texts of items are printed, and then those of others
+  pub both_printed : (xs ys : List Item) (first kept last : List ℕ) (a b c : Option (List ℕ)) → PrintsItems by_ixfr first xs kept a b → PrintsItems by_ixfr kept ys last b c
+      → PrintsItems by_ixfr first (xs ++ ys) last a c
+  both_printed xs ys first kept last a b c h k = (h.0 ++ k.0, both_texts h.1 k.1, appends_both a b c h.0 k.0 h.2 k.2)
 
 -- if the result is Ok, a text of this form is printed
 pub on_printed : {X E : Type 0} (r : Result X E) (a b : Option (List ℕ)) (IsText : List ℕ → Type 0) (text : List ℕ) → IsText text → OnOk r (Appends a b text) → OnOk r (Prints IsText a b)
 on_printed (Ok x) a b IsText text is h = (text, is, h)
 on_printed (Err e) a b IsText text is h = h
+
+-- a text of this form is printed, and what is kept stays
+pub with_kept : {X E : Type 0} (r : Result X E) (a b : Option (List ℕ)) (IsText : List ℕ → Type 0) (kept : List ℕ) → OnOk r (Prints IsText a b)
+    → OnOk r (Prints (λ text. IsText text × (kept ≡ kept)) a b)
+with_kept (Ok x) a b IsText kept h = (h.0, (h.1, refl), h.2)
+with_kept (Err e) a b IsText kept h = h
+
+-- the line of a record is kept, and nothing is printed
+pub line_kept : {X E : Type 0} (x : EncodedRecord) (r : Result X E) (old new : List ℕ) (a : Option (List ℕ)) → old ≡ [] → OnOk r (Prints (IsRecordText x) (Some old) (Some new))
+    → OnOk r (Prints (λ text. (text ≡ []) × IsRecordText x new) a a)
+line_kept x (Ok done) old new a is h =
+    let same : new ≡ h.0 = h.2 ∙ ap (λ (l : List ℕ). l ++ h.0) is in ([], (refl, subst (λ (l : List ℕ). IsRecordText x l) (sym same) h.1), appends_none a)
+line_kept x (Err e) old new a is h = h
+
+-- a text is printed after another
+pub after_text : {X E : Type 0} (r : Result X E) (a b c : Option (List ℕ)) (first second : List ℕ) → Appends a b first → OnOk r (Appends b c second) → OnOk r (Appends a c (first ++ second))
+after_text (Ok x) a b c first second h k = appends_both a b c first second h k
+after_text (Err e) a b c first second h k = k
 
 -- the text of a record that is removed
 pub removed_printed : {X E : Type 0} (x : EncodedRecord) (r : Result X E) (a b c : Option (List ℕ)) → Appends a b (codes "- ") → OnOk r (Prints (IsRecordText x) b c)

@@ -10,7 +10,8 @@
 //! A record that is added prints as a line of a zone file, so a zone that is sent whole prints as
 //! its zone file. A record that is removed prints as such a line after `- `. The comment
 //! `; up to date` says that there is no newer version, and `; the whole zone` that the version
-//! before is to be forgotten, as the zone follows in place of changes.
+//! before is to be forgotten, as the zone follows in place of changes: all of it, from its SOA
+//! record on.
 //!
 //! If the transfer can't be read to its end, or reading or printing fails, the program says so on
 //! standard error, and exits with status 1. TSIG isn't checked.
@@ -40,7 +41,8 @@ fn main(rt: HostRuntime) -> Result<()> {
     let mut stream = Vec::new(rt.alloc());
     rt.stdin().read_to_end(&mut stream)?;
     let mut writer = BufWriter::new(rt.alloc(), rt.stdout())?;
-    let outcome = print_transfer(transfer, &stream, &mut writer);
+    let by_ixfr = words.len() > 2;
+    let outcome = print_transfer(rt.alloc(), transfer, by_ixfr, &stream, &mut writer);
     writer.flush()?;
     Ok(outcome?)
 }

@@ -4,13 +4,14 @@ ghost use Rattle.dns_message.specs.Messages.{message_octets};
 ghost use Rattle.dns_message.specs.Streams.{IsPartial};
 ghost use Rattle.dns_transfer.specs.Steps.{asked_of as asked_by_steps, state_left, steps_left};
 ghost use Rattle.dns_transfer.specs.Transfer.{asked_of, state_of};
-ghost use Rattle.example_transfer.specs.Printed.{AreItemTexts, Prints};
+ghost use Rattle.example_transfer.specs.Printed.{PrintsItems};
 ghost use Rattle.example_transfer.specs.Transfer.{Ends, PrintsMessage, PrintsTransfer};
 
 use crate::print::print_item;
 use dns_message::message::Message;
 use dns_message::stream::{FrameError, MAX_FRAME, first_message};
 use dns_message::transfer::{Steps, Transfer, TransferError};
+use std::alloc::Global;
 use std::io;
 use std::io::Write;
 use thiserror::Error;
@@ -32,26 +33,32 @@ pub enum Failure {
     Printing(io::Error),
 }
 
-/// Prints the steps of the messages in a stream, in order, up to the first failure.
+/// Prints the steps of the messages in a stream, in order, up to the first failure. `by_ixfr` says
+/// whether changes were asked for.
 pub fn print_transfer<W: Write>(
+    alloc: Global,
     transfer: Transfer,
+    by_ixfr: bool,
     stream: &[u8],
     writer: &mut W,
 ) -> Result<(), Failure>
-    ensures { PrintsTransfer (asked_of transfer) (state_of transfer) stream.now
+    ensures { PrintsTransfer by_ixfr (asked_of transfer) (state_of transfer) stream.now
         (W.contents writer.old) (W.contents writer.new) result }
 {
+    let mut kept = Vec::new(alloc);
     let mut current = transfer;
     let mut rest = stream;
     'messages: loop {
         match first_message(rest, MAX_FRAME) {
-            Ok(Some((message, after))) => match print_message(current, &message, writer) {
-                Ok(next) => {
-                    current = next;
-                    rest = after;
+            Ok(Some((message, after))) => {
+                match print_message(current, by_ixfr, &mut kept, &message, writer) {
+                    Ok(next) => {
+                        current = next;
+                        rest = after;
+                    }
+                    Err(failure) => return Err(failure),
                 }
-                Err(failure) => return Err(failure),
-            },
+            }
             Ok(None) => return end_of(&current, rest),
             Err(error) => return Err(Failure::Frame(error)),
         }
@@ -69,20 +76,24 @@ fn end_of(transfer: &Transfer, rest: &[u8]) -> Result<(), Failure>
     }
 }
 
-/// Prints the steps of a message. Returns the transfer after it.
+/// Prints the steps of a message. Returns the transfer after it. `kept` is the line that a whole zone
+/// begins with, if it follows in place of changes.
 fn print_message<W: Write>(
     transfer: Transfer,
+    by_ixfr: bool,
+    kept: &mut Vec<u8>,
     message: &Message<&[u8]>,
     writer: &mut W,
 ) -> Result<Transfer, Failure>
-    ensures { PrintsMessage (asked_of transfer) (state_of transfer) (message_octets message.now)
-        (W.contents writer.old) (W.contents writer.new) result }
+    ensures { PrintsMessage by_ixfr kept.old.items kept.new.items (asked_of transfer)
+        (state_of transfer) (message_octets message.now) (W.contents writer.old)
+        (W.contents writer.new) result }
 {
     let mut steps = match transfer.take(message) {
         Ok(steps) => steps,
         Err(error) => return Err(Failure::Transfer(error)),
     };
-    if let Err(error) = print_steps(&mut steps, writer) {
+    if let Err(error) = print_steps(&mut steps, by_ixfr, kept, writer) {
         return Err(Failure::Printing(error));
     }
     match steps.finish() {
@@ -92,14 +103,19 @@ fn print_message<W: Write>(
 }
 
 /// Prints the steps of a message.
-fn print_steps<W: Write>(steps: &mut Steps<'_>, writer: &mut W) -> io::Result<()>
-    ensures printed { OnOk result (Prints (AreItemTexts (steps_left steps.old))
-        (W.contents writer.old) (W.contents writer.new)) }
+fn print_steps<W: Write>(
+    steps: &mut Steps<'_>,
+    by_ixfr: bool,
+    kept: &mut Vec<u8>,
+    writer: &mut W,
+) -> io::Result<()>
+    ensures printed { OnOk result (PrintsItems by_ixfr kept.old.items (steps_left steps.old)
+        kept.new.items (W.contents writer.old) (W.contents writer.new)) }
     ensures state { state_left steps.new ≡ state_left steps.old }
     ensures asked { asked_by_steps steps.new ≡ asked_by_steps steps.old }
 {
     while let Some(item) = steps.next() {
-        print_item(writer, &item)?;
+        print_item(writer, by_ixfr, kept, &item)?;
     }
     Ok(())
 }

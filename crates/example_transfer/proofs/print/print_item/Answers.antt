@@ -6,4 +6,4 @@ pub returns-in-Ok : goal.returns-in-Ok
 returns-in-Ok g c = rw c.in-Ok.is c.print_step.ensures
 
 pub returns-in-Err : goal.returns-in-Err
-returns-in-Err g c = rw c.in-Err.is ([], refl, appends_none _)
+returns-in-Err g c = rw c.in-Err.is ([], (refl, refl), appends_none _)

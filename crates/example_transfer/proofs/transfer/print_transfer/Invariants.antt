@@ -5,7 +5,7 @@ use Rattle.example_transfer.proofs.transfer.print_transfer.Given as goal
 
 abbrev pub invariant-messages : goal.invariant-messages
 invariant-messages g l = record {
-  reads : ReadsSome (asked_of l.fn.transfer) (state_of l.fn.transfer) (state_of l.current) l.fn.stream l.rest (g.W.Write.contents l.fn.writer) (g.W.Write.contents l.writer);
+  reads : ReadsSome l.by_ixfr l.kept.items (asked_of l.fn.transfer) (state_of l.fn.transfer) (state_of l.current) l.fn.stream l.rest (g.W.Write.contents l.fn.writer) (g.W.Write.contents l.writer);
   asked : asked_of l.current ≡ asked_of l.fn.transfer;
 }
 
