@@ -142,7 +142,7 @@ impl Case {
         match self.data() {
             Ok(data) => match check_values(&data) {
                 Ok(()) => String::from_str(alloc, "right"),
-                Err(fault) => format!(in alloc; "{} {}", fault.field, fault.reason),
+                Err(error) => format!(in alloc; "{} {}", error.field, error.reason),
             },
             Err(error) => error.to_string(alloc),
         }

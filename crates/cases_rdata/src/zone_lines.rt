@@ -4,7 +4,7 @@ use arrayvec::ArrayVec;
 use dns_code::{Class, Ttl};
 use dns_item::ComposeRecord;
 use dns_wire::{Name, ToName};
-use fields_lines::{Defaults, read_line};
+use fields_lines::{Defaults, begins_with_owner, read_line};
 use fields_text::split_words;
 use std::alloc::{AllocError, Global};
 
@@ -48,7 +48,7 @@ fn line_shown(alloc: Global, defaults: &Defaults<'_>, line: &str) -> Result<Stri
         Ok(words) => words,
         Err(error) => return error.to_string(alloc),
     };
-    let named = !line.starts_with(' ');
+    let named = begins_with_owner(line);
     match read_line(alloc, defaults, named, words.as_slice()) {
         Ok(record) => {
             let mut octets = Vec::new(alloc);

@@ -11,6 +11,7 @@ use dns_item::Ttl;
 use dns_name::Name;
 use dns_read::Message;
 use std::alloc::{AllocError, Global};
+use std::fmt::Display;
 use std::io;
 
 /// A number, of seconds or an ID or an rcode, and after `=` the message that is changed by it, or why it can't be.
@@ -27,12 +28,23 @@ pub(crate) fn changed_shown(
     let Some(mut message) = message_of(alloc, run)? else {
         return Ok(String::from_str(alloc, "short message")?);
     };
-    match change(&mut message, call, value) {
+    let changed = change(&mut message, call, value);
+    shown(alloc, number, &message, changed)
+}
+
+/// Words, and after `=` a message that is changed, or why it isn't.
+fn shown<E: Display + Drop>(
+    alloc: Global,
+    words: &str,
+    message: &Message<Vec<u8>>,
+    changed: Result<(), E>,
+) -> io::Result<String> {
+    match changed {
         Ok(()) => {
             let digits = hex::encode(alloc, message.as_slice())?;
-            Ok(format!(in alloc; "{number} = {digits}")?)
+            Ok(format!(in alloc; "{words} = {digits}")?)
         }
-        Err(error) => Ok(format!(in alloc; "{number} = {error}")?),
+        Err(error) => Ok(format!(in alloc; "{words} = {error}")?),
     }
 }
 
@@ -84,13 +96,8 @@ pub(crate) fn cased_shown(alloc: Global, run: &Run<'_>, text: &str) -> io::Resul
     let Some(mut message) = message_of(alloc, run)? else {
         return Ok(String::from_str(alloc, "short message")?);
     };
-    match set_question_case(&mut message, &name) {
-        Ok(()) => {
-            let digits = hex::encode(alloc, message.as_slice())?;
-            Ok(format!(in alloc; "{words} = {digits}")?)
-        }
-        Err(error) => Ok(format!(in alloc; "{words} = {error}")?),
-    }
+    let changed = set_question_case(&mut message, &name);
+    shown(alloc, words, &message, changed)
 }
 
 /// An option's code and data, and after `=` the message whose option has this data, or `none`
@@ -105,11 +112,8 @@ pub(crate) fn replaced_shown(alloc: Global, run: &Run<'_>, text: &str) -> io::Re
         return Ok(String::from_str(alloc, "short message")?);
     };
     match replace_option(&mut message, OptionCode::from_int(code), octets.as_slice()) {
-        Ok(true) => {
-            let digits = hex::encode(alloc, message.as_slice())?;
-            Ok(format!(in alloc; "{words} = {digits}")?)
-        }
         Ok(false) => Ok(format!(in alloc; "{words} = none")?),
-        Err(error) => Ok(format!(in alloc; "{words} = {error}")?),
+        Ok(true) => shown(alloc, words, &message, Ok::<(), EditError>(())),
+        Err(error) => shown(alloc, words, &message, Err(error)),
     }
 }

@@ -65,7 +65,7 @@ fn write_records(text: &mut String, section: Start<'_>) -> Result<(), AllocError
 /// Writes the records that a cursor yields or their error, where it ends, and where the next
 /// section starts.
 fn write_yielded(text: &mut String, mut records: RecordSection<'_>) -> Result<(), AllocError> {
-    write!(text, "; ")?;
+    text.push_str("; ")?;
     for _ in 0..TIMES {
         match records.next() {
             Some(Ok(record)) => write_item(text, Some(record.into_any_record::<Opaque<'_>>()))?,
@@ -76,7 +76,7 @@ fn write_yielded(text: &mut String, mut records: RecordSection<'_>) -> Result<()
     write!(text, "end {}; next ", records.pos())?;
     match records.next_section().transpose() {
         Some(next) => write_start(text, next),
-        None => write!(text, "none"),
+        None => text.push_str("none"),
     }
 }
 
@@ -103,7 +103,7 @@ fn write_items(text: &mut String, mut items: MessageIter<'_>) -> Result<(), Allo
             None => {}
         }
     }
-    write!(text, "end")
+    text.push_str("end")
 }
 
 /// Writes the addresses in the answer section, those of class IN, and the aliases.

@@ -35,10 +35,10 @@ fn write_said(
     zone: &Name<Vec<u8>>,
 ) -> Result<(), AllocError> {
     let Ok(query) = Message::from_slice(run.other.as_slice()) else {
-        return write!(text, "short message");
+        return text.push_str("short message");
     };
     let Ok(message) = Message::from_slice(run.message.as_slice()) else {
-        return write!(text, "short message");
+        return text.push_str("short message");
     };
     let said = match call {
         Call::ReplyExact => reply_to_exact(&query, &message, zone),
@@ -53,26 +53,30 @@ fn write_said(
 /// Writes what a reply says.
 fn write_reply(text: &mut String, reply: &Reply<'_>) -> Result<(), AllocError> {
     match reply {
-        Reply::Answer(answer) => {
-            write_names(text, "answer", &[answer.name()])?;
-            write!(text, " {}", answer.ttl().as_secs())
-        }
+        Reply::Answer(answer) => write_timed(text, "answer", answer.name(), answer.ttl()),
         Reply::NoData(denial) => write_denial(text, "no-data", denial),
         Reply::NoName(denial) => write_denial(text, "no-name", denial),
         Reply::Referral(referral) => {
             write_names(text, "referral", &[referral.name(), referral.cut()])?;
             write_alias_ttl(text, referral.alias_ttl())
         }
-        Reply::Alias(alias) => {
-            write_names(text, "alias", &[alias.name()])?;
-            write!(text, " {}", alias.ttl().as_secs())
-        }
+        Reply::Alias(alias) => write_timed(text, "alias", alias.name(), alias.ttl()),
         Reply::Dname(redirection) => write_redirection(text, redirection),
         Reply::Truncated => text.push_str("truncated"),
         Reply::Failed(rcode) => write!(text, "failed {}", rcode.to_int()),
         Reply::Done => text.push_str("done"),
         Reply::Unusable(reason) => write!(text, "{reason}"),
     }
+}
+
+/// Writes a word, a name and a TTL.
+fn write_timed(
+    text: &mut String,
+    word: &str,
+    name: ParsedName<'_>,
+    ttl: Ttl,
+) -> Result<(), AllocError> {
+    write!(text, "{word} {} {}", name.fmt_with_dot(), ttl.as_secs())
 }
 
 /// Writes a word and names after it.

@@ -11,7 +11,7 @@ use std::alloc::AllocError;
 /// Writes what a call returns for the message of a case.
 pub(crate) fn write_call(text: &mut String, run: &Run<'_>, call: Call) -> Result<(), AllocError> {
     let Ok(message) = Message::from_slice(run.message.as_slice()) else {
-        return write!(text, "short message");
+        return text.push_str("short message");
     };
     match call {
         Call::Rcode => write!(text, "{}", message.opt_rcode().to_int()),
@@ -37,7 +37,7 @@ fn write_word(text: &mut String, holds: bool) -> Result<(), AllocError> {
 fn write_canonical(text: &mut String, message: &Message<&[u8]>) -> Result<(), AllocError> {
     match message.canonical_name() {
         Some(name) => write!(text, "{name}."),
-        None => write!(text, "none"),
+        None => text.push_str("none"),
     }
 }
 
@@ -53,7 +53,7 @@ fn write_sole(text: &mut String, message: &Message<&[u8]>) -> Result<(), AllocEr
 fn write_least(text: &mut String, message: &Message<&[u8]>) -> Result<(), AllocError> {
     match min_ttl(message) {
         Ok(Some(ttl)) => write!(text, "{}", ttl.as_secs()),
-        Ok(None) => write!(text, "none"),
+        Ok(None) => text.push_str("none"),
         Err(error) => write!(text, "{error}"),
     }
 }
@@ -70,7 +70,7 @@ fn write_end(text: &mut String, message: &Message<&[u8]>) -> Result<(), AllocErr
 fn write_last_address(text: &mut String, message: &Message<&[u8]>) -> Result<(), AllocError> {
     match message.get_last_additional::<A>() {
         Some(record) => write!(text, "{}", record.data()),
-        None => write!(text, "none"),
+        None => text.push_str("none"),
     }
 }
 
@@ -82,7 +82,7 @@ fn write_pair(
     message: &Message<&[u8]>,
 ) -> Result<(), AllocError> {
     let Ok(other) = Message::from_slice(run.other.as_slice()) else {
-        return write!(text, "short message");
+        return text.push_str("short message");
     };
     let holds = match call {
         Call::IsAnswer => message.is_answer(&other),

@@ -66,7 +66,7 @@ fn write_messages(text: &mut String, run: &Run<'_>, transfer: Transfer) -> Resul
 /// Writes that a transfer has ended, or why not.
 fn write_end(text: &mut String, transfer: Transfer) -> Result<(), AllocError> {
     match transfer.end() {
-        Ok(()) => write!(text, "ended"),
+        Ok(()) => text.push_str("ended"),
         Err(error) => write!(text, "{error}"),
     }
 }
@@ -78,7 +78,7 @@ fn write_message(
     transfer: Transfer,
 ) -> Result<Option<Transfer>, AllocError> {
     let Ok(message) = Message::from_slice(octets) else {
-        write!(text, "short message")?;
+        text.push_str("short message")?;
         return Ok(None);
     };
     match transfer.take(&message) {
@@ -110,26 +110,20 @@ fn write_step(text: &mut String, step: Step<'_>) -> Result<(), AllocError> {
     match step {
         Step::Begin(serial, soa) => {
             write!(text, "begin {serial} ")?;
-            write_record(text, &soa)
+            write_record(text, "", &soa)
         }
         Step::UpToDate(serial) => write!(text, "up to date {serial}; "),
-        Step::FallsBackToAxfr => write!(text, "falls back to AXFR; "),
-        Step::Remove(shown) => {
-            write!(text, "remove ")?;
-            write_record(text, &shown)
-        }
-        Step::Add(shown) => {
-            write!(text, "add ")?;
-            write_record(text, &shown)
-        }
+        Step::FallsBackToAxfr => text.push_str("falls back to AXFR; "),
+        Step::Remove(shown) => write_record(text, "remove ", &shown),
+        Step::Add(shown) => write_record(text, "add ", &shown),
         Step::End(serial) => write!(text, "end {serial}; "),
     }
 }
 
-/// Writes a record with its RDATA as octets.
-fn write_record(text: &mut String, shown: &ParsedRecord<'_>) -> Result<(), AllocError> {
+/// Writes a word and a record with its RDATA as octets.
+fn write_record(text: &mut String, word: &str, shown: &ParsedRecord<'_>) -> Result<(), AllocError> {
     match shown.to_any_record::<UnknownRecordData<&[u8]>>() {
-        Ok(shown) => write!(text, "{shown}; "),
-        Err(error) => write!(text, "{error}; "),
+        Ok(shown) => write!(text, "{word}{shown}; "),
+        Err(error) => write!(text, "{word}{error}; "),
     }
 }

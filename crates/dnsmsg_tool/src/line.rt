@@ -29,7 +29,7 @@ use std::str::FromStr;
 pub(crate) type ScriptCall = Call<Question<Name<Vec<u8>>>, ScriptRecord>;
 
 /// A new value for one field of a header, or for its seven flags.
-#[derive(Clone, Copy, Debug)]
+#[derive(Clone, Copy)]
 pub(crate) enum Change {
     Id(u16),
     Opcode(Opcode),

@@ -17,7 +17,7 @@ use std::io;
 use std::io::{Read, Write};
 
 /// The target that a message is built on.
-#[derive(Clone, Copy, Debug)]
+#[derive(Clone, Copy)]
 enum Target {
     /// A vector.
     Plain,
@@ -48,7 +48,7 @@ impl Target {
 }
 
 /// What the arguments ask for.
-#[derive(Clone, Copy, Debug)]
+#[derive(Clone, Copy)]
 enum Command {
     /// Builds a message on a target.
     Build(Target),

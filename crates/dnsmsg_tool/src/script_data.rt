@@ -9,7 +9,7 @@ use dns_octets::AppendError;
 use dns_wire::Composer;
 
 /// The RDATA of a record of a script: its fields, or opaque octets for any type.
-#[derive(Debug, Drop)]
+#[derive(Drop)]
 pub(crate) enum ScriptData {
     Known(KnownData<Name<Vec<u8>>>),
     Opaque(UnknownRecordData<Vec<u8>>),

@@ -10,7 +10,7 @@ use std::io;
 use std::io::Write;
 
 /// Why the program ends before it has finished.
-#[derive(Clone, Copy, Debug)]
+#[derive(Clone, Copy)]
 pub(crate) enum ToolError {
     /// The arguments aren't those of the program.
     Usage,

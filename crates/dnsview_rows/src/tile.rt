@@ -18,14 +18,15 @@ pub(crate) fn field(start: usize, end: usize, field: RowField) -> Row
 pub(crate) fn header(alloc: Global) -> Result<Vec<Row>, AllocError>
     ensures { IfOk result (λ rows. rows.items ≡ header_rows) }
 {
-    let mut rows = Vec::new(alloc);
-    rows.push(field(0, 2, RowField::Id))?;
-    rows.push(field(2, 4, RowField::Flags))?;
-    rows.push(field(4, 6, RowField::Count(Part::Question)))?;
-    rows.push(field(6, 8, RowField::Count(Part::Answer)))?;
-    rows.push(field(8, 10, RowField::Count(Part::Authority)))?;
-    rows.push(field(10, 12, RowField::Count(Part::Additional)))?;
-    Ok(rows)
+    let rows = [
+        field(0, 2, RowField::Id),
+        field(2, 4, RowField::Flags),
+        field(4, 6, RowField::Count(Part::Question)),
+        field(6, 8, RowField::Count(Part::Answer)),
+        field(8, 10, RowField::Count(Part::Authority)),
+        field(10, 12, RowField::Count(Part::Additional)),
+    ];
+    Vec::from_slice(alloc, &rows)
 }
 
 /// Appends the row of the fault at `offset`, if there is one, and that of the octets from `offset`

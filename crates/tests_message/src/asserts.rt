@@ -9,5 +9,5 @@ pub(crate) fn assert_holds(rt: &impl Abort, row: &str, holds: bool) {
 
 /// Fails unless the octets equal the expected ones.
 pub(crate) fn assert_octets(rt: &impl Abort, row: &str, octets: &[u8], expected: &[u8]) {
-    assert_eq!(rt; octets, expected, "{row}");
+    assert!(rt; octets == expected, "{row}: {octets:?}");
 }

@@ -42,16 +42,6 @@ fn reply_header(query: Header) -> Header
     header
 }
 
-#[test]
-fn replies_with_the_id(rt: HostRuntime) {
-    let mut query = Header::new();
-    query.set_id(0x1234);
-    query.set_rd(true);
-    let reply = reply_header(query);
-    let is_reply = reply.id() == 0x1234 && reply.rd() && reply.qr();
-    assert_holds(&rt, "the fields of the reply", is_reply);
-}
-
 /// Octets as opaque record data, if RDATA can have that many.
 fn opaque(rtype: Rtype, octets: &[u8]) -> Option<UnknownRecordData<&[u8]>>
     ensures { IsSome result ↔ (length octets.now ≤ 65535) }
@@ -59,32 +49,11 @@ fn opaque(rtype: Rtype, octets: &[u8]) -> Option<UnknownRecordData<&[u8]>>
     UnknownRecordData::from_octets(rtype, octets).ok()
 }
 
-#[test]
-fn takes_opaque_data(rt: HostRuntime) {
-    let long = vec![in rt.alloc(); 0; 65536].expect(&rt, "memory");
-    assert_holds(&rt, "65,536 octets", opaque(Rtype::TXT, &long).is_none());
-    assert_holds(&rt, "two octets", opaque(Rtype::TXT, b"\x01a").is_some());
-}
-
 /// How long a record is cached: at most a week, but never less than `least`.
 fn kept_for(ttl: Ttl, least: Ttl) -> Ttl
     ensures { result ≡ max least (min ttl cap_seconds) }
 {
     least.max(ttl.cap())
-}
-
-#[test]
-fn keeps_for_a_week(rt: HostRuntime) {
-    let minute = Ttl::MINUTE;
-    let kept = kept_for(Ttl::from_secs(5), minute);
-    assert_holds(&rt, "less than a minute", kept == minute);
-    let kept = kept_for(Ttl::MAX, minute);
-    assert_holds(&rt, "more than a week", kept == Ttl::CAP);
-}
-
-/// The message in these octets.
-fn message_of(rt: &impl Abort, octets: &'static [u8]) -> Message<&'static [u8]> {
-    Message::from_octets(octets).expect(rt, "a message")
 }
 
 /// Where the answers of a message begin, if each question can be skipped.
@@ -95,14 +64,6 @@ fn answers_start<Octs: Octets>(message: &Message<Octs>) -> Option<usize>
         Ok(section) => Some(section.pos()),
         Err(_) => None,
     }
-}
-
-#[test]
-fn finds_the_answers(rt: HostRuntime) {
-    let octets = b"\x00\x00\x00\x00\x00\x01\x00\x00\x00\x00\x00\x00\x01a\x00\x00\x01\x00\x01";
-    let message = message_of(&rt, octets);
-    let start = answers_start(&message);
-    assert_holds(&rt, "after the question", start == Some(19));
 }
 
 /// The first record of the answer section, if it can be read and its RDATA is of type `D`.
@@ -118,16 +79,6 @@ fn first_answer<'a, Octs: Octets, D: ParseRecordData<'a> + Drop>(
         Ok(read) => read,
         Err(_) => None,
     }
-}
-
-#[test]
-fn reads_the_first_answer(rt: HostRuntime) {
-    let octets =
-        b"\x00\x00\x81\xA0\x00\x00\x00\x01\x00\x00\x00\x00\x01a\x00\x00\x01\x00\x01\x00\x00\x0E\x10\x00\x04\xCB\x00\x71\x01";
-    let message = message_of(&rt, octets);
-    let address = first_answer::<_, A>(&message).expect(&rt, "an address");
-    let octets = address.data().octets();
-    assert_octets(&rt, "the address", &octets, &[203, 0, 113, 1]);
 }
 
 /// The RDATA of the records that can be read, in order.
@@ -162,17 +113,6 @@ fn data_of_answers<'a, Octs: Octets, D: ParseRecordData<'a> + Drop>(
     }
 }
 
-#[test]
-fn collects_the_addresses(rt: HostRuntime) {
-    let octets =
-        b"\x00\x00\x81\xA0\x00\x00\x00\x01\x00\x00\x00\x00\x01a\x00\x00\x01\x00\x01\x00\x00\x0E\x10\x00\x04\xCB\x00\x71\x01";
-    let message = message_of(&rt, octets);
-    let addresses = data_of_answers::<_, A>(rt.alloc(), &message);
-    let addresses = addresses.expect(&rt, "addresses");
-    let is_one = addresses.len() == 1 && addresses[0].octets() == [203, 0, 113, 1];
-    assert_holds(&rt, "the address", is_one);
-}
-
 /// The sections of the consecutive readable records, in order.
 fn sections_of<Octs: Octets>(
     alloc: Global,
@@ -197,12 +137,20 @@ fn has_address<Octs: Octets>(message: &Message<Octs>) -> bool
     message.contains_answer::<A>()
 }
 
+/// A response with an address of the root, and an additional NS record of the root.
+const ADDRESS_AND_SERVER: &[u8] =
+    b"\x00\x00\x81\xA0\x00\x00\x00\x01\x00\x00\x00\x01\x00\x00\x01\x00\x01\x00\x00\x00\x00\x00\x04\xCB\x00\x71\x01\x00\x00\x02\x00\x01\x00\x00\x00\x00\x00\x01\x00";
+
 #[test]
-fn knows_the_sections(rt: HostRuntime) {
-    let octets =
-        b"\x00\x00\x81\xA0\x00\x00\x00\x01\x00\x00\x00\x01\x00\x00\x01\x00\x01\x00\x00\x00\x00\x00\x04\xCB\x00\x71\x01\x00\x00\x02\x00\x01\x00\x00\x00\x00\x00\x01\x00";
-    let message = message_of(&rt, octets);
-    assert_holds(&rt, "an address", has_address(&message));
+fn reads_a_response(rt: HostRuntime) {
+    let message = Message::from_slice(ADDRESS_AND_SERVER).expect(&rt, "a message");
+    let begins = has_address(&message) && answers_start(&message) == Some(12);
+    assert_holds(&rt, "an address after the header section", begins);
+    let address = first_answer::<_, A>(&message).expect(&rt, "an address");
+    let found = data_of_answers::<_, A>(rt.alloc(), &message).expect(&rt, "addresses");
+    let is_one = found.len() == 1 && found[0] == *address.data();
+    let octets = address.data().octets();
+    assert_holds(&rt, "the address", is_one && octets == [203, 0, 113, 1]);
     let sections = sections_of(rt.alloc(), &message).expect(&rt, "memory");
     let expected = [Section::Answer, Section::Additional];
     let are_known = sections.as_slice() == expected.as_slice();
@@ -225,23 +173,6 @@ fn compressed<Q: ComposeQuestion, R: ComposeRecord>(
         Ok(stage) => Some(stage),
         Err(_) => None,
     }
-}
-
-/// A question for the addresses of example.com., and an answer whose owner is a pointer.
-const ONE_POINTER: &[u8] =
-    b"\x00\x00\x00\x00\x00\x01\x00\x01\x00\x00\x00\x00\x07example\x03com\x00\x00\x01\x00\x01\xC0\x0C\x00\x01\x00\x01\x00\x00\x0E\x10\x00\x04\xCB\x00\x71\x01";
-
-#[test]
-fn spells_a_name_once(rt: HostRuntime) {
-    let name = Name::from_octets(*b"\x07example\x03com\x00").expect(&rt, "a name");
-    let calls = [
-        Call::ToQuestion,
-        Call::PushQuestion((name, Rtype::A)),
-        Call::ToAnswer,
-        Call::PushRecord((name, 3600u32, A::from_octets(203, 0, 113, 1))),
-    ];
-    let stage = compressed(rt.alloc(), &calls).expect(&rt, "memory");
-    assert_octets(&rt, "one pointer", stage.as_slice(), ONE_POINTER);
 }
 
 /// The message with one OPT record, which a closure gathers.

@@ -4,12 +4,13 @@ ghost use Rattle.dns_message.specs.Fields.{MakesData};
 ghost use Rattle.dns_message.specs.declared.fields.NewValue.TheVariants.{Number, Types};
 
 use crate::asserts::assert_octets;
+use arrayvec::ArrayVec;
 use dns_message::builder::{AnswerBuilder, MessageBuilder};
 use dns_message::code::Rtype;
 use dns_message::fields::{NewValue, OwnedFieldData, ValueError, from_values};
 use dns_message::make::{https, mx};
 use dns_message::name::{Name, ToName};
-use dns_message::target::{Composer, TreeCompressor};
+use dns_message::target::{Composer, StaticCompressor};
 use std::alloc::Global;
 
 /// RDATA of CSYNC: the serial, the flags and the types to copy (RFC 7477 section 2.1).
@@ -55,7 +56,7 @@ fn pushes_made_data(rt: HostRuntime) {
     let alloc = rt.alloc();
     let owner = Name::from_octets(*b"\x07example\x03com\x00").expect(&rt, "a name");
     let host = Name::from_octets(*b"\x04host\x07example\x03com\x00").expect(&rt, "a name");
-    let target = TreeCompressor::new(alloc, Vec::new(alloc));
+    let target = StaticCompressor::new(ArrayVec::<u8, 128>::new());
     let builder = MessageBuilder::from_target(target).expect(&rt, "a target");
     let mut response = builder.answer();
     push_services(alloc, &mut response, &owner, &host).expect(&rt, "two records");

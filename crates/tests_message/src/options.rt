@@ -8,25 +8,17 @@ use dns_message::name::{Name, ToName};
 use dns_message::question::Question;
 use dns_message::record::{Record, Ttl};
 use dns_message::serial::Serial;
-use std::alloc::{AllocError, Global};
+use std::alloc::Global;
 use std::fmt::Display;
 use std::process::Abort;
 
-/// The text of a value: without options, in a width, in the alternate form, and cut to two characters.
-fn texts<T: Display>(alloc: Global, value: &T) -> Result<[String; 4], AllocError> {
-    Ok([
-        format!(in alloc; "{value}")?,
-        format!(in alloc; "{value:>30}")?,
-        format!(in alloc; "{value:#}")?,
-        format!(in alloc; "{value:.2}")?,
-    ])
-}
-
-/// Fails unless each of these texts of a value is `text`.
+/// Fails unless a value has this text: without options, in a width, in the alternate form, and cut to
+/// two characters.
 fn assert_text<T: Display>(rt: &impl Abort, alloc: Global, row: &str, value: &T, text: &str) {
-    for printed in &texts(alloc, value).expect(rt, "memory") {
-        assert_octets(rt, row, printed.as_bytes(), text.as_bytes());
-    }
+    let printed = format!(in alloc; "{value}|{value:>30}|{value:#}|{value:.2}");
+    let expected = format!(in alloc; "{text}|{text}|{text}|{text}");
+    let (printed, expected) = (printed.expect(rt, row), expected.expect(rt, row));
+    assert_octets(rt, row, printed.as_bytes(), expected.as_bytes());
 }
 
 /// The name example.com.

@@ -7,15 +7,12 @@ ghost use Rattle.tests_message.specs.Hosts.{host_layout};
 ghost use Rattle.tests_message.specs.declared.own.TheConstants.{FIELDS};
 
 use crate::asserts::{assert_holds, assert_octets};
-use dns_message::builder::MessageBuilder;
+use arrayvec::ArrayVec;
 use dns_message::code::Rtype;
 use dns_message::data::ParseRecordData;
 use dns_message::fields::{DataOf, Kind, RecordFields, Value};
 use dns_message::message::Message;
-use dns_message::name::Name;
 use dns_message::wire::{Octets, ParseError, Parser};
-use std::alloc::Global;
-use std::process::Abort;
 
 const FIELDS: &[(&str, Kind)] = &[("weight", Kind::Number16), ("host", Kind::PlainName)];
 
@@ -68,58 +65,25 @@ fn greatest_weight<Octs: Octets>(message: &Message<Octs>) -> u64 {
     greatest
 }
 
-#[test]
-fn reads_its_own_type_alone(rt: HostRuntime) {
-    let mut parser = Parser::new(b"\x00\x02\x01a\x00");
-    let other = read_host(Rtype::A, &mut parser).expect(&rt, "no host");
-    assert_holds(&rt, "another type", other.is_none());
-    let host = read_host(Rtype::from_int(65280), &mut parser).expect(&rt, "a host");
-    assert_holds(&rt, "its own type", host.is_some());
-    assert_holds(&rt, "octets left over", parser.remaining() == 0);
-}
-
 /// Three hosts of the root, with weights of 2, 5 and 3.
 const HOSTS: &[u8] =
     b"\x00\x00\x00\x00\x00\x00\x00\x03\x00\x00\x00\x00\x00\xFF\x00\x00\x01\x00\x00\x00\x3C\x00\x05\x00\x02\x01a\x00\x00\xFF\x00\x00\x01\x00\x00\x00\x3C\x00\x05\x00\x05\x01b\x00\x00\xFF\x00\x00\x01\x00\x00\x00\x3C\x00\x05\x00\x03\x01c\x00";
 
+/// A host, after the header section.
+const HOST: &[u8; 36] =
+    b"\x00\x00\x00\x00\x00\x00\x00\x01\x00\x00\x00\x00\x07example\x00\xFF\x00\x00\x01\x00\x00\x00\x3C\x00\x05\x00\x02\x01a\x00";
+
 #[test]
-fn finds_the_greatest_weight(rt: HostRuntime) {
+fn reads_and_composes_hosts(rt: HostRuntime) {
     let message = Message::from_slice(HOSTS).expect(&rt, "a message");
     let greatest = greatest_weight(&message);
     assert_holds(&rt, "the greatest weight", greatest == 5);
-}
-
-/// A message with each host of `message` twice: as it is, and at the owner other. with a TTL of an
-/// hour.
-fn doubled<Octs: Octets>(
-    rt: &impl Abort,
-    alloc: Global,
-    message: &Message<Octs>,
-) -> Message<Vec<u8>> {
-    let mut builder = MessageBuilder::new_vec(alloc).expect(rt, "memory").answer();
-    let owner = Name::from_octets(*b"\x05other\x00").expect(rt, "a name");
-    let answers = message.answer().expect(rt, "answers");
-    for record in answers.limit_to::<DataOf<'_, WeightedHost>>() {
-        let record = record.expect(rt, "a host");
-        let pushed = builder.push_ref(&record);
-        pushed.expect(rt, "memory");
-        let pushed = builder.push((&owner, 3600u32, record.data()));
-        pushed.expect(rt, "memory");
-    }
-    builder.into_message()
-}
-
-/// A host.
-const HOST: &[u8] =
-    b"\x00\x00\x00\x00\x00\x00\x00\x01\x00\x00\x00\x00\x07example\x00\xFF\x00\x00\x01\x00\x00\x00\x3C\x00\x05\x00\x02\x01a\x00";
-
-/// Two hosts with the same RDATA.
-const DOUBLED: &[u8] =
-    b"\x00\x00\x00\x00\x00\x00\x00\x02\x00\x00\x00\x00\x07example\x00\xFF\x00\x00\x01\x00\x00\x00\x3C\x00\x05\x00\x02\x01a\x00\x05other\x00\xFF\x00\x00\x01\x00\x00\x0E\x10\x00\x05\x00\x02\x01a\x00";
-
-#[test]
-fn copies_hosts(rt: HostRuntime) {
     let message = Message::from_slice(HOST).expect(&rt, "a message");
-    let doubled = doubled(&rt, rt.alloc(), &message);
-    assert_octets(&rt, "a host twice", doubled.as_slice(), DOUBLED);
+    let answers = message.answer().expect(&rt, "answers");
+    let host = answers.limit_to::<DataOf<'_, WeightedHost>>().next();
+    let host = host.expect(&rt, "a record").expect(&rt, "a host");
+    let mut target = ArrayVec::<u8, 64>::new();
+    host.compose(&mut target).expect(&rt, "room");
+    let octets: &[u8] = HOST;
+    assert_octets(&rt, "a host", &target, &octets[12..]);
 }

@@ -3,15 +3,14 @@ ghost use Rattle.std.specs.Prelude.{[], ◌∷◌, refl};
 ghost use Rattle.dns_message.specs.Data.{CompressibleName, DomainName, End, only};
 
 use crate::asserts::{assert_holds, assert_octets};
+use arrayvec::ArrayVec;
 use dns_message::builder::MessageBuilder;
 use dns_message::code::Rtype;
 use dns_message::data::laws::{names_are_bounded, parts_compose};
 use dns_message::data::{ComposeRecordData, ParseRecordData, RecordData};
-use dns_message::message::{Message, RecordIter};
 use dns_message::name::{Name, ParsedName, ToName, ToNameExt};
-use dns_message::target::{Composer, TreeCompressor};
+use dns_message::target::{Composer, StaticCompressor};
 use dns_message::wire::{AppendError, ParseError, Parser};
-use std::process::Abort;
 
 /// The RDATA of a PTR record: a name (RFC 1035 section 3.3.12).
 #[derive(Clone, Copy, Debug, Drop)]
@@ -57,37 +56,22 @@ impl<'a> ParseRecordData<'a> for Ptr<ParsedName<'a>> {
 const ONE_POINTER: &[u8] =
     b"\x00\x00\x00\x00\x00\x00\x00\x01\x00\x00\x00\x00\x07example\x03com\x00\x00\x0C\x00\x01\x00\x00\x00\x3C\x00\x02\xC0\x0C";
 
-/// The name example.com.
-fn example_com(rt: &impl Abort) -> Name<[u8; 13]> {
-    Name::from_octets(*b"\x07example\x03com\x00").expect(rt, "a name")
-}
-
 #[test]
-fn pushes_its_own_data(rt: HostRuntime) {
-    let alloc = rt.alloc();
-    let name = example_com(&rt);
-    let target = TreeCompressor::new(alloc, Vec::new(alloc));
-    let builder = MessageBuilder::from_target(target).expect(&rt, "memory");
+fn pushes_and_reads_its_own_data(rt: HostRuntime) {
+    let name = Name::from_octets(*b"\x07example\x03com\x00").expect(&rt, "a name");
+    let target = StaticCompressor::new(ArrayVec::<u8, 64>::new());
+    let builder = MessageBuilder::from_target(target).expect(&rt, "room");
     let mut builder = builder.answer();
     let pushed = builder.push((name, 60u32, Ptr(name)));
-    pushed.expect(&rt, "memory");
-    assert_octets(&rt, "one pointer", builder.as_slice(), ONE_POINTER);
-}
-
-#[test]
-fn reads_its_own_data_back(rt: HostRuntime) {
-    let message = Message::from_slice(ONE_POINTER).expect(&rt, "a message");
+    pushed.expect(&rt, "room");
+    let message = builder.as_message();
+    assert_octets(&rt, "one pointer", message.as_slice(), ONE_POINTER);
     let answers = message.answer().expect(&rt, "answers");
-    assert_one_pointer(&rt, answers.limit_to(), &example_com(&rt));
-}
-
-/// Fails unless one PTR record remains, whose RDATA is this name.
-fn assert_one_pointer<'a, N: ToName>(
-    rt: &impl Abort,
-    mut records: RecordIter<'a, Ptr<ParsedName<'a>>>,
-    name: &N,
-) {
-    let record = records.next().expect(rt, "a record").expect(rt, "PTR data");
-    assert_holds(rt, "the name", record.data().0.octets_eq(name));
-    assert_holds(rt, "no further record", records.next().is_none());
+    let mut records = answers.limit_to::<Ptr<ParsedName<'_>>>();
+    let record = records
+        .next()
+        .expect(&rt, "a record")
+        .expect(&rt, "PTR data");
+    let is_one = record.data().0.octets_eq(&name) && records.next().is_none();
+    assert_holds(&rt, "the name, and no further record", is_one);
 }

@@ -7,7 +7,7 @@ ghost use Rattle.dns_message.specs.Messages.{message_octets};
 ghost use Rattle.dns_message.specs.Builders.{Represents, InAnswer, State};
 ghost use Rattle.tests_message.specs.Typed.{HasOneAnswer, WasPushedFirst};
 
-use crate::asserts::assert_octets;
+use crate::asserts::{assert_holds, assert_octets};
 use arrayvec::ArrayVec;
 use dns_message::builder::laws::{
     builders_are_known_by_states, records_read_back, to_record_reads_back,
@@ -23,7 +23,6 @@ use dns_message::record::{ComposeRecord, Record, Ttl};
 use dns_message::target::{Composer, TreeCompressor};
 use dns_message::wire::{FlattenInto, Octets};
 use std::alloc::Global;
-use std::process::Abort;
 
 /// The only answer whose type `D` accepts.
 fn one_answer<'a, Octs: Octets, D: ParseRecordData<'a> + Drop>(
@@ -107,32 +106,16 @@ fn address_reported(alloc: Global, owner: Name<Vec<u8>>, address: A) -> Result<A
     Ok(found.into_data())
 }
 
-/// Fails unless an NS record and the address of its server are read back.
-fn assert_reported(rt: &impl Abort, alloc: Global, address: A) {
-    let zone = Name::vec_from_str(alloc, "example.com.").expect(rt, "a name");
-    let server = Name::vec_from_str(alloc, "ns.example.com.").expect(rt, "a name");
-    let read = reported(alloc, zone, server, address);
-    let (name, glue) = read.expect(rt, "memory");
-    let expected = b"\x02ns\x07example\x03com\x00";
-    assert_octets(rt, "the server", name.as_slice(), expected);
-    assert_octets(rt, "its address", &glue.octets(), &[192, 0, 2, 1]);
-}
-
 #[test]
 fn reads_back_by_types(rt: HostRuntime) {
     let alloc = rt.alloc();
+    let zone = Name::vec_from_str(alloc, "example.com.").expect(&rt, "a name");
+    let server = Name::vec_from_str(alloc, "ns.example.com.").expect(&rt, "a name");
     let address = A::from_octets(192, 0, 2, 1);
-    assert_reported(&rt, alloc, address);
+    let (name, glue) = reported(alloc, zone, server, address).expect(&rt, "memory");
+    let expected = b"\x02ns\x07example\x03com\x00";
+    assert_octets(&rt, "the server", name.as_slice(), expected);
     let owner = Name::vec_from_str(alloc, "a.").expect(&rt, "a name");
-    let read = address_reported(alloc, owner, address).expect(&rt, "memory");
-    assert_octets(&rt, "the first address", &read.octets(), &[192, 0, 2, 1]);
-}
-
-#[test]
-fn leaves_nothing(rt: HostRuntime) {
-    let pushed = (Name::root_slice(), 60u32, A::from_octets(192, 0, 2, 1));
-    let builder = MessageBuilder::new_vec(rt.alloc()).expect(&rt, "memory");
-    let mut builder = builder.answer();
-    push_in_vain(&mut builder, pushed).expect(&rt, "memory");
-    assert_octets(&rt, "an empty message", builder.as_slice(), &[0; 12]);
+    let first = address_reported(alloc, owner, address).expect(&rt, "memory");
+    assert_holds(&rt, "addresses", glue == address && first == address);
 }

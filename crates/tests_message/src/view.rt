@@ -43,32 +43,53 @@ fn says_which_file_cannot_be_opened(rt: HostRuntime) {
     assert_eq!(rt; errors.as_slice(), expected.as_slice());
 }
 
+/// Fails unless `dnsview` with these arguments ends with status 3, and says this.
+fn assert_fails<R: Read, W: Write>(
+    rt: &impl Abort,
+    alloc: Global,
+    words: &[String],
+    input: &mut R,
+    output: &mut W,
+    expected: &[u8],
+) {
+    let mut errors = Vec::new(alloc);
+    let status = tool(alloc, words, input, output, &mut errors).expect(rt, "memory");
+    assert_eq!(rt; (status, errors.as_slice()), (3, expected));
+}
+
 #[test]
 fn says_that_reading_failed(rt: HostRuntime) {
-    let (mut output, mut errors) = (Vec::new(rt.alloc()), Vec::new(rt.alloc()));
-    let status = tool(rt.alloc(), &[], &mut Broken, &mut output, &mut errors).expect(&rt, "memory");
+    let alloc = rt.alloc();
+    let mut output = Vec::new(alloc);
     let expected = b"dnsview: reading failed: no \\195\\169\\027\\010\n";
-    assert_eq!(rt; status, 3);
-    assert_eq!(rt; errors.as_slice(), expected.as_slice());
+    assert_fails(&rt, alloc, &[], &mut Broken, &mut output, expected);
     assert!(rt; output.is_empty());
 }
 
-/// Fails unless a view that these arguments ask for says why it can't be printed.
-fn assert_printing_fails(rt: &impl Abort, alloc: Global, words: &[String]) {
-    let mut errors = Vec::new(alloc);
-    let mut input = b"000000000000000100000000".as_slice();
-    let status = tool(alloc, words, &mut input, &mut Broken, &mut errors).expect(rt, "memory");
-    let expected = b"dnsview: printing failed: no \\195\\169\\027\\010\n";
-    assert_eq!(rt; status, 3);
-    assert_eq!(rt; errors.as_slice(), expected.as_slice());
-}
-
+/// By the view without arguments, and by each other one.
 #[test]
 fn says_that_printing_failed(rt: HostRuntime) {
-    assert_printing_fails(&rt, rt.alloc(), &[]);
-    for word in ["--short", "--html", "--json", "--dig"] {
-        let word = String::from_str(rt.alloc(), word).expect(&rt, "memory");
-        assert_printing_fails(&rt, rt.alloc(), &[word]);
+    let alloc = rt.alloc();
+    let expected = b"dnsview: printing failed: no \\195\\169\\027\\010\n";
+    let digits = b"000000000000000100000000";
+    assert_fails(
+        &rt,
+        alloc,
+        &[],
+        &mut digits.as_slice(),
+        &mut Broken,
+        expected,
+    );
+    for view in ["--short", "--html", "--json", "--dig"] {
+        let word = [String::from_str(alloc, view).expect(&rt, "memory")];
+        assert_fails(
+            &rt,
+            alloc,
+            &word,
+            &mut digits.as_slice(),
+            &mut Broken,
+            expected,
+        );
     }
 }
 

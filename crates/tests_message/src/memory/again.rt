@@ -18,45 +18,32 @@ pub(crate) fn octets_before<R: Abort, T: Composer, S: BuilderStage>(
     Array::try_from(builder.as_slice()).expect(rt, "a capacity")
 }
 
-/// Whether a push failed with `OutOfMemory`, which is printed. Fails if it failed otherwise.
-pub(crate) fn is_refused<R: Abort + Print>(
-    rt: &R,
-    answer: Result<(), PushError>,
-    what: &str,
-) -> bool {
-    match answer {
-        Err(PushError::OutOfMemory) => {
-            println!(rt; "refused {what}").expect(rt, "standard output");
-            true
-        }
-        answer => {
-            answer.expect(rt, what);
-            false
-        }
-    }
+/// Whether a push failed with `OutOfMemory`.
+pub(crate) fn is_refused(answer: Result<(), PushError>) -> bool {
+    matches!(answer, Err(PushError::OutOfMemory))
 }
 
 /// Pushes a question, and does so again if an allocation failed.
-pub(crate) fn push_question<R: Abort + Print, T: Composer, Q: ComposeQuestion>(
+pub(crate) fn push_question<R: Abort, T: Composer, Q: ComposeQuestion>(
     rt: &R,
     builder: &mut QuestionBuilder<T>,
     question: &Q,
 ) {
     let before = octets_before(rt, builder);
-    if is_refused(rt, builder.push(question), "question") {
+    if is_refused(builder.push(question)) {
         assert_octets(rt, "refused call", builder.as_slice(), &before);
         builder.push(question).expect(rt, "question");
     }
 }
 
 /// Pushes a record, and does so again if an allocation failed.
-pub(crate) fn push_record<R: Abort + Print, T: Composer, S: RecordStage, D: ComposeRecord>(
+pub(crate) fn push_record<R: Abort, T: Composer, S: RecordStage, D: ComposeRecord>(
     rt: &R,
     builder: &mut Builder<T, S>,
     record: &D,
 ) {
     let before = octets_before(rt, builder);
-    if is_refused(rt, builder.push(record), "record") {
+    if is_refused(builder.push(record)) {
         assert_octets(rt, "refused call", builder.as_slice(), &before);
         builder.push(record).expect(rt, "record");
     }

@@ -9,7 +9,7 @@ use dns_message::name::{Name, ParsedName};
 use dns_message::question::Question;
 use dns_message::record::{Record, Ttl};
 use dns_message::target::StreamTarget;
-use dns_message::wire::{FlattenInto, OctetsFrom, Parser};
+use dns_message::wire::{AppendError, FlattenInto, OctetsFrom, Parser};
 use std::alloc::Global;
 use std::process::Abort;
 
@@ -23,9 +23,6 @@ const NAME: &[u8] = b"\x07Example\x03com\x00";
 /// The name as RDATA, after its length.
 const ALIAS: &[u8] = b"\x00\x0D\x07Example\x03com\x00";
 
-/// An option without data.
-const OPTION: &[u8; 4] = b"\x00\x03\x00\x00";
-
 /// The option as RDATA, after its length.
 const OPT: &[u8] = b"\x00\x04\x00\x03\x00\x00";
 
@@ -38,9 +35,9 @@ fn qname_of(rt: &impl Abort) -> ParsedName<'static> {
     ParsedName::parse(&mut Parser::new(QUESTION)).expect(rt, "a name")
 }
 
-/// The RDATA of an OPT record with the option.
+/// The RDATA of an OPT record with an option without data.
 fn opt_of(rt: &impl Abort) -> Opt<[u8; 4]> {
-    Opt::from_octets(*OPTION).expect(rt, "options")
+    Opt::from_octets([0, 3, 0, 0]).expect(rt, "options")
 }
 
 /// Fails unless RDATA is composed as these octets, after its length.
@@ -105,31 +102,34 @@ fn converts_and_flattens(rt: HostRuntime) {
     assert_octets(&rt, "name of a flat question", name, NAME);
 }
 
-/// A clone of opaque data with these octets.
-fn cloned_data(rt: &impl Abort, alloc: Global, octets: &[u8]) -> UnknownRecordData<Vec<u8>> {
-    let octets = octets.to_vec(alloc).expect(rt, "memory");
-    let data = UnknownRecordData::from_octets(Rtype::TXT, octets).expect(rt, "data");
-    data.clone().expect(rt, "memory")
-}
-
-/// A clone of an empty stream.
-fn cloned_stream(rt: &impl Abort, alloc: Global) -> StreamTarget<Vec<u8>> {
-    let stream = StreamTarget::new_vec(alloc).expect(rt, "memory");
-    stream.clone().expect(rt, "memory")
-}
-
 #[test]
 fn clones(rt: HostRuntime) {
     let alloc = rt.alloc();
-    let opaque = cloned_data(&rt, alloc, b"\x01a");
-    assert_octets(&rt, "opaque data", opaque.data().as_slice(), b"\x01a");
-    let stream = cloned_stream(&rt, alloc);
-    assert_octets(&rt, "stream", stream.as_stream_slice(), b"\x00\x00");
+    let octets = b"\x01a".to_vec(alloc).expect(&rt, "memory");
+    let opaque = UnknownRecordData::from_octets(Rtype::TXT, octets).expect(&rt, "data");
+    let clone = opaque.clone().expect(&rt, "memory");
+    assert_octets(&rt, "opaque data", clone.data().as_slice(), b"\x01a");
+    let stream = StreamTarget::new_vec(alloc).expect(&rt, "memory");
+    let clone = stream.clone().expect(&rt, "memory");
+    assert_octets(&rt, "stream", clone.as_stream_slice(), b"\x00\x00");
 }
 
 /// The question, and a CNAME record of the root, whose alias is for the root.
 const QUESTION_AND_RECORD: &[u8] =
     b"\x07Example\x03com\x00\x00\x05\x00\x01\x00\x00\x05\x00\x01\x00\x00\x00\x3C\x00\x01\x00";
+
+/// Fails unless all was composed, as these octets.
+fn assert_composed(
+    rt: &impl Abort,
+    composed: &[Result<(), AppendError>],
+    target: &[u8],
+    expected: &[u8],
+) {
+    for composed in composed {
+        composed.expect(rt, "memory");
+    }
+    assert_octets(rt, "composed octets", target, expected);
+}
 
 #[test]
 fn composes_a_question_and_a_record(rt: HostRuntime) {
@@ -137,47 +137,28 @@ fn composes_a_question_and_a_record(rt: HostRuntime) {
     let root = Name::root_slice();
     let record = Record::new(root, Class::IN, Ttl::MINUTE, Cname::new(root));
     let mut target = Vec::new(rt.alloc());
-    let composed = question.compose(&mut target);
-    composed.expect(&rt, "memory for the question");
-    let composed = record.compose(&mut target);
-    composed.expect(&rt, "memory for the record");
-    assert_octets(&rt, "octets", target.as_slice(), QUESTION_AND_RECORD);
+    let composed = [question.compose(&mut target), record.compose(&mut target)];
+    assert_composed(&rt, &composed, &target, QUESTION_AND_RECORD);
 }
 
-/// Fails unless the canonical form of RDATA has these octets.
-fn assert_canonical<D: ComposeRecordData>(
-    rt: &impl Abort,
-    alloc: Global,
-    row: &str,
-    data: &D,
-    expected: &[u8],
-) {
-    let mut target = Vec::new(alloc);
-    data.compose_canonical_rdata(&mut target).expect(rt, row);
-    assert_octets(rt, row, target.as_slice(), expected);
-}
+/// The canonical forms of an address, opaque data, OPT data, the start of a zone, and an alias after
+/// its length.
+const CANONICAL: &[u8] =
+    b"\x01\x02\x03\x04\x01A\x00\x03\x00\x00\x07example\x03com\x00\x07example\x03com\x00\x00\x00\x00\x01\x00\x00\x00\x02\x00\x00\x00\x03\x00\x00\x00\x04\x00\x00\x00\x05\x00\x0D\x07example\x03com\x00";
 
 #[test]
 fn composes_canonical_octets(rt: HostRuntime) {
-    let alloc = rt.alloc();
-    let address = A::from_octets(1, 2, 3, 4);
-    assert_canonical(&rt, alloc, "address", &address, &[1, 2, 3, 4]);
-    let opaque = UnknownRecordData::from_octets(Rtype::TXT, *b"\x01A").expect(&rt, "data");
-    assert_canonical(&rt, alloc, "opaque data", &opaque, b"\x01A");
-    assert_canonical(&rt, alloc, "OPT data", &opt_of(&rt), OPTION);
-}
-
-#[test]
-fn composes_canonical_names(rt: HostRuntime) {
-    let alloc = rt.alloc();
     let name = name_of(&rt);
+    let address = A::from_octets(1, 2, 3, 4);
+    let opaque = UnknownRecordData::from_octets(Rtype::TXT, *b"\x01A").expect(&rt, "data");
     let start = Soa::new(name, name, 1, 2, 3, 4, 5);
-    let expected =
-        b"\x07example\x03com\x00\x07example\x03com\x00\x00\x00\x00\x01\x00\x00\x00\x02\x00\x00\x00\x03\x00\x00\x00\x04\x00\x00\x00\x05";
-    assert_canonical(&rt, alloc, "start of a zone", &start, expected);
-    let mut target = Vec::new(alloc);
-    let composed = compose_canonical_len_rdata(&Cname::new(name), &mut target);
-    composed.expect(&rt, "memory");
-    let expected = b"\x00\x0D\x07example\x03com\x00";
-    assert_octets(&rt, "alias after its length", target.as_slice(), expected);
+    let mut target = Vec::new(rt.alloc());
+    let composed = [
+        address.compose_canonical_rdata(&mut target),
+        opaque.compose_canonical_rdata(&mut target),
+        opt_of(&rt).compose_canonical_rdata(&mut target),
+        start.compose_canonical_rdata(&mut target),
+        compose_canonical_len_rdata(&Cname::new(name), &mut target),
+    ];
+    assert_composed(&rt, &composed, &target, CANONICAL);
 }

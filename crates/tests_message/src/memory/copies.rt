@@ -22,7 +22,7 @@ fn keep_any(shown: ParsedRecord<'_>) -> Option<AnyRecord<'_>> {
 }
 
 /// Copies the records of a message into an empty one.
-fn copy<R: Abort + Print, T: Fresh>(
+fn copy<R: Abort, T: Fresh>(
     rt: &R,
     alloc: Global,
     source: &Message<&[u8]>,
@@ -31,11 +31,10 @@ fn copy<R: Abort + Print, T: Fresh>(
 }
 
 /// Fails unless the copy of all records of `SOURCE` has these octets.
-pub(crate) fn assert_copies<R: Abort + Print, T: Fresh>(rt: &R, alloc: Global, expected: &[u8]) {
+pub(crate) fn assert_copies<R: Abort, T: Fresh>(rt: &R, alloc: Global, expected: &[u8]) {
     let source = Message::from_slice(SOURCE).expect(rt, "a message");
     let copied: AdditionalBuilder<T> = match copy(rt, alloc, &source) {
         Err(CopyRecordsError::Push(PushError::OutOfMemory)) => {
-            println!(rt; "refused copy").expect(rt, "standard output");
             assert_octets(rt, "source", source.as_slice(), SOURCE);
             copy(rt, alloc, &source).expect(rt, "a copy")
         }

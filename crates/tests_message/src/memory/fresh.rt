@@ -66,12 +66,9 @@ fn start<T: Fresh>(alloc: Global) -> Result<MessageBuilder<T>, AppendError> {
 }
 
 /// A builder for an empty message. It is created again if an allocation failed.
-pub(crate) fn started<R: Abort + Print, T: Fresh>(rt: &R, alloc: Global) -> MessageBuilder<T> {
+pub(crate) fn started<R: Abort, T: Fresh>(rt: &R, alloc: Global) -> MessageBuilder<T> {
     match start(alloc) {
-        Err(AppendError::OutOfMemory) => {
-            println!(rt; "refused start").expect(rt, "standard output");
-            start(alloc).expect(rt, "memory")
-        }
+        Err(AppendError::OutOfMemory) => start(alloc).expect(rt, "memory"),
         answer => answer.expect(rt, "a builder"),
     }
 }

@@ -34,7 +34,7 @@ pub(crate) fn response_header(rcode: Rcode, is_authentic: bool) -> Header {
 }
 
 /// A builder at the answer section, with a header and a question.
-fn asked<R: Abort + Print, T: Fresh>(
+fn asked<R: Abort, T: Fresh>(
     rt: &R,
     alloc: Global,
     header: Header,
@@ -49,7 +49,7 @@ fn asked<R: Abort + Print, T: Fresh>(
 }
 
 /// Fails unless the message with this further record has these octets.
-fn assert_record<R: Abort + Print, T: Composer, S: RecordStage, D: ComposeRecord>(
+fn assert_record<R: Abort, T: Composer, S: RecordStage, D: ComposeRecord>(
     rt: &R,
     row: &str,
     mut builder: Builder<T, S>,
@@ -66,7 +66,7 @@ pub(crate) fn name_of<R: Abort, const N: usize>(rt: &R, octets: [u8; N]) -> Name
 }
 
 /// Checks a response with a question for example.com. and an address of it.
-pub(crate) fn assert_positive<R: Abort + Print, T: Fresh>(rt: &R, alloc: Global, expected: &[u8]) {
+pub(crate) fn assert_positive<R: Abort, T: Fresh>(rt: &R, alloc: Global, expected: &[u8]) {
     let address = A::from_octets(203, 0, 113, 1);
     let record = (name_of(rt, *EXAMPLE_COM), 3600, address);
     let header = response_header(Rcode::NOERROR, true);
@@ -84,7 +84,7 @@ fn soa<R: Abort>(rt: &R) -> Soa<Name<&'static [u8]>> {
 }
 
 /// Fails unless the message is `NEGATIVE_RESPONSE`, whose names share no suffix.
-pub(crate) fn assert_negative<R: Abort + Print, T: Fresh>(rt: &R, alloc: Global) {
+pub(crate) fn assert_negative<R: Abort, T: Fresh>(rt: &R, alloc: Global) {
     let record = (Name::root_slice(), 86_390, soa(rt));
     let header = response_header(Rcode::NXDOMAIN, false);
     let builder: AnswerBuilder<T> = asked(rt, alloc, header, b"\x07example\x00", Rtype::NS);
@@ -93,11 +93,7 @@ pub(crate) fn assert_negative<R: Abort + Print, T: Fresh>(rt: &R, alloc: Global)
 }
 
 /// Checks a response with an NS record of example.com. whose server is below example.com.
-pub(crate) fn assert_name_in_data<R: Abort + Print, T: Fresh>(
-    rt: &R,
-    alloc: Global,
-    expected: &[u8],
-) {
+pub(crate) fn assert_name_in_data<R: Abort, T: Fresh>(rt: &R, alloc: Global, expected: &[u8]) {
     let server = Ns::new(name_of(rt, *NS_EXAMPLE_COM));
     let record = (name_of(rt, *EXAMPLE_COM), 60, server);
     let builder: AnswerBuilder<T> = asked(rt, alloc, Header::new(), EXAMPLE_COM, Rtype::NS);

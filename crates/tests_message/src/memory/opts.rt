@@ -24,10 +24,10 @@ fn push_option<T: Composer>(
 }
 
 /// Fails unless the message with this option is `ONE_OPTION`.
-pub(crate) fn assert_option<R: Abort + Print, T: Fresh>(rt: &R, alloc: Global) {
+pub(crate) fn assert_option<R: Abort, T: Fresh>(rt: &R, alloc: Global) {
     let mut builder: AdditionalBuilder<T> = started(rt, alloc).additional();
     let before = octets_before(rt, &builder);
-    if is_refused(rt, push_option(alloc, &mut builder), "option") {
+    if is_refused(push_option(alloc, &mut builder)) {
         assert_octets(rt, "refused call", builder.as_slice(), &before);
         push_option(alloc, &mut builder).expect(rt, "option");
     }
@@ -35,7 +35,7 @@ pub(crate) fn assert_option<R: Abort + Print, T: Fresh>(rt: &R, alloc: Global) {
 }
 
 /// Checks that nothing changes if the closure returns an error, and that this error is returned.
-pub(crate) fn assert_error<R: Abort + Print, T: Fresh>(rt: &R, alloc: Global) {
+pub(crate) fn assert_error<R: Abort, T: Fresh>(rt: &R, alloc: Global) {
     let mut builder: AdditionalBuilder<T> = started(rt, alloc).additional();
     let answer = builder.opt(alloc, |opt| {
         opt.set_rcode(OptRcode::from(Rcode::NXDOMAIN));

@@ -9,13 +9,12 @@ use crate::memory::written::{COMPRESSED, PLAIN, Written};
 use dns_message::target::{
     Composer, FingerprintCompressor, HashCompressor, StaticCompressor, StreamTarget, TreeCompressor,
 };
-use dns_message::wire::AppendError;
 use std::alloc::Global;
 use std::process::Abort;
 
 /// Checks all messages that are pushed, copied, and built by lists of calls, with their names
 /// written this way.
-fn assert_messages<R: Abort + Print, T: Fresh>(rt: &R, alloc: Global, written: Written) {
+fn assert_messages<R: Abort, T: Fresh>(rt: &R, alloc: Global, written: Written) {
     assert_positive::<R, T>(rt, alloc, written.positive);
     assert_negative::<R, T>(rt, alloc);
     assert_name_in_data::<R, T>(rt, alloc, written.name_in_data);
@@ -27,55 +26,32 @@ fn assert_messages<R: Abort + Print, T: Fresh>(rt: &R, alloc: Global, written: W
 }
 
 #[test]
-fn over_a_vector(rt: HostRuntime) {
+fn over_plain_targets(rt: HostRuntime) {
     assert_messages::<HostRuntime, Vec<u8>>(&rt, rt.alloc(), PLAIN);
-}
-
-#[test]
-fn over_a_stream(rt: HostRuntime) {
     assert_messages::<HostRuntime, StreamTarget<Vec<u8>>>(&rt, rt.alloc(), PLAIN);
 }
 
 #[test]
-fn over_a_static_compressor(rt: HostRuntime) {
+fn over_static_compressors(rt: HostRuntime) {
+    type Streamed = StaticCompressor<StreamTarget<Vec<u8>>>;
     assert_messages::<HostRuntime, StaticCompressor<Vec<u8>>>(&rt, rt.alloc(), COMPRESSED);
+    assert_messages::<HostRuntime, Streamed>(&rt, rt.alloc(), COMPRESSED);
 }
 
 #[test]
-fn over_a_static_compressor_over_a_stream(rt: HostRuntime) {
-    type Target = StaticCompressor<StreamTarget<Vec<u8>>>;
-    assert_messages::<HostRuntime, Target>(&rt, rt.alloc(), COMPRESSED);
-}
-
-#[test]
-fn over_a_tree_compressor(rt: HostRuntime) {
+fn over_compressors_with_an_index(rt: HostRuntime) {
     assert_messages::<HostRuntime, TreeCompressor<Vec<u8>>>(&rt, rt.alloc(), COMPRESSED);
-}
-
-#[test]
-fn over_a_hash_compressor(rt: HostRuntime) {
     assert_messages::<HostRuntime, HashCompressor<Vec<u8>>>(&rt, rt.alloc(), COMPRESSED);
-}
-
-#[test]
-fn over_an_index_compressor(rt: HostRuntime) {
     assert_messages::<HostRuntime, FingerprintCompressor<Vec<u8>>>(&rt, rt.alloc(), COMPRESSED);
-}
-
-/// A target with these octets alone.
-fn target_of(alloc: Global, octets: &[u8]) -> Result<Vec<u8>, AppendError> {
-    let mut target = Vec::new(alloc);
-    target.append_slice(octets)?;
-    Ok(target)
 }
 
 /// The first octets of a `Vec` without a capacity.
 #[test]
 fn takes_what_it_needs_where_more_is_refused(rt: HostRuntime) {
-    let alloc = rt.alloc();
     let octets = b"\x01a\x00";
-    let target = target_of(alloc, octets).expect(&rt, "memory");
+    let mut target = Vec::new(rt.alloc());
+    target.append_slice(octets).expect(&rt, "memory");
+    let stream = StreamTarget::new_vec(rt.alloc()).expect(&rt, "memory");
     assert_octets(&rt, "first octets", &target, octets);
-    let stream = StreamTarget::new_vec(alloc).expect(&rt, "memory");
     assert_octets(&rt, "stream", stream.as_stream_slice(), b"\x00\x00");
 }

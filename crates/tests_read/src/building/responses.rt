@@ -1,8 +1,11 @@
 //! Responses that are started from a query, with an OPT record (RFC 6891 section 6.1).
-use crate::asserts::{assert_octets, message_of};
+use crate::asserts::{assert_holds, assert_octets, message_of};
 use crate::building::asserts::over;
 use arrayvec::ArrayVec;
+use dns_build::PushError;
 use dns_code::Rcode;
+use dns_data::A;
+use dns_wire::Name;
 
 /// A query for the A records of the root: ID 0x1234, RD and CD, and an OPT record of version 0 with
 /// DO and a UDP payload size of 4,096 octets.
@@ -13,6 +16,10 @@ static QUERY: &[u8] =
 static VERSION_1: &[u8] =
     b"\x12\x34\x01\x10\x00\x01\x00\x00\x00\x00\x00\x01\x00\x00\x01\x00\x01\x00\x00\x29\x10\x00\x00\x01\x80\x00\x00\x00";
 
+/// The query with its OPT record twice.
+static TWO_OPTS: &[u8] =
+    b"\x12\x34\x01\x10\x00\x01\x00\x00\x00\x00\x00\x02\x00\x00\x01\x00\x01\x00\x00\x29\x10\x00\x00\x00\x80\x00\x00\x00\x00\x00\x29\x10\x00\x00\x00\x80\x00\x00\x00";
+
 /// QR, RD and CD, the rcode 0, and an OPT record of version 0 with DO and a UDP payload size of
 /// 1,232 octets.
 static RESPONSE: &[u8] =
@@ -22,9 +29,18 @@ static RESPONSE: &[u8] =
 static BADVERS: &[u8] =
     b"\x12\x34\x81\x10\x00\x01\x00\x00\x00\x00\x00\x01\x00\x00\x01\x00\x01\x00\x00\x29\x04\xD0\x01\x00\x80\x00\x00\x00";
 
+/// The response with FORMERR, which is 1 (RFC 6891 section 6.1.1).
+static FORMERR: &[u8] =
+    b"\x12\x34\x81\x11\x00\x01\x00\x00\x00\x00\x00\x01\x00\x00\x01\x00\x01\x00\x00\x29\x04\xD0\x00\x00\x80\x00\x00\x00";
+
+/// The response with TC and an address of the root.
+static TRUNCATED: &[u8] =
+    b"\x12\x34\x83\x10\x00\x01\x00\x01\x00\x00\x00\x01\x00\x00\x01\x00\x01\x00\x00\x01\x00\x01\x00\x00\x00\x3C\x00\x04\xC0\x00\x02\x01\x00\x00\x29\x04\xD0\x00\x00\x80\x00\x00\x00";
+
 #[test]
 fn responds_with_an_opt_record(rt: HostRuntime) {
-    for (query, expected) in [(QUERY, RESPONSE), (VERSION_1, BADVERS)] {
+    let rows = [(QUERY, RESPONSE), (VERSION_1, BADVERS), (TWO_OPTS, FORMERR)];
+    for (query, expected) in rows {
         let query = message_of(&rt, query);
         let builder = over(&rt, ArrayVec::<u8, 28>::new());
         let started = builder.respond(rt.alloc(), &query, Rcode::NOERROR);
@@ -36,4 +52,28 @@ fn responds_with_an_opt_record(rt: HostRuntime) {
         additional.push_reserved(reserved).expect(&rt, "room");
         assert_octets(&rt, "Response", additional.as_slice(), expected);
     }
+}
+
+/// 12 octets of header section, a question of five, an address of 15, and 11 octets that are
+/// reserved for the OPT record are 43 octets.
+#[test]
+fn an_opt_record_has_the_reserved_octets(rt: HostRuntime) {
+    let query = message_of(&rt, QUERY);
+    let builder = over(&rt, ArrayVec::<u8, 43>::new());
+    let started = builder.respond(rt.alloc(), &query, Rcode::NOERROR);
+    let (answer, opt) = started.expect(&rt, "capacity");
+    let mut opt = opt.expect(&rt, "an OPT record");
+    opt.set_udp_payload_size(1232);
+    let mut answer = answer.reserve(11).ok().expect(&rt, "capacity");
+    let set = [(Name::root_slice(), 60u32, A::from_octets(192, 0, 2, 1))];
+    answer.push_set(&set).expect(&rt, "capacity");
+    let refused = answer.push_set(&set).err();
+    let too_long = refused.map_or(false, PushError::is_too_long);
+    assert_holds(&rt, "A set in reserved octets", too_long);
+    let mut header = answer.as_builder().header();
+    header.set_tc(true);
+    answer.set_header(header);
+    let pushed = answer.authority().additional().push_opt(&opt).ok();
+    let additional = pushed.expect(&rt, "reserved");
+    assert_octets(&rt, "Response", additional.as_slice(), TRUNCATED);
 }
