@@ -18,7 +18,7 @@ static uint8_t addresses[OWNERS][4];
 static dnsm_new_item texts[1 + OWNERS];
 static dnsm_put_item signatures[SIGNATURES];
 static uint8_t out[ROOM];
-static struct input w2, m40, q1, f64, h64, h64b, p64;
+static struct input w2, m40, q1, f64, h64, h64b, p64, x1, x2500;
 
 /* The question of w2 as a query. */
 static uint8_t query[W2_QUESTION];
@@ -174,6 +174,8 @@ void prepare(void)
     h64 = load_input("h64");
     h64b = load_input("h64b");
     p64 = load_input("p64");
+    x1 = load_input("x1");
+    x2500 = load_input("x2500");
     make_query(query, &w2);
     for (int i = 0; i < OWNERS; i++) {
         char text[32];
@@ -343,6 +345,32 @@ static size_t write_query(void)
     return dnsm_query(1, true, www.text, www.text_len, 1, 1, out, sizeof out, &len) == DNSM_OK ? len : 0;
 }
 
+/* Takes a message of a transfer. Returns how many records are added, or a number that no message has on failure. */
+static size_t take_message(dnsm_transfer *transfer, const struct input *from)
+{
+    dnsm_cursor cursor;
+    dnsm_step step;
+    size_t added = 0;
+    dnsm_status status = dnsm_open_transfer(transfer, from->octets, from->len, &cursor);
+    while (status == DNSM_OK && (status = dnsm_next_step(transfer, from->octets, from->len, &cursor, &step)) == DNSM_OK)
+        added += step.kind == DNSM_STEP_ADD;
+    return status == DNSM_END ? added : SIZE_MAX / 2 / TRANSFERRED;
+}
+
+/* Takes the messages of a transfer. Returns how many records are added. */
+static size_t transfer(void)
+{
+    static const uint8_t zone[] = "\3sub\7example\3com";
+    dnsm_transfer begun;
+    if (dnsm_begin_transfer(&begun, 0x1234, zone, sizeof zone, DNSM_CLASS_IN, false, 0) != DNSM_OK)
+        return 0;
+    size_t added = take_message(&begun, &x1);
+    for (int i = 0; i < TRANSFERRED; i++)
+        added += take_message(&begun, &x2500);
+    added += take_message(&begun, &x1);
+    return dnsm_end_transfer(&begun) == DNSM_OK ? added : 0;
+}
+
 const struct task tasks[] = {
     {"20 addresses", "dnsm_put", .one = put_addresses},
     {"20 addresses", "dnsm_put, unchecked", .one = put_unchecked},
@@ -366,6 +394,7 @@ const struct task tasks[] = {
     {"h64b is regular", "dnsm_is_regular", .one = judge_h64b},
     {"p64 isn't regular", "dnsm_is_regular", .one = judge_p64},
     {"w2 as a reply", "dnsm_reply", .one = take_reply},
+    {"a transfer of 100,000 records", "dnsm_next_step", .one = transfer},
     {"owners of w2", "dnsm_name_octets", .one = read_names},
     {"addresses of w2", "dnsm_next", .one = read_addresses},
     {"texts of w2", "dnsm_name_text and others", .one = read_texts},

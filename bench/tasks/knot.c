@@ -247,6 +247,21 @@ static size_t respond(void)
                : 0;
 }
 
+/* A response of 20 addresses to q1, and an OPT record, of at most 1,232 octets. */
+static size_t respond_with_all(void)
+{
+    pool_used = 0;
+    const knot_pkt_t *query = read_packet(q1.octets, q1.len);
+    knot_pkt_t *response = knot_pkt_new(out, 1232, &memory);
+    knot_rrset_t opt;
+    if (!query || knot_edns_init(&opt, 1232, 0, 0, &memory) != KNOT_EOK || knot_pkt_init_response(response, query) != KNOT_EOK ||
+        knot_pkt_reserve(response, knot_edns_wire_size(&opt)) != KNOT_EOK || knot_pkt_begin(response, KNOT_ANSWER) != KNOT_EOK ||
+        knot_pkt_put(response, KNOT_COMPR_HINT_QNAME, &all_addresses, 0) != KNOT_EOK ||
+        knot_pkt_begin(response, KNOT_ADDITIONAL) != KNOT_EOK || knot_pkt_reclaim(response, knot_edns_wire_size(&opt)) != KNOT_EOK)
+        return 0;
+    return knot_pkt_put(response, KNOT_COMPR_HINT_NONE, &opt, 0) == KNOT_EOK ? response->size : 0;
+}
+
 const struct task tasks[] = {
     {"20 addresses", "knot_pkt_put, QNAME hint", .one = write_hinted},
     {"20 addresses", "knot_pkt_put, no hint", .one = write_addresses},
@@ -255,6 +270,7 @@ const struct task tasks[] = {
     {"20 RRSIG of m40", "knot_pkt_put, QNAME hint", .one = write_signatures},
     {"query", "knot_pkt_put_question", .one = write_query},
     {"response to q1", "knot_pkt_init_response, knot_pkt_put", .one = respond},
+    {"20 addresses for q1", "knot_pkt_init_response, knot_pkt_put of one RRset", .one = respond_with_all},
     {"w2 written again", "knot_pkt_put, no hint", .one = put_from},
     {"items of w2", "knot_pkt_parse", .one = read_items},
     {"items of f64", "knot_pkt_parse", .one = read_f64},

@@ -84,19 +84,16 @@ fn message<T: Composer>(kind: Kind, target: T, names: &[Name<&[u8]>]) -> Result<
 
 /// Writes all messages with one target, which the builder empties before each.
 fn write_kept<T: Composer>(
-    alloc: Global,
     kind: Kind,
     mut target: T,
-    work: &Work<'_>,
+    names: &[Name<&[u8]>],
+    rounds: usize,
     out: &mut [u8],
 ) -> usize
     ensures { HandsOut out.old out.new result }
 {
-    let Some(names) = flat_names(alloc, work.names) else {
-        return 0;
-    };
-    for _ in 0..work.rounds {
-        target = match message(kind, target, names.as_slice()) {
+    for _ in 0..rounds {
+        target = match message(kind, target, names) {
             Ok(kept) => kept,
             Err(_) => return 0,
         };
@@ -106,19 +103,16 @@ fn write_kept<T: Composer>(
 
 /// Like `write_kept`, but each builder borrows the target.
 fn write_lent<T: Composer>(
-    alloc: Global,
     kind: Kind,
     mut target: T,
-    work: &Work<'_>,
+    names: &[Name<&[u8]>],
+    rounds: usize,
     out: &mut [u8],
 ) -> usize
     ensures { HandsOut out.old out.new result }
 {
-    let Some(names) = flat_names(alloc, work.names) else {
-        return 0;
-    };
-    for _ in 0..work.rounds {
-        if message(kind, &mut target, names.as_slice()).is_err() {
+    for _ in 0..rounds {
+        if message(kind, &mut target, names).is_err() {
             return 0;
         }
     }
@@ -127,21 +121,18 @@ fn write_lent<T: Composer>(
 
 /// Writes each message with a new target.
 fn write_fresh<T: Composer, F: Fn() -> T>(
-    alloc: Global,
     kind: Kind,
     new_target: F,
-    work: &Work<'_>,
+    names: &[Name<&[u8]>],
+    rounds: usize,
     out: &mut [u8],
 ) -> usize
     requires { F.IsAlwaysCallable new_target }
     ensures { HandsOut out.old out.new result }
 {
-    let Some(names) = flat_names(alloc, work.names) else {
-        return 0;
-    };
     let mut len = 0;
-    for _ in 0..work.rounds {
-        len = match message(kind, new_target(), names.as_slice()) {
+    for _ in 0..rounds {
+        len = match message(kind, new_target(), names) {
             Ok(target) => hand_out(target.as_slice(), out),
             Err(_) => return 0,
         };
@@ -151,22 +142,19 @@ fn write_fresh<T: Composer, F: Fn() -> T>(
 
 /// Like `write_fresh`, but each builder borrows its target.
 fn write_fresh_lent<T: Composer, F: Fn() -> T>(
-    alloc: Global,
     kind: Kind,
     new_target: F,
-    work: &Work<'_>,
+    names: &[Name<&[u8]>],
+    rounds: usize,
     out: &mut [u8],
 ) -> usize
     requires { F.IsAlwaysCallable new_target }
     ensures { HandsOut out.old out.new result }
 {
-    let Some(names) = flat_names(alloc, work.names) else {
-        return 0;
-    };
     let mut len = 0;
-    for _ in 0..work.rounds {
+    for _ in 0..rounds {
         let mut target = new_target();
-        if message(kind, &mut target, names.as_slice()).is_err() {
+        if message(kind, &mut target, names).is_err() {
             return 0;
         }
         len = hand_out(target.as_slice(), out);
@@ -184,24 +172,60 @@ pub(crate) fn write_with(
 ) -> usize
     ensures { HandsOut out.old out.new result }
 {
+    match flat_names(alloc, work.names) {
+        Some(names) => write_to(alloc, kind, target, &names, work.rounds, out),
+        None => 0,
+    }
+}
+
+/// Writes the messages of these names.
+fn write_to(
+    alloc: Global,
+    kind: Kind,
+    target: u32,
+    names: &[Name<&[u8]>],
+    rounds: usize,
+    out: &mut [u8],
+) -> usize
+    ensures { HandsOut out.old out.new result }
+{
     let octets = || Vec::new(alloc);
     match target {
-        0 => write_kept(alloc, kind, octets(), work, out),
-        1 => write_kept(alloc, kind, StaticCompressor::new(octets()), work, out),
-        2 => write_kept(alloc, kind, TreeCompressor::new(alloc, octets()), work, out),
-        3 => write_kept(alloc, kind, HashCompressor::new(alloc, octets()), work, out),
+        0 => write_kept(kind, octets(), names, rounds, out),
+        1 => write_kept(kind, StaticCompressor::new(octets()), names, rounds, out),
+        2 => write_kept(
+            kind,
+            TreeCompressor::new(alloc, octets()),
+            names,
+            rounds,
+            out,
+        ),
+        3 => write_kept(
+            kind,
+            HashCompressor::new(alloc, octets()),
+            names,
+            rounds,
+            out,
+        ),
         4 => {
             let index = FingerprintCompressor::new(alloc, octets());
-            write_kept(alloc, kind, index, work, out)
+            write_kept(kind, index, names, rounds, out)
         }
-        _ => write_otherwise(alloc, kind, target, work, out),
+        _ => write_otherwise(alloc, kind, target, names, rounds, out),
     }
 }
 
 /// Writes the messages with a target of number 5 or above: the five targets in the same order, new
 /// for each message; a static and a fingerprint compressor that are borrowed; new static compressors
 /// over an array and over a `Vec` that are borrowed.
-fn write_otherwise(alloc: Global, kind: Kind, target: u32, work: &Work<'_>, out: &mut [u8]) -> usize
+fn write_otherwise(
+    alloc: Global,
+    kind: Kind,
+    target: u32,
+    names: &[Name<&[u8]>],
+    rounds: usize,
+    out: &mut [u8],
+) -> usize
     ensures { HandsOut out.old out.new result }
 {
     let octets = || Vec::new(alloc);
@@ -211,15 +235,15 @@ fn write_otherwise(alloc: Global, kind: Kind, target: u32, work: &Work<'_>, out:
     let index = || FingerprintCompressor::new(alloc, octets());
     let array = || StaticCompressor::new(ArrayVec::<u8, 512>::new());
     match target {
-        5 => write_fresh(alloc, kind, octets, work, out),
-        6 => write_fresh(alloc, kind, fixed, work, out),
-        7 => write_fresh(alloc, kind, tree, work, out),
-        8 => write_fresh(alloc, kind, hash, work, out),
-        9 => write_fresh(alloc, kind, index, work, out),
-        10 => write_lent(alloc, kind, fixed(), work, out),
-        11 => write_lent(alloc, kind, index(), work, out),
-        12 => write_fresh_lent(alloc, kind, array, work, out),
-        13 => write_fresh_lent(alloc, kind, fixed, work, out),
+        5 => write_fresh(kind, octets, names, rounds, out),
+        6 => write_fresh(kind, fixed, names, rounds, out),
+        7 => write_fresh(kind, tree, names, rounds, out),
+        8 => write_fresh(kind, hash, names, rounds, out),
+        9 => write_fresh(kind, index, names, rounds, out),
+        10 => write_lent(kind, fixed(), names, rounds, out),
+        11 => write_lent(kind, index(), names, rounds, out),
+        12 => write_fresh_lent(kind, array, names, rounds, out),
+        13 => write_fresh_lent(kind, fixed, names, rounds, out),
         _ => 0,
     }
 }

@@ -1,10 +1,12 @@
 //! Exports for C code that measures times of tasks with responses and with records as text: replies
-//! judged, messages printed as JSON, streams and transfers read, records read and printed. A function
-//! that more code calls is less often put in line, so they have a library of their own beside `bench`.
+//! judged, messages printed as JSON, streams and transfers read, responses written that fit, records
+//! read and printed. A function that more code calls is less often put in line, so they have a
+//! library of their own beside `bench`.
 //!
 //! Each does its task `rounds` times, or with `times` messages. On failure its result is 0.
 #![tactic(auto)]
 
+mod fitting;
 mod responses;
 mod texts;
 
@@ -34,6 +36,13 @@ pub extern "C" fn dns_bench_stream(alloc: Global, octets: &[u8], rounds: usize) 
 #[unsafe(no_mangle)]
 pub extern "C" fn dns_bench_transfer(soa: &[u8], records: &[u8], times: usize) -> usize {
     responses::transfer(soa, records, times).unwrap_or(0)
+}
+
+/// Writes a response of 20 addresses to a query, `rounds` times. Returns its length, or 0 if the
+/// octets are no query, an allocation fails, or the addresses don't fit.
+#[unsafe(no_mangle)]
+pub extern "C" fn dns_bench_fit(alloc: Global, query: &[u8], rounds: usize) -> usize {
+    fitting::respond(alloc, query, rounds).unwrap_or(0)
 }
 
 /// Reads a record of its line, `rounds` times. Returns the length of the line, or 0 on failure.
