@@ -18,10 +18,15 @@ pub use Rattle.dns_build.specs.CopyRecords.CopiesSection.{unstarted, started}
 pub use Rattle.dns_build.specs.CopyRecords.CopiesSections.{none, stopped, copied}
 pub use Rattle.dns_build.specs.KeptRecords.{with_copies, Keeps, KeepsSection, KeepsAll}
 pub use Rattle.dns_build.specs.KeptRecords.Keeps.{none, dropped, kept}
+-- sets of records, octets that are left free, and responses that fit a limit
+pub use Rattle.dns_build.specs.Sets.{AllFit, ReturnsAfter, SetIsRefused, SetReturns}
+pub use Rattle.dns_build.specs.Reserved.{PushLeaving, Reserving, SetLeaving, builder_in, reserve_result}
+pub use Rattle.dns_build.specs.Fitting.{FitsSet, MissesRequired, RecordSet, fit_set, fit_sets, fitting, goes_in, is_short, is_within, left_out, with_truncation}
 -- OPT records
 pub use Rattle.dns_build.specs.Opt.{opt_record, with_opt, with_rcode, PushesOptRecord, Gathers, OptReturns, PushesOpt}
 pub use Rattle.dns_build.specs.ReservedOpt.{Reservation, reservation, limit_without, limit_left}
 pub use Rattle.dns_build.specs.OptReading.{said, HasNoOpt}
+pub use Rattle.dns_build.specs.Padding.{length_with_option, most_padded, padded, padded_length, stays_unpadded}
 pub use Rattle.dns_edns_builder.specs.Gathered.{Gathered, gathered, nothing_gathered, option_octets, opt_size, with_extended_rcode}
 pub use Rattle.dns_edns_builder.specs.Additions.{Adds}
 pub use Rattle.dns_edns.specs.KnownOptions.{nsid_option, dau_option, dhu_option, n3u_option, client_subnet_option, expire_option, cookie_option, IsServerCookie}
@@ -32,3 +37,4 @@ pub use Rattle.dns_build.specs.KnownByState.{BuildersAreKnown, RewindsLeaveNothi
 pub use Rattle.dns_build.specs.TypedReading.{PushedRecordsAreEncoded, TypedRecordsReadBack, TypedRecordsInReadBack, AnyRecordsReadBack, ToRecordReadsBack, ToAnyRecordReadsBack}
 pub use Rattle.dns_build.specs.OptReading.{OptsReadBack}
 pub use Rattle.dns_build.specs.ReservedOpt.{OptsAddTheirSize}
+pub use Rattle.dns_build.specs.Fitting.{SetsAreFitted}

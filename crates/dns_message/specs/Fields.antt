@@ -42,3 +42,8 @@ pub use Rattle.fields_values.specs.NewValues.{IsTaken, IsValueOf, takes}
 pub use Rattle.fields_values.specs.ValueData.{AreValuesOf, HasWrongKind, HoldsFirstAt, IsErrorOf, IsOutOfRange, IsTakenBy, MakesData, MakesParts}
 pub use Rattle.fields_values.specs.Named.{IsSplit, MakesNamed, MakesText}
 pub use Rattle.fields_values.specs.ReadBack.{ReadsBack}
+-- values that an RFC rules out, and lines as people write them
+pub use Rattle.fields_checks.specs.Checks.{ChecksValues, reason_of, values_of}
+pub use Rattle.fields_lines.specs.Durations.{duration}
+pub use Rattle.fields_lines.specs.Heads.{begins_with_owner}
+pub use Rattle.fields_lines.specs.Lines.{HasProblem, HasWords, IsLine, IsNoRecord, IsRecordOf, ReadsLine}

@@ -87,7 +87,8 @@ pub mod message {
 pub mod edit {
     pub use dns_edit::{
         EditError, OtherName, TtlChange, age_ttls, cap_ttls, change_ttls, is_regular, laws,
-        min_ttl, records_end, remove_opt, replace_option, set_id, set_question_case, set_rcode,
+        map_ttls, min_ttl, records_end, remove_opt, replace_option, set_id, set_question_case,
+        set_rcode,
     };
     pub use dns_regular::laws as built_laws;
 }
@@ -317,7 +318,15 @@ pub mod data {
 /// ];
 /// from_values(alloc, Rtype::CSYNC, &values)
 /// ```
+///
+/// `read_line` reads a line of a zone file, which may leave out what `Defaults` has. `check_values`
+/// finds values that an RFC rules out in well-formed RDATA.
 pub mod fields {
+    pub use fields_checks::{CheckError, ValueReason, check_values, laws as check_laws};
+    pub use fields_lines::{
+        Defaults, LineError, WordReason, begins_with_owner, laws as line_laws, read_duration,
+        read_line,
+    };
     pub use fields_lists::{AddressPrefix, AddressPrefixes, Strings, TypeMap, Types};
     pub use fields_parameters::{Parameter, Parameters};
     pub use fields_plain::{ClassName, TypeName, ZoneName};
