@@ -272,7 +272,7 @@ static size_t judge(const struct input *from, bool expected)
 
 static size_t judge_w2(void) { return judge(&w2, true); }
 static size_t judge_f64(void) { return judge(&f64, true); }
-static size_t judge_h64b(void) { return judge(&h64b, true); }
+static size_t judge_h64b(void) { return judge(&h64b, false); }
 static size_t judge_p64(void) { return judge(&p64, false); }
 
 /* What w2 says as a reply, for a server that resolves. */
@@ -391,7 +391,7 @@ const struct task tasks[] = {
     {"items of p64", "dnsm_next", .one = read_p64},
     {"w2 is regular", "dnsm_is_regular", .one = judge_w2},
     {"f64 is regular", "dnsm_is_regular", .one = judge_f64},
-    {"h64b is regular", "dnsm_is_regular", .one = judge_h64b},
+    {"h64b isn't regular", "dnsm_is_regular", .one = judge_h64b},
     {"p64 isn't regular", "dnsm_is_regular", .one = judge_p64},
     {"w2 as a reply", "dnsm_reply", .one = take_reply},
     {"a transfer of 100,000 records", "dnsm_next_step", .one = transfer},
