@@ -14,7 +14,7 @@ use Rattle.dns_build.specs.CopyRecords.CopiesSection.{started, unstarted}
 use Rattle.dns_build.specs.CopyRecords.CopiesSections.{none as no_section, copied as section_copied, stopped}
 use Rattle.dns_build.specs.KeptRecords.{with_copies, Keeps, KeepsSection, KeepsAll}
 use Rattle.dns_build.specs.KeptRecords.Keeps.{none, dropped, kept}
-use Rattle.dns_build.specs.State.{InAnswer, InAuthority, InAdditional, Stage, State, stage_of, with_record, with_records, move_to}
+use Rattle.dns_build.specs.State.{InAuthority, InAdditional, Stage, State, stage_of, with_records, move_to}
 use Rattle.dns_build.proofs.theory.RecordLists.{no_records, one_more}
 use Rattle.dns_build.specs.BuilderStates.{Built, Represents}
 use Rattle.dns_build.specs.declared.copy_records_error.CopyRecordsError.{CopyRecordsError}

@@ -3,6 +3,7 @@ mod Messages
 mod Sections
 mod Moves
 mod Steps
+mod StartLemmas
 mod SomeState
 mod OptLemmas
 mod OptReading

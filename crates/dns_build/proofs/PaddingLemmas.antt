@@ -5,7 +5,7 @@ use Rattle.std.proofs.lemmas.Bool.{cond-false, ltb-false, or_parts}
 use Rattle.std.proofs.lemmas.Grind.{flat_map-append}
 use Rattle.std.proofs.lemmas.List.{length-replicate}
 use Rattle.std.specs.Coded.{coded_ℕ}
-use Rattle.std.specs.Prelude.{◌==◌, Err, IfErr, OnOk, Result, nat_lt}
+use Rattle.std.specs.Prelude.{◌==◌, Err, IfErr, IsTrue, OnErr, OnOk, Result, nat_lt}
 use base.Stored.{Coded-set}
 use Rattle.dns_wire.specs.Encoders.{Rule}
 use Rattle.dns_wire.specs.Targets.{Written}
@@ -16,11 +16,13 @@ use Rattle.dns_edns_builder.specs.Gathered.{Gathered, gathered, opt_size}
 use Rattle.dns_edns_builder.specs.declared.builder.OptBuilder.{OptBuilder}
 use Rattle.dns_octets.specs.declared.error.AppendError.{AppendError}
 use Rattle.dns_octets.specs.declared.error.AppendError.TheVariants.{OutOfMemory, ShortBuf}
-use Rattle.dns_build.specs.BuilderStates.{Built, InEach, RepresentsSome}
+use Rattle.dns_build.specs.BuilderStates.{Built, InEach, RepresentsSome, size_after}
 use Rattle.dns_build.specs.Opt.{PushesOptRecord, opt_record, with_rcode}
 use Rattle.dns_build.specs.Padding.{length_with_option, most_padded, padded, padded_length, stays_unpadded}
 use Rattle.dns_build.specs.State.{InAdditional, State, with_record}
 use Rattle.dns_build.specs.declared.push_error.PushError.{PushError}
+use Rattle.dns_build.specs.declared.push_error.PushError.TheVariants.{OutOfMemory as out_of_memory}
+use Rattle.dns_build.proofs.ReservedLemmas.{grows-at}
 use Rattle.dns_build.proofs.ReservedOptLemmas.{opts_add_their_size}
 use Rattle.dns_build.proofs.theory.MessageSizes.{size_with_header}
 
@@ -67,6 +69,18 @@ opt_pushed capacity grows rule g old new some pushes =
     let c = opts_add_their_size rule g s in
     let d = ap (λ (w : Written). length w.octets) p.1.written in
     omega (arith, a, b, c, d))
+
+-- A push of an OPT record returns `OutOfMemory` only over a target that may allocate.
+pub opt_memory : (capacity : Option ℕ) (grows : Bool) (rule : Rule) (g : Gathered) (old new : Built) (result : Result (Unit {0}) PushError) → RepresentsSome InAdditional rule old
+    → InEach InAdditional rule old (λ s. PushesOptRecord capacity grows rule g s new result) → result ≡ Err out_of_memory → IsTrue grows
+opt_memory capacity grows rule g old new result some pushes =
+    grows-at capacity grows InAdditional rule old (λ s. s.limit) (size_after rule (with_record InAdditional (opt_record g))) (λ s. length s.additionals) result some
+    (λ s h. (pushes s h).outcome)
+
+-- what holds in any case holds if there is an error
+pub always_on_err : {T E P : Type 0} (r : Result T E) → P → OnErr r P
+always_on_err (Ok x) p = tt
+always_on_err (Err e) p = p
 
 -- The length of a message to which a padded OPT record was pushed.
 pub length_padded : (capacity : Option ℕ) (grows : Bool) (rule : Rule) (g : Gathered) (block limit : ℕ) (old new : Built) (result : Result (Unit {0}) PushError) → RepresentsSome InAdditional rule old

@@ -218,7 +218,8 @@ module _ (capacity : Option ℕ) (grows : Bool) (rule : Rule) (stage : Stage) (s
       let before : List RecordItem = end.0 in
       let last : RecordItem = end.1 in
       let out = fit before last [] end.2 in
-      let pushed : with_records stage (x ∷ xs) s ≡ with_record stage last (with_records stage before s) = ap (λ (ys : List RecordItem). with_records stage ys s) end.2 ∙ sym (with-more stage before last s) in
+      let pushed : with_records stage (x ∷ xs) s ≡ with_record stage last (with_records stage before s) =
+      ap (λ (ys : List RecordItem). with_records stage ys s) end.2 ∙ sym (with-more stage before last s) in
       let size = ap (λ (t : State). length (encode rule t).octets) pushed in
       let limit = with_records-limit stage before s in
       let short = out.1 in

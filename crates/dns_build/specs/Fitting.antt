@@ -1,9 +1,9 @@
 -- Responses that fit a limit: a set of records goes in whole, or is left out, and TC says whether a required one is missing. RFC 2181 section 9.
-use Rattle.std.specs.Prelude.{◌≡◌, ◌↔◌, ℕ, ◌+◌, ◌-◌, Bool, true, false, not, ◌&&◌, ◌||◌, IsTrue, nat_le, if◌then◌else◌, List, [], ◌∷◌, ◌++◌, length}
+use Rattle.std.specs.Prelude.{◌≡◌, ◌↔◌, ◌⊎◌, ℕ, ◌+◌, ◌-◌, Bool, true, false, not, ◌&&◌, ◌||◌, IsTrue, nat_le, if◌then◌else◌, List, [], ◌∷◌, ◌++◌, length}
 use Rattle.std.specs.Prelude.{Option, None, Some, Result, OnOk, OnErr, IfOk}
 use Rattle.dns_wire.specs.Encoders.{Rule}
 use Rattle.dns_item.specs.Items.{RecordItem}
-use Rattle.dns_build.specs.State.{most_entries, records_at, Stage, State, with_header, with_limit, with_records}
+use Rattle.dns_build.specs.State.{InAnswer, InAuthority, InAdditional, most_entries, move_to, records_at, Stage, State, with_header, with_limit, with_records}
 use Rattle.dns_build.specs.BuilderStates.{Built, InEach, MovesState, size_after}
 
 -- sets or clears TC, and changes nothing else
@@ -63,9 +63,39 @@ module _ (capacity : Option ℕ) (rule : Rule) (stage : Stage) (reserved : ℕ) 
     pub failed : OnErr result (MovesState stage stage rule (left_out x.required) old new)
     pub memory : OnErr result (IsTrue grows)
 
--- A theorem over all lists of sets: TC is set exactly if a required one is missing, and a message that is short stays so.
+-- the sets of a response, by section
+pub record ResponseSets : Type 0 where
+  pub answers : List RecordSet
+  pub authorities : List RecordSet
+  pub additionals : List RecordSet
+
+-- Fitting the sets of a response, section by section, onto the state `s` at the answer section.
+module _ (capacity : Option ℕ) (rule : Rule) (reserved : ℕ) (x : ResponseSets) (s : State) where
+  -- after the sets of the answer section, at the authority section
+  abbrev pub answers_fitted : State
+  answers_fitted = move_to InAuthority (fit_sets capacity rule InAnswer reserved x.answers s)
+
+  -- after those of the authority section too, at the additional section
+  abbrev pub authorities_fitted : State
+  authorities_fitted = move_to InAdditional (fit_sets capacity rule InAuthority reserved x.authorities answers_fitted)
+
+  -- after all sets
+  abbrev pub response_fitted : State
+  response_fitted = fit_sets capacity rule InAdditional reserved x.additionals authorities_fitted
+
+  -- a required set of one of the sections doesn't go in
+  abbrev pub MissesAnyRequired : Type 0
+  MissesAnyRequired =
+      MissesRequired capacity rule InAnswer reserved x.answers s
+      ⊎ (MissesRequired capacity rule InAuthority reserved x.authorities answers_fitted ⊎ MissesRequired capacity rule InAdditional reserved x.additionals authorities_fitted)
+
+-- A theorem over all lists of sets: TC is set exactly if a required one is missing, of one section or of a response, and once it is set no set goes in. A message that is short stays so.
 pub record SetsAreFitted : Type 0 where
   pub truncated : (capacity : Option ℕ) (rule : Rule) (stage : Stage) (reserved : ℕ) (xs : List RecordSet) (s : State) → s.header.tc ≡ false
       → IsTrue (fit_sets capacity rule stage reserved xs s).header.tc ↔ MissesRequired capacity rule stage reserved xs s
+  pub kept : (capacity : Option ℕ) (rule : Rule) (stage : Stage) (reserved : ℕ) (xs : List RecordSet) (s : State) → IsTrue s.header.tc
+      → fit_sets capacity rule stage reserved xs s ≡ s
+  pub response : (capacity : Option ℕ) (rule : Rule) (reserved : ℕ) (x : ResponseSets) (s : State) → s.header.tc ≡ false
+      → IsTrue (response_fitted capacity rule reserved x s).header.tc ↔ MissesAnyRequired capacity rule reserved x s
   pub short : (capacity : Option ℕ) (rule : Rule) (stage : Stage) (reserved : ℕ) (xs : List RecordSet) (s : State) → IsTrue (is_short capacity rule stage reserved s)
       → IsTrue (is_short capacity rule stage reserved (fit_sets capacity rule stage reserved xs s))

@@ -10,7 +10,7 @@ most_padded limit = min limit 65535
 
 -- Padding to blocks of `block` octets a message that has n octets with its OPT record. The padding option takes four octets besides its zeros (RFC 7830 section 3).
 module _ (block limit n : ℕ) where
-  -- no option is added if a block has no octets, or if there is no room for the four octets
+  -- no option is added if a block has no octets, or if the most octets don't allow the four octets
   abbrev pub stays_unpadded : Bool
   stays_unpadded = (block == 0) || nat_lt (most_padded limit) (n + 4)
 

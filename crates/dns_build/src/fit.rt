@@ -1,5 +1,5 @@
-//! Responses that fit a limit: sets of records that don't fit are left out whole, and TC is set if a
-//! required one is missing (RFC 2181 section 9).
+//! Responses that fit a limit: sets of records that don't fit are left out whole, and TC is set if
+//! a required one is missing (RFC 2181 section 9).
 ghost use Rattle.std.specs.Prelude.{◌≡◌, ◌+◌, IfErr, IfOk, length, map, true, false};
 ghost use Rattle.dns_build.specs.BuilderStates.{MovesState, PushReturns};
 ghost use Rattle.dns_build.specs.Reserved.{reserve_result};
@@ -15,7 +15,8 @@ use std::alloc::AllocError;
 
 impl<T: Composer, S: BuilderStage> Builder<T, S> {
     /// Starts a response of at most `limit` octets, of which `reserved` are left free for records
-    /// that go in in any case, as OPT. `push_required` and `push_optional` push the others.
+    /// that go in in any case, as OPT. `push_required` and `push_optional` push the others. Call it
+    /// at the answer section or after it: at an earlier stage a `ReservedBuilder` has no pushes.
     ///
     /// Sets the push limit, lowers it by the reserved octets until `release`, and clears TC.
     ///

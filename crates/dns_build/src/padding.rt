@@ -16,10 +16,11 @@ use dns_wire::{Composer, MAX_OCTETS};
 impl<T: Composer> Builder<T, AtAdditional> {
     /// Adds the padding option to `opt`, and appends the OPT record as `push_opt` does. The message
     /// then has a multiple of `block` octets, or as many as its push limit, or 65,535, allow (RFC
-    /// 8467 section 4.1).
+    /// 8467 section 4.1). The capacity of the target doesn't count: over a target of fixed
+    /// capacity, set the push limit to the capacity first.
     ///
-    /// The option takes four octets besides its zeros (RFC 7830 section 3). Without room for these,
-    /// or if `block` is 0, no option is added.
+    /// The option takes four octets besides its zeros (RFC 7830 section 3). If the limit doesn't
+    /// allow these, or `block` is 0, no option is added.
     ///
     /// Returns `OutOfMemory` if an allocation fails, or else what `push_opt` returns. Nothing
     /// changes on error.
@@ -32,6 +33,9 @@ impl<T: Composer> Builder<T, AtAdditional> {
         ensures length { OnOk result (length self.new.written.octets ≡ padded_length block
             self.old.limit (length self.old.written.octets + opt_size (gathered opt))) }
         ensures refused { OnErr result (self.new ≡ self.old) }
+        ensures memory { IsTrue (stays_unpadded block self.old.limit
+            (length self.old.written.octets + opt_size (gathered opt)))
+            → result ≡ Err PushError.OutOfMemory → IsTrue T.grows }
     {
         let mut padded = opt;
         // Shows that the sum isn't too large.
@@ -51,6 +55,7 @@ fn pad(opt: &mut OptBuilder, block: u16, limit: usize, unpadded: usize) -> Resul
     ensures padded { OnOk result
         (gathered opt.new ≡ padded block limit unpadded (gathered opt.old)) }
     ensures memory { IfErr result (λ error. error ≡ AppendError.OutOfMemory) }
+    ensures adds { OnErr result (stays_unpadded block limit unpadded ≡ false) }
 {
     match padding_octets(block, limit, unpadded) {
         Some(octets) => opt.padding(octets),

@@ -45,7 +45,8 @@ impl<T: Composer, S: BuilderStage> Model for ReservedBuilder<T, S> {
 
 impl<T: Composer, S: BuilderStage> Builder<T, S> {
     /// Reserves octets: later pushes leave them free until `release`. Each of these pushes appends
-    /// as many zero octets, and cuts them off again.
+    /// as many zero octets, and cuts them off again. Reserve at the answer section or after it: at
+    /// an earlier stage a `ReservedBuilder` has no pushes.
     ///
     /// Errors, checked in this order: `ShortBuf` or `OutOfMemory`, `LimitExceeded`, as of a push of
     /// so many octets. The builder is returned with the error.
@@ -228,6 +229,7 @@ impl<T: Composer> ReservedBuilder<T, AtAuthority> {
 
 impl<T: Composer> ReservedBuilder<T, AtAdditional> {
     /// Releases the reserved octets, and appends a record to the additional section.
+    /// `Builder::push_reserved` appends the OPT record of `reserve_opt` instead.
     ///
     /// A record of at most as many octets doesn't fail for capacity or limit. Else returns what
     /// `Builder::push` returns, with the builder.
@@ -257,8 +259,8 @@ impl<T: Composer> ReservedBuilder<T, AtAdditional> {
         }
     }
 
-    /// Releases the reserved octets, and appends the OPT record of `opt` as `Builder::push_opt` does
-    /// (RFC 6891 section 6.1.1).
+    /// Releases the reserved octets, and appends the OPT record of `opt` as `Builder::push_opt`
+    /// does (RFC 6891 section 6.1.1).
     ///
     /// A record of at most as many octets (`OptBuilder::compose_len`) doesn't fail for capacity or
     /// limit. On error the builder is returned, without the reservation.

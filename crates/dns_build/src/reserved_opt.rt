@@ -37,7 +37,7 @@ impl ReservedOpt {
 impl<T: Composer, S: BuilderStage> Builder<T, S> {
     /// Reserves the octets of an OPT record: lowers the push limit by them, so that other pushes
     /// leave them free. No limit stays none. `push_reserved` pushes the record, at the additional
-    /// section.
+    /// section. `Builder::reserve` reserves octets of the capacity too.
     ///
     /// The only error is `LimitExceeded`: the message so far and the record exceed the limit. Then
     /// `opt` is dropped, and nothing else changes.
@@ -59,15 +59,16 @@ impl<T: Composer, S: BuilderStage> Builder<T, S> {
 
 impl<T: Composer> Builder<T, AtAdditional> {
     /// Restores the push limit from before `reserve_opt`, and appends the reserved OPT record
-    /// (RFC 6891 section 6.1.1).
+    /// (RFC 6891 section 6.1.1). `ReservedBuilder::push_reserved` appends any record, in the octets
+    /// that `reserve` left free.
     ///
     /// `LimitExceeded` isn't returned if the message so far is within the lowered limit, as it is
     /// after successful pushes. Else returns what `push` returns. On error only the limit changes:
     /// it is restored.
     ///
     /// On success the header takes the rcode of the record's copy of the header, which is as old as
-    /// the gathered record. `ReservedOpt::set_rcode` sets an rcode that was decided later. All other
-    /// header fields stay as they are now.
+    /// the gathered record. `ReservedOpt::set_rcode` sets an rcode that was decided later. All
+    /// other header fields stay as they are now.
     pub fn push_reserved(&mut self, reserved: ReservedOpt) -> Result<(), PushError>
         ensures fits { length self.old.written.octets ≤ limit_left (reservation reserved)
             → result ≢ Err PushError.LimitExceeded }

@@ -42,11 +42,12 @@ impl<T: Composer> Builder<T, AtBuilder> {
     /// The OPT record of the response has version 0 and the query's DO (RFC 3225 section 3). The
     /// caller sets its UDP payload size and options.
     ///
-    /// `push_opt`, of the builder or of a `ReservedBuilder`, pushes the response's OPT record at the
-    /// additional section, or `push_reserved` after `reserve_opt`. The header then takes the rcode
-    /// of the record, so `OptBuilder::set_rcode` sets a later one, such as an error.
+    /// `push_opt`, of the builder or of a `ReservedBuilder`, pushes the response's OPT record at
+    /// the additional section. The header then takes the rcode of the record, so
+    /// `OptBuilder::set_rcode` sets a later one, such as an error.
     ///
-    /// Returns the error of the first push that fails. The builder is dropped then.
+    /// Returns the error of the first push that fails. The builder is dropped then. A query of many
+    /// questions can exceed the limit: then send no response, or FORMERR without them.
     pub fn respond<Octs: Octets>(
         self,
         alloc: Global,

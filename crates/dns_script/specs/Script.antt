@@ -108,8 +108,7 @@ module _ {Q R : Type 0} (question : Q → QuestionItem) (item : R → RecordItem
   after_all s (call ∷ calls) [] = s
   after_all s (call ∷ calls) (reply ∷ replies) = after_all (after s call reply) calls replies
 
-  -- The calls on a builder with reserved octets take it to states that these calls lead to: a set is its records, pushed in order, and reserving octets or releasing them
-  -- sets the limit. RFC 2181 section 5.
+  -- A set of records leads to the state after its records, pushed in order. Reserving octets and releasing them leads to the state after `SetLimit`. RFC 2181 section 5.
   pub record SetsAreScripts : Type 0 where
     pub set : (s : State) (records : List R) → after_all s (map PushRecord records) (map (λ _. Done) records) ≡ with_records s.stage (map item records) s
     pub limit : (s : State) (limit : ℕ) → after s (SetLimit limit) Done ≡ with_limit limit s

@@ -6,8 +6,8 @@ ghost use Rattle.dns_script.specs.Script.{SetsAreScripts};
 use crate::script::Reply;
 use dns_item::{ComposeQuestion, ComposeRecord};
 
-/// A set of records is its records, pushed in order, and reserving octets or releasing them sets the
-/// limit. So a script needs no calls for them: its states are those of a `ReservedBuilder` too.
+/// A set of records leads to the state after its records, pushed in order. Reserving octets and
+/// releasing them leads to the state after `SetLimit`. So a script needs no calls for them.
 pub fn sets_are_scripts<Q: ComposeQuestion, R: ComposeRecord>()
     ensures { SetsAreScripts Q.question R.item }
 {}

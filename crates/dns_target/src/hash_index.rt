@@ -9,7 +9,7 @@ use crate::index::{Plan, SuffixIndex};
 use crate::label_starts::LabelStarts;
 use crate::name_encoding::{Found, reaches};
 use crate::names_at::is_flat_name_at;
-use crate::suffix_map::{Key, SuffixMap};
+use crate::suffix_map::SuffixMap;
 use std::alloc::{AllocError, Global};
 
 /// The suffixes in the table, and a recent one. The next name is first compared with the recent
@@ -123,14 +123,12 @@ impl SuffixIndex for HashIndex {
     ghost compressing = { refl };
 
     fn look_up(&self, content: &[u8], labels: &LabelStarts<'_>) -> (Found, ()) {
-        let mut key = Key::new();
         let Found {
             mut from,
             mut offset,
         } = self.recent_in(content, labels);
         while from > 0 {
-            key.set(labels.label(from - 1), offset);
-            let Some(longer) = self.suffixes.find(&key) else {
+            let Some(longer) = self.suffixes.find(labels.label(from - 1), offset) else {
                 return (Found { from, offset }, ());
             };
             offset = Some(longer);

@@ -148,11 +148,19 @@ impl SuffixMap {
         self.keys.reserve(additional)
     }
 
-    /// The offset of the suffix with this key.
-    pub(crate) fn find(&self, key: &Key) -> Option<u16>
-        ensures { result ≡ find self.now.suffixes key.now.label.items key.now.parent }
+    /// The offset of the suffix with this first label and parent. A key is made only if there are
+    /// suffixes.
+    #[inline(always)]
+    pub(crate) fn find(&self, label: &[u8], parent: Option<u16>) -> Option<u16>
+        requires { length label.now ≤ 63 }
+        ensures { result ≡ find self.now.suffixes label.now parent }
     {
-        self.offsets.get(key).copied()
+        if self.keys.is_empty() {
+            return None;
+        }
+        let mut key = Key::new();
+        key.set(label, parent);
+        self.offsets.get(&key).copied()
     }
 
     pub(crate) fn push(&mut self, label: &[u8], parent: Option<u16>, offset: u16, end: usize)

@@ -1,7 +1,8 @@
-use Rattle.std.proofs.Common.{ap, length, replicate, reverse, subst, sym}
+use Rattle.std.proofs.Common.{ap, length, replicate, subst, sym}
 use Rattle.dns_wire.specs.Targets.{ComposeReturns}
 use Rattle.dns_wire.proofs.theory.EncodedNames.{encode_octets_grows}
 use Rattle.dns_build.specs.BuilderStates.{IsMessage}
+use Rattle.dns_build.specs.SectionStarts.{starts_at}
 use Rattle.dns_build.proofs.ReservedLemmas.{undone, zeros-size}
 use Rattle.dns_build.proofs.draft.Draft.fits.Goals as goal
 
@@ -15,7 +16,7 @@ pub returns-clause-unchanged : goal.returns-clause-unchanged
 returns-clause-unchanged g c =
     let zeros = encode_octets_grows (replicate c.args.octets 0) in
     let same = undone _ _ _ _ _ _ _ _ zeros c.self.invariant.0 (ap length c.as_slice-old.ensures.octets) c.append_zeros-appended.ensures c.truncate.ensures.cut in
-    rw (← c.self.view_is) (λ i. record { written = same i; limit = c.self.inside.limit; starts = reverse c.self.inside.starts.items })
+    rw (← c.self.view_is) (λ i. record { written = same i; limit = c.self.inside.limit; starts = starts_at g.S.BuilderStage.stage c.self.inside.starts })
 
 pub returns-clause-outcome : goal.returns-clause-outcome
 returns-clause-outcome g c =

@@ -1,6 +1,7 @@
-use Rattle.std.proofs.Common.{ap, length, reverse, subst, sym}
+use Rattle.std.proofs.Common.{ap, length, subst, sym}
 use Rattle.dns_item.proofs.theory.QuestionItemLemmas.{questions_grow}
 use Rattle.dns_build.specs.BuilderStates.{IsMessage}
+use Rattle.dns_build.specs.SectionStarts.{starts_at}
 use Rattle.dns_build.proofs.Messages.{longer-composed}
 use Rattle.dns_build.proofs.draft.Draft.size_of_question.Goals as goal
 
@@ -15,7 +16,7 @@ invariant_of-self g c =
 pub returns-clause-unchanged : goal.returns-clause-unchanged
 returns-clause-unchanged g c =
     let m = c.measure.ensures _ _ (questions_grow _ _) c.self.invariant.0 (ap length c.as_slice-old.ensures.octets) c.compose_question-composed.ensures.composes in
-    rw (← c.self.view_is) (λ i. record { written = m.0 i; limit = c.self.inside.limit; starts = reverse c.self.inside.starts.items })
+    rw (← c.self.view_is) (λ i. record { written = m.0 i; limit = c.self.inside.limit; starts = starts_at g.S.BuilderStage.stage c.self.inside.starts })
 
 pub returns-clause-measures : goal.returns-clause-measures
 returns-clause-measures g c =

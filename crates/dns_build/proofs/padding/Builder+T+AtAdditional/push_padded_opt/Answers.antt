@@ -1,9 +1,10 @@
-use Rattle.std.proofs.Common.{◌∙◌, ◌+◌, ◌<◌, Err, ap, arith, inl, inr, length, rules, subst}
-use Rattle.dns_edns_builder.specs.Gathered.{Gathered, gathered}
+use Rattle.std.proofs.Common.{◌≡◌, ◌∙◌, ◌+◌, ◌<◌, Err, ap, arith, inl, inr, length, rules, subst, sym}
+use Rattle.std.proofs.lemmas.Bool.{false≢true}
+use Rattle.dns_edns_builder.specs.Gathered.{Gathered, gathered, opt_size}
 use Rattle.dns_build.specs.BuilderStates.{push_error}
 use Rattle.dns_build.specs.Opt.{PushesOptRecord}
-use Rattle.dns_build.specs.Padding.{padded}
-use Rattle.dns_build.proofs.PaddingLemmas.{length_padded}
+use Rattle.dns_build.specs.Padding.{padded, stays_unpadded}
+use Rattle.dns_build.proofs.PaddingLemmas.{length_padded, opt_memory}
 use Rattle.dns_build.proofs.padding.Builder+T+AtAdditional.push_padded_opt.Goals as goal
 
 pub overflow_add-unpadded : goal.overflow_add-unpadded
@@ -39,3 +40,16 @@ returns-clause-length g c =
     length_padded _ _ g.T.Composer.rule (gathered c.args.opt) c.args.block _ c.args.self.now _ c.push_opt.result c.as_slice.ensures.state
     (λ s h. subst (λ (all : Gathered). PushesOptRecord g.T.Composer.capacity g.T.Composer.grows g.T.Composer.rule all s c.push_opt.new.self c.push_opt.result) same
     (c.push_opt.ensures.pushes s h))
+
+pub returns-in-Err-clause-memory : goal.returns-in-Err-clause-memory
+returns-in-Err-clause-memory g c = λ unpadded _.
+    let adds = c.in-Err.ensures.adds in
+    let same : stays_unpadded c.args.block c.most.result (length c.as_slice.result.now + c.compose_len.result)
+    ≡ stays_unpadded c.args.block c.args.self.now.limit (length c.args.self.now.written.octets + opt_size (gathered c.args.opt)) =
+    λ i. stays_unpadded c.args.block (c.most.ensures i) (length (c.as_slice.ensures.octets i) + c.compose_len.ensures i) in
+    absurd (false≢true (sym adds ∙ same ∙ unpadded))
+
+pub returns-clause-memory : goal.returns-clause-memory
+returns-clause-memory g c =
+    λ _ is.
+    opt_memory g.T.Composer.capacity g.T.Composer.grows g.T.Composer.rule _ c.args.self.now c.push_opt.new.self c.push_opt.result c.as_slice.ensures.state c.push_opt.ensures.pushes is

@@ -62,4 +62,6 @@ returns-clause-accepted g c =
 pub returns-clause-outcome : goal.returns-clause-outcome
 returns-clause-outcome g c =
     let xs : List RecordItem = map g.R.ComposeRecord.item c.args.records.now in
-    rw (← c.self.view_is) (set-left-free _ g.T.Composer.grows _ _ xs _ c.self.inside.builder _ c.in_default.ensures.outcome c.in_default.ensures.accepted c.in_default-fits.ensures.outcome c.self.invariant)
+    rw (← c.self.view_is)
+    (set-left-free _ g.T.Composer.grows _ _ xs _ c.self.inside.builder _ c.in_default.ensures.outcome c.in_default.ensures.accepted c.in_default-fits.ensures.outcome
+    c.self.invariant)
