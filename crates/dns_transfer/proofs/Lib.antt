@@ -4,6 +4,7 @@ mod OwnerLemmas
 mod KindLemmas
 mod StepLemmas
 mod MessageLemmas
+mod ActLemmas
 mod ZoneLemmas
 mod TransferLemmas
 mod ReadForms

@@ -7,6 +7,7 @@ pub mod Runs
 pub mod Messages
 pub mod Transfer
 pub mod Steps
+pub mod Acts
 pub mod Forms
 pub mod Zones
 pub mod Transfers

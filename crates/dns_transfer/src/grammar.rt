@@ -209,7 +209,7 @@ pub(crate) fn falls_back(act: Act) -> bool
 }
 
 /// Whether the transfer has ended.
-pub(crate) fn is_ended(state: State) -> bool
+pub fn is_ended(state: State) -> bool
     ensures { result ≡ is_ended state }
 {
     match state {

@@ -35,12 +35,7 @@ pub struct Query {
 
 impl Query {
     /// The query with this ID, for the zone with this name and class.
-    pub(crate) fn new(
-        zone: Name<ArrayVec<u8, 255>>,
-        class: Class,
-        id: u16,
-        request: Request,
-    ) -> Self
+    pub fn new(zone: Name<ArrayVec<u8, 255>>, class: Class, id: u16, request: Request) -> Self
         ensures { asked_by result
             ≡ record { zone = name_labels zone; class = class; id = id; request = request } }
     {

@@ -11,6 +11,7 @@ ghost use Rattle.dns_transfer.specs.declared.grammar.State.TheVariants.{Wanted};
 
 use crate::error::TransferError;
 use crate::grammar::{Request, State, is_ended};
+use crate::message::answers_of;
 use crate::query::Query;
 use crate::steps::Steps;
 use arrayvec::ArrayVec;
@@ -76,13 +77,9 @@ impl Transfer {
             (message_octets message.now)) }
     {
         let Transfer { query, state } = self;
-        let rcode = message.opt_rcode();
-        if let Err(error) = query.check(state, message.header(), rcode, message.question()) {
-            return Err(error);
-        }
-        match message.answer() {
+        match answers_of(&query, state, message) {
             Ok(records) => Ok(Steps::new(query, state, records)),
-            Err(error) => Err(TransferError::Parse(error)),
+            Err(error) => Err(error),
         }
     }
 

@@ -1,9 +1,10 @@
 -- What is written is read as the same transfer. RFC 5936 section 2.2, RFC 1995 section 4.
-use Rattle.std.specs.Prelude.{◌≡◌, ℕ, Bool, true, false, ◌==◌, if◌then◌else◌, List, [], ◌∷◌, map, Option, Some, Result, Ok, Err}
+use Rattle.std.specs.Prelude.{◌≡◌, ℕ, Bool, true, false, ◌==◌, if◌then◌else◌, List, [], ◌∷◌, length, map, Option, Some, Result, Ok, Err}
 use Rattle.std.specs.List.{AllByRecursion}
 use Rattle.dns_wire.specs.Encoders.{Rule}
+use Rattle.dns_wire.specs.Parts.{Part}
+use Rattle.dns_wire.specs.Parts.Part.{Octets, CompressibleName, UncompressedName}
 use Rattle.dns_code.specs.Header.{fields_in}
-use Rattle.dns_data.specs.Layout.{IsLaidOut}
 use Rattle.dns_name.specs.NameOrders.{names_equal}
 use Rattle.dns_item.specs.Items.{RecordItem}
 use Rattle.dns_item.specs.ParsedRecord.{EncodedRecord}
@@ -14,7 +15,7 @@ use Rattle.dns_build.specs.BuilderStates.{Built}
 use Rattle.dns_build.specs.TypedReading.{EncodedAs}
 use Rattle.dns_transfer.specs.Asked.{Asked, question_of}
 use Rattle.dns_transfer.specs.Forms.{IsTransfer, whole_steps}
-use Rattle.dns_transfer.specs.Kinds.{is_within, serial_of, soa_layout}
+use Rattle.dns_transfer.specs.Kinds.{is_within, octets_in, serial_of}
 use Rattle.dns_transfer.specs.Runs.{StepOf}
 use Rattle.dns_transfer.specs.Runs.StepOf.{Begin, UpToDate, FallsBackToAxfr, Remove, Add, End}
 use Rattle.dns_transfer.specs.Transfers.{TransfersFrom}
@@ -42,9 +43,21 @@ kind_of_item asked x =
     else Err OutsideZone)
     else Err WrongClass
 
+-- whether parts are octets alone
+abbrev pub has_no_name : List Part → Bool
+has_no_name [] = true
+has_no_name (Octets octets ∷ parts) = has_no_name parts
+has_no_name (CompressibleName name ∷ parts) = false
+has_no_name (UncompressedName lowercased name ∷ parts) = false
+
+-- SOA RDATA: two names, and the twenty octets of the five numbers, in one part or several. RFC 1035 section 3.3.13.
+abbrev pub AreSoaParts : List Part → Type 0
+AreSoaParts (CompressibleName mname ∷ CompressibleName rname ∷ numbers) = (has_no_name numbers ≡ true) × (length (octets_in numbers) ≡ 20)
+AreSoaParts _ = ⊥
+
 -- an SOA record has the parts of SOA RDATA
 abbrev pub HasSoaData : RecordItem → Type 0
-HasSoaData x = x.rtype ≡ 6 → IsLaidOut soa_layout x.parts
+HasSoaData x = x.rtype ≡ 6 → AreSoaParts x.parts
 
 -- the messages of calls, one after the other, until no record is left; each over any target, and with any limit
 pub data WritesAll : Sending → List (List ℕ) → Type 0 where

@@ -1,4 +1,5 @@
 //! Theorems on written transfers. The functions do nothing: each contract is a theorem.
+ghost use Rattle.dns_transfer_writer.specs.Longest.{MessagesAreLongest};
 ghost use Rattle.dns_transfer_writer.specs.Reading.{WrittenIsRead};
 
 use dns_build::laws::{encodings_read_back, records_read_back};
@@ -12,3 +13,8 @@ pub fn written_is_read()
     encodings_read_back();
     records_read_back();
 }
+
+/// No message could have more of the records that come next than a writer's has.
+pub fn messages_are_longest()
+    ensures { MessagesAreLongest }
+{}

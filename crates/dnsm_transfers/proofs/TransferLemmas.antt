@@ -13,21 +13,19 @@ use Rattle.dns_read.specs.SectionStarts.{records_of}
 use Rattle.dns_read.specs.Sections.{StartsAt, answer_count, record_count}
 use Rattle.dns_read.specs.declared.section.Section.TheVariants.{Answer}
 use Rattle.dns_read.proofs.theory.SectionStartLemmas.{start_found}
-use Rattle.dns_transfer.specs.Asked.{Asked}
+use Rattle.dns_transfer.specs.Acts.{ActsAt, StopsAt, run_at}
+use Rattle.dns_transfer.specs.Asked.{Asked, asked_by}
 use Rattle.dns_transfer.specs.Messages.{error_before_answers}
 use Rattle.dns_transfer.specs.Runs.{after_step, step_of, stopped}
 use Rattle.dns_transfer.specs.declared.error.TransferError.{TransferError}
 use Rattle.dns_transfer.specs.declared.grammar.Request.{Request}
 use Rattle.dns_transfer.specs.declared.grammar.Request.TheVariants.{Axfr, Ixfr}
 use Rattle.dns_transfer.specs.declared.grammar.State.{State}
+use Rattle.dns_transfer.specs.declared.query.Query.{Query}
+use Rattle.dns_transfer.specs.declared.record.Acted.{Acted}
 use Rattle.dnsm_read.specs.Steps.{ReportsRecord}
 use Rattle.dnsm_read.specs.declared.walk.Cursor.{Cursor}
-use Rattle.dnsm_steps.specs.Acts.{ActsAt, StopsAt, run_at}
-use Rattle.dnsm_steps.specs.Queries.{asked_by}
-use Rattle.dnsm_steps.specs.Said.{act_said, state_said}
-use Rattle.dnsm_steps.specs.declared.query.Query.{Query}
-use Rattle.dnsm_steps.specs.declared.record.Acted.{Acted}
-use Rattle.dnsm_transfers.specs.Transfers.{AskAlike, GivesError, GivesStep, IsAskedBy, OpensMessage, ReportsTransfer, act_number, act_serial, request_from, run_left, zone_octets}
+use Rattle.dnsm_transfers.specs.Transfers.{GivesError, GivesStep, IsAskedBy, OpensMessage, ReportsTransfer, act_number, act_serial, request_from, run_left, zone_octets}
 use Rattle.dnsm_transfers.specs.declared.step.Step.{Step}
 use Rattle.dnsm_transfers.specs.declared.transfer.Transfer.{Transfer}
 
@@ -53,13 +51,6 @@ one_asked t query asked own other =
     let id = other.id ∙ sym own.id in
     let request = other.request ∙ sym own.request in
     λ i. record { zone = zone i; class = class i; id = id i; request = request i }
-
--- Other numbers of the state ask for the same.
-pub ask_alike : (old new : Transfer) (number version last : ℕ) → new ≡ record old { version = version; last = last; state = number } → AskAlike old new
-ask_alike old new number version last is asked h =
-    let kept : IsAskedBy (record old { version = version; last = last; state = number }) asked =
-    record { is_name = h.is_name; zone = h.zone; class = h.class; id = h.id; request = h.request } in
-    subst (λ (t : Transfer). IsAskedBy t asked) (sym is) kept
 
 -- the records after the start of the answer section
 records_there : (b : List ℕ) (place left : ℕ) → StartsAt Answer b place → left ≡ answer_count b → records_in b left place ≡ records_of Answer b
@@ -99,26 +90,26 @@ module _ (asked : Asked) (b : List ℕ) (cursor : Cursor) (state : State) (n : �
   module _ (it : Acted) (acts : ActsAt asked b cursor.place state it) where
     -- what follows the first record, by whether it is taken again
     follows : (again : Bool) (new : Cursor) → new ≡ (if again then cursor else record cursor { place = it.after; left = cursor.left - 1 })
-        → (if again then run_at asked b (suc n) cursor.place (state_said it.state) else run_at asked b n it.after (state_said it.state)) ≡ run_left asked b new (state_said it.state)
-    follows true new is = sym (ap (λ k. run_at asked b k cursor.place (state_said it.state)) some) ∙ sym (ap (λ (c : Cursor). run_left asked b c (state_said it.state)) is)
+        → (if again then run_at asked b (suc n) cursor.place it.state else run_at asked b n it.after it.state) ≡ run_left asked b new it.state
+    follows true new is = sym (ap (λ k. run_at asked b k cursor.place it.state) some) ∙ sym (ap (λ (c : Cursor). run_left asked b c it.state) is)
     follows false new is =
         let one_less : n ≡ cursor.left - 1 = omega (arith, some) in
-        ap (λ k. run_at asked b k it.after (state_said it.state)) one_less ∙ sym (ap (λ (c : Cursor). run_left asked b c (state_said it.state)) is)
+        ap (λ k. run_at asked b k it.after it.state) one_less ∙ sym (ap (λ (c : Cursor). run_left asked b c it.state) is)
 
     -- The first record is the first step, and the others follow.
     pub left_acts : (new : Cursor) → new ≡ (if it.again then cursor else record cursor { place = it.after; left = cursor.left - 1 })
-        → run_left asked b cursor state ≡ after_step (step_of (act_said it.act) (encoded_record it.shown)) (run_left asked b new (state_said it.state))
-    left_acts new is = at_least_one ∙ acts.gives n ∙ ap (after_step (step_of (act_said it.act) (encoded_record it.shown))) (follows it.again new is)
+        → run_left asked b cursor state ≡ after_step (step_of it.act (encoded_record it.shown)) (run_left asked b new it.state)
+    left_acts new is = at_least_one ∙ acts.gives n ∙ ap (after_step (step_of it.act (encoded_record it.shown))) (follows it.again new is)
 
 -- A step is given, of what is asked for.
 pub gives_step : (asked own : Asked) (b : List ℕ) (cursor new : Cursor) (state st : State) (it : Acted) (step : Step) → asked ≡ own → st ≡ state → (cursor.left ≡ 0 → ⊥)
     → ActsAt own b cursor.place st it → new ≡ (if it.again then cursor else record cursor { place = it.after; left = cursor.left - 1 }) → ReportsRecord b step.item (encoded_record it.shown).entry
-    → step.kind ≡ act_number (act_said it.act) → step.serial ≡ act_serial (act_said it.act) → GivesStep asked b cursor new state (state_said it.state) step
+    → step.kind ≡ act_number it.act → step.serial ≡ act_serial it.act → GivesStep asked b cursor new state it.state step
 gives_step asked own b cursor new state st it step same now some acts is item kind serial =
     let more = one_more cursor.left some in
-    let here : GivesStep own b cursor new st (state_said it.state) step =
+    let here : GivesStep own b cursor new st it.state step =
     record {
-      act = act_said it.act;
+      act = it.act;
       taken = encoded_record it.shown;
       gives = left_acts own b cursor st more.0 more.1 it acts new is;
       octets = acts.octets;
@@ -126,7 +117,7 @@ gives_step asked own b cursor new state st it step same now some acts is item ki
       kind = kind;
       serial = serial;
     } in
-    subst (λ (a : Asked). GivesStep a b cursor new state (state_said it.state) step) (sym same) (subst (λ (s : State). GivesStep own b cursor new s (state_said it.state) step) now here)
+    subst (λ (a : Asked). GivesStep a b cursor new state it.state step) (sym same) (subst (λ (s : State). GivesStep own b cursor new s it.state step) now here)
 
 -- An error is given.
 pub gives_error : (asked : Asked) (b : List ℕ) (cursor : Cursor) (state st : State) (e : TransferError) (number : ℕ) → st ≡ state → (cursor.left ≡ 0 → ⊥) → StopsAt asked b cursor.place st e

@@ -2,13 +2,16 @@
 --
 -- `b` are the octets of a message.
 use Rattle.std.specs.Prelude.{◌≡◌, ℕ, ◌<◌, ◌⊎◌, ◌==◌, if◌then◌else◌, List, length, take, Option, None, Some}
-use Rattle.dns_name.specs.Names.{IsName, fault_of, uncompressed}
+use Rattle.dns_octets.specs.declared.error.TheConstants.FormError.{TRAILING_DATA}
+use Rattle.dns_name.specs.Names.{Fault, IsName, fault_of, uncompressed}
+use Rattle.dns_name.specs.Names.Fault.{Form}
 use Rattle.dns_name.specs.Uncompressed.{IsUncompressed}
 use Rattle.dns_code.specs.HeaderSection.{header_size}
 use Rattle.dns_item.specs.ParsedRecord.{EncodedRecord}
 use Rattle.dns_read.specs.RecordsFrom.{records_in}
 use Rattle.dns_read.specs.SectionStarts.{records_of}
 use Rattle.dns_read.specs.declared.section.Section.TheVariants.{Answer}
+use Rattle.dns_transfer.specs.Acts.{run_at}
 use Rattle.dns_transfer.specs.Asked.{Asked}
 use Rattle.dns_transfer.specs.Messages.{RefusesMessage}
 use Rattle.dns_transfer.specs.Runs.{RunOf, after_step, step_of, stopped}
@@ -25,7 +28,6 @@ use Rattle.dnsm_status.specs.Codes.{IsReported, ReportsFault, number_of}
 use Rattle.dnsm_status.specs.declared.code.CallError.TheVariants as faults
 use Rattle.dnsm_read.specs.Steps.{ReportsRecord}
 use Rattle.dnsm_read.specs.declared.walk.Cursor.{Cursor}
-use Rattle.dnsm_steps.specs.Acts.{run_at}
 use Rattle.dnsm_transfers.specs.declared.step.Step.{Step}
 use Rattle.dnsm_transfers.specs.declared.transfer.Transfer.{Transfer}
 
@@ -60,9 +62,14 @@ pub record IsAskedBy (t : Transfer) (asked : Asked) : Type 0 where
   pub id : asked.id ≡ t.id
   pub request : asked.request ≡ request_of t
 
--- The number reports why a message isn't the next one of a transfer. It reports what is wrong with octets as all calls do.
+-- The number reports what is wrong with octets, as all calls do; or that octets follow the RDATA of an SOA record.
+pub record ReportsOctets (f : Fault) (n : ℕ) : Type 0 where
+  pub known : IsReported f → ReportsFault f n
+  pub left_over : f ≡ Form TRAILING_DATA → n ≡ number_of faults.Form
+
+-- the number reports why a message isn't the next one of a transfer
 abbrev pub ReportsTransfer : TransferError → ℕ → Type 0
-ReportsTransfer (errors.Parse e) n = IsReported (fault_of e) → ReportsFault (fault_of e) n
+ReportsTransfer (errors.Parse e) n = ReportsOctets (fault_of e) n
 ReportsTransfer errors.WrongId n = n ≡ number_of faults.OtherQuery
 ReportsTransfer errors.NoResponse n = n ≡ number_of faults.NoResponse
 ReportsTransfer (errors.Rcode rcode) n = n ≡ number_of faults.BadRcode

@@ -2,21 +2,21 @@
 ghost use Rattle.std.specs.Prelude.{◌≡◌, ◌≢◌, ◌<◌, ◌-◌, ◌==◌, if◌then◌else◌, IfErr, IfNone, IfOk, IfSome};
 ghost use Rattle.dns_item.specs.Items.{ReadsRecord};
 ghost use Rattle.dns_item.specs.ParsedRecord.{parsed_entry};
+ghost use Rattle.dns_name.specs.Names.{fault_of};
 ghost use Rattle.dns_transfer.specs.Asked.{Asked};
 ghost use Rattle.dns_transfer.specs.Messages.{is_ended};
 ghost use Rattle.dnsm_status.specs.Codes.{number_of};
 ghost use Rattle.dnsm_read.specs.Steps.{ReportsRecord};
-ghost use Rattle.dnsm_steps.specs.Said.{act_said, state_said};
 ghost use Rattle.dnsm_transfers.specs.Transfers.{act_number, act_serial, state_of};
-ghost use Rattle.dnsm_transfers.specs.Transfers.{GivesStep, IsAskedBy, LacksStep, OpensMessage, RefusesToOpen, ReportsTransfer};
+ghost use Rattle.dnsm_transfers.specs.Transfers.{GivesStep, IsAskedBy, LacksStep, OpensMessage, RefusesToOpen, ReportsOctets, ReportsTransfer};
 
 use crate::transfer::{Transfer, query_of, set_state, state_of};
 use dns_item::ParsedRecord;
+use dns_octets::{FormError, ParseError};
 use dns_read::Message;
-use dns_transfer::TransferError;
+use dns_transfer::{Act, Acted, State, TransferError, act_at, answers_of, is_ended};
 use dnsm_read::{Cursor, Item};
 use dnsm_status::{CallError, code};
-use dnsm_steps::{Act, Acted, State, act_at, answers_of, is_ended};
 
 /// What a record of a transfer does.
 #[repr(C)]
@@ -44,8 +44,8 @@ const END: u8 = 5;
 
 /// The number of what a record does, and its serial.
 fn numbers_of(act: Act) -> (u8, u32)
-    ensures number { result.0 ≡ act_number (act_said act) }
-    ensures serial { result.1 ≡ act_serial (act_said act) }
+    ensures number { result.0 ≡ act_number act }
+    ensures serial { result.1 ≡ act_serial act }
 {
     match act {
         Act::Begin(serial) => (BEGIN, serial),
@@ -57,12 +57,24 @@ fn numbers_of(act: Act) -> (u8, u32)
     }
 }
 
+/// The fault that reports what is wrong with octets.
+fn octets_fault(error: ParseError) -> CallError
+    ensures { ReportsOctets (fault_of error) (number_of result) }
+{
+    let left_over = ParseError::Form(FormError::TRAILING_DATA);
+    if error == left_over {
+        CallError::Form
+    } else {
+        code::of_error(error)
+    }
+}
+
 /// The fault that reports why a message isn't the next one of a transfer.
 fn fault_of(error: TransferError) -> CallError
     ensures { ReportsTransfer error (number_of result) }
 {
     match error {
-        TransferError::Parse(error) => code::of_error(error),
+        TransferError::Parse(error) => octets_fault(error),
         TransferError::WrongId | TransferError::WrongQuestion => CallError::OtherQuery,
         TransferError::NoResponse => CallError::NoResponse,
         TransferError::Rcode(_rcode) => CallError::BadRcode,
@@ -91,13 +103,17 @@ fn opened(transfer: &Transfer, octets: &[u8]) -> Result<Cursor, CallError>
         Err(fault) => return Err(fault),
     };
     match answers_of(&query, state_of(transfer), &message) {
-        Ok((place, left)) => Ok(Cursor {
-            place,
-            left,
-            section: 1,
-            status: 0,
-            owner: 0,
-        }),
+        Ok(records) => {
+            let place = records.pos();
+            let left = message.header_counts().ancount();
+            Ok(Cursor {
+                place,
+                left,
+                section: 1,
+                status: 0,
+                owner: 0,
+            })
+        }
         Err(error) => Err(fault_of(error)),
     }
 }
@@ -168,7 +184,7 @@ fn taken(
 ) -> Result<Option<(Step, State, Cursor)>, CallError>
     ensures gives { IfOk result (λ found. IfSome found (λ it. (asked : Asked)
         → IsAskedBy transfer.now asked → GivesStep asked octets.now cursor.now it.2
-        (state_of transfer.now) (state_said it.1) it.0)) }
+        (state_of transfer.now) it.1 it.0)) }
     ensures end { IfOk result (λ found. IfNone found (cursor.now.left ≡ 0)) }
     ensures lacks { IfErr result (λ fault.
         LacksStep transfer.now octets.now cursor.now (number_of fault)) }

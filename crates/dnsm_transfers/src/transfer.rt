@@ -3,13 +3,14 @@ ghost use Rattle.std.specs.Prelude.{◌≡◌, IfErr, IfOk, OnOk, take};
 ghost use Rattle.dns_name.specs.Names.{uncompressed};
 ghost use Rattle.dns_name.specs.ParsedName.{labels};
 ghost use Rattle.dns_name.specs.Uncompressed.{IsUncompressed};
-ghost use Rattle.dnsm_steps.specs.Queries.{asked_by};
-ghost use Rattle.dnsm_steps.specs.Said.{request_said, state_said};
-ghost use Rattle.dnsm_transfers.specs.Transfers.{AskAlike, Begins, IsAskedBy, LacksZone, request_from, request_of, state_of};
+ghost use Rattle.dns_transfer.specs.Asked.{asked_by};
+ghost use Rattle.dnsm_transfers.specs.Transfers.{AskAlike, Begins, IsAskedBy, LacksZone, request_from, request_of, state_of, zone_octets};
 
+use arrayvec::ArrayVec;
+use dns_iana::Class;
 use dns_name::{Name, ParsedName, ToName};
+use dns_transfer::{Query, Request, State};
 use dnsm_status::CallError;
-use dnsm_steps::{Query, Request, State};
 
 /// A transfer of a zone, of which some messages were taken. What doesn't belong to its state means
 /// nothing.
@@ -92,7 +93,7 @@ fn padded(name: &ParsedName<'_>) -> ([u8; 255], u8)
 
 /// What was read of a transfer.
 pub(crate) fn state_of(transfer: &Transfer) -> State
-    ensures { state_said result ≡ state_of transfer.now }
+    ensures { result ≡ state_of transfer.now }
 {
     match transfer.state {
         WANTED => State::Wanted,
@@ -106,7 +107,7 @@ pub(crate) fn state_of(transfer: &Transfer) -> State
 
 /// Keeps what was read of a transfer.
 pub(crate) fn set_state(transfer: &mut Transfer, state: State)
-    ensures state { state_of transfer.new ≡ state_said state }
+    ensures state { state_of transfer.new ≡ state }
     ensures asked { AskAlike transfer.old transfer.new }
     ensures status { transfer.new.status ≡ transfer.old.status }
 {
@@ -134,21 +135,32 @@ fn keep(transfer: &mut Transfer, number: u8, version: u32, last: u32)
 }
 
 /// What a transfer asks for, if its zone has a name.
-pub(crate) fn query_of(transfer: &Transfer) -> Result<Query<'_>, CallError>
+pub(crate) fn query_of(transfer: &Transfer) -> Result<Query, CallError>
     ensures query { IfOk result (λ query. IsAskedBy transfer.now (asked_by query)) }
     ensures none { IfErr result (λ fault. (fault ≡ CallError.BadText)
         × LacksZone transfer.now) }
 {
-    let Ok(zone) = Name::from_octets(&transfer.zone[..usize::from(transfer.zone_len)]) else {
+    let Ok(zone) = Name::from_octets(zone_of(transfer)) else {
         return Err(CallError::BadText);
     };
-    let request = request_of(transfer);
-    Ok(Query::new(zone, transfer.class, transfer.id, request))
+    let class = Class::from_int(transfer.class);
+    Ok(Query::new(zone, class, transfer.id, request_of(transfer)))
+}
+
+/// The octets of the zone's name.
+fn zone_of(transfer: &Transfer) -> ArrayVec<u8, 255>
+    ensures { result.items ≡ zone_octets transfer.now }
+{
+    let mut octets = ArrayVec::new();
+    octets
+        .try_extend_from_slice(&transfer.zone[..usize::from(transfer.zone_len)])
+        .unwrap();
+    octets
 }
 
 /// What is asked for.
 fn request_of(transfer: &Transfer) -> Request
-    ensures { request_said result ≡ request_of transfer.now }
+    ensures { result ≡ request_of transfer.now }
 {
     if transfer.changes == 0 {
         Request::Axfr

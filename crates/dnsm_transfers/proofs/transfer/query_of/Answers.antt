@@ -1,4 +1,4 @@
-use Rattle.std.proofs.Common.{◌≡◌, ◌∙◌, ap, refl, subst, sym, take}
+use Rattle.std.proofs.Common.{◌≡◌, ◌∙◌, refl, subst, sym}
 use Rattle.dns_name.specs.Names.{uncompressed}
 use Rattle.dns_name.specs.NameReading.{name_labels}
 use Rattle.dns_name.proofs.theory.NameLemmas.{name_is}
@@ -9,5 +9,5 @@ pub returns-clause-query : goal.returns-clause-query
 returns-clause-query c =
     let t = c.args.transfer.now in
     let zone = c.in-Ok.zone in
-    let octets : uncompressed (name_labels zone) ≡ zone_octets t = c.in-Ok.ensures.name ∙ ap (λ n. take n t.zone) c.from.ensures in
-    subst (IsAskedBy t) (sym c.new.ensures) (record { is_name = name_is zone; zone = octets; class = refl; id = refl; request = c.request_of-request.ensures })
+    let octets : uncompressed (name_labels zone) ≡ zone_octets t = c.in-Ok.ensures.name ∙ c.zone_of.ensures in
+    subst (IsAskedBy t) (sym c.new.ensures) (record { is_name = name_is zone; zone = octets; class = c.from_int-class.ensures; id = refl; request = c.request_of.ensures })

@@ -1,4 +1,0 @@
-mod KindLemmas
-mod OwnerLemmas
-mod MessageLemmas
-mod ActLemmas

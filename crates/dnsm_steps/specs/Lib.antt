@@ -1,3 +1,0 @@
-pub mod Said
-pub mod Queries
-pub mod Acts
