@@ -10,11 +10,12 @@ use Rattle.std.proofs.Math.Nat.{pow-le-pow_right}
 use Rattle.std.proofs.lemmas.Bool.{and_parts, cases_lt, cond-false, cond-true, eqb-true, leb-true, le-ltb, lt-ltb}
 use Rattle.std.proofs.lemmas.Fmt.{decimal_is_IsNumeral}
 use Rattle.std.proofs.lemmas.List.Elements.{All-head, All-tail}
-use Rattle.std.proofs.lemmas.Nat.{be_bytes_4, mul-le}
+use Rattle.std.proofs.lemmas.Nat.{be_bytes_4, from_be_bytes-to_be_bytes_4, mul-le}
 use Rattle.std.proofs.lemmas.Str.{digit_value_digit}
 use Rattle.hex.specs.Hex.{IsBytes}
 use Rattle.fields_text.specs.Separated.{separated, spaced}
-use Rattle.fields_forms.specs.LocationItems.{LocationItem, location_of, location_text}
+use Rattle.fields_forms.specs.LocationItems.{LocationItem, location_if, location_of, location_text}
+use Rattle.fields_forms.specs.LocationLaws.{LocationOctetsAreRead, ReadLocationsHaveOctets}
 use Rattle.fields_forms.specs.Locations.{altitude_text, are_printable, is_angle, is_size, metres_text, middle, seconds_text, size_of}
 use Rattle.fields_plain.specs.Time.{two_digits}
 use Rattle.fields_forms.specs.LocationWords.{AreLocationWords, AreSizes, BeginsWithAngle, IsAltitude, IsAngle, IsDecimal, IsDirected, IsLength, IsLocation, IsSize, location_octets}
@@ -430,3 +431,23 @@ locations_read_back words octets item bytes is text spaces =
     let has = octets_are octets item bytes is in
     let texts = same_words (texts_of words) (location_words item) (words_are words spaces) (location_are_words item has.1) (omega arith) (text ∙ text_is item) in
     (item, location_read words item has.1 texts, has.0)
+
+-- The octets that a location is read of are its octets.
+pub location_octets_are : ReadLocationsHaveOctets
+location_octets_are octets item bytes is = (octets_are octets item bytes is).0
+
+-- A location is read of its octets.
+pub octets_read : LocationOctetsAreRead
+octets_read item fits printable =
+    let latitude = from_be_bytes-to_be_bytes_4 item.latitude fits.latitude in
+    let longitude = from_be_bytes-to_be_bytes_4 item.longitude fits.longitude in
+    let altitude = from_be_bytes-to_be_bytes_4 item.altitude fits.altitude in
+    (λ i. location_if 0 (record {
+      size = item.size;
+      horizontal = item.horizontal;
+      vertical = item.vertical;
+      latitude = latitude i;
+      longitude = longitude i;
+      altitude = altitude i;
+    }))
+    ∙ cond-true _ _ _ printable

@@ -4,3 +4,4 @@ pub mod LocationLemmas
 pub mod LocationNumbers
 pub mod LocationTexts
 pub mod OneFields
+pub mod PlainNameSizes

@@ -1,8 +1,10 @@
 -- The words of printed locations. RFC 1876 section 3.
-use Rattle.std.specs.Prelude.{ℕ, ◌/◌, ◌%◌, ◌<◌, ◌^◌, if◌then◌else◌, List, [], ◌∷◌, ◌++◌, codes, decimal, nat_lt}
+use Rattle.std.specs.Prelude.{◌≡◌, ℕ, ◌/◌, ◌%◌, ◌<◌, ◌^◌, if◌then◌else◌, true, List, [], ◌∷◌, ◌++◌, codes, decimal, nat_lt, Some}
 use Rattle.std.specs.Int.{abs_diff}
-use Rattle.fields_forms.specs.LocationItems.{LocationItem, location_text}
-use Rattle.fields_forms.specs.Locations.{altitude_text, metres_text, middle, seconds_text, size_of}
+use Rattle.hex.specs.Hex.{IsBytes}
+use Rattle.fields_forms.specs.LocationItems.{LocationItem, location_of, location_text}
+use Rattle.fields_forms.specs.Locations.{altitude_text, are_printable, metres_text, middle, seconds_text, size_of}
+use Rattle.fields_forms.specs.LocationWords.{location_octets}
 use Rattle.fields_text.specs.LineWords.{AreWordsOf}
 
 -- the words of an angle: degrees, minutes and seconds
@@ -32,3 +34,13 @@ pub record FitsLocation (item : LocationItem) : Type 0 where
 -- locations
 abbrev pub LocationsSplit : Type 0
 LocationsSplit = (item : LocationItem) → FitsLocation item → AreWordsOf (location_text item) (location_words item)
+
+-- a location that has a presentation format is read of its octets
+abbrev pub LocationOctetsAreRead : Type 0
+LocationOctetsAreRead =
+    (item : LocationItem) → FitsLocation item → are_printable item.size item.horizontal item.vertical item.latitude item.longitude ≡ true
+    → location_of (location_octets item) ≡ Some item
+
+-- the octets that a location is read of are its octets
+abbrev pub ReadLocationsHaveOctets : Type 0
+ReadLocationsHaveOctets = (octets : List ℕ) (item : LocationItem) → IsBytes octets → location_of octets ≡ Some item → octets ≡ location_octets item

@@ -33,8 +33,9 @@ fn push_names(octets: &mut Vec<u8>, words: &[&str]) -> Result<(), TextError>
     Ok(())
 }
 
-/// Appends the sizes of a tag and of a key with the algorithm between them, the tag and the key.
-fn push_identity(
+/// Appends the sizes of a tag and of a key with the algorithm between them, the tag and the key
+/// (RFC 8005 section 5). Fails only if an allocation fails.
+pub fn push_identity(
     octets: &mut Vec<u8>,
     algorithm: u8,
     tag: &[u8],

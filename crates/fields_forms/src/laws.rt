@@ -5,7 +5,7 @@ ghost use Rattle.fields_forms.specs.Laws.{GatewaysReadBack, GatewaysSplit, Ident
 ghost use Rattle.fields_forms.specs.GatewayWords.{IsGateway, IsRelay};
 ghost use Rattle.fields_forms.specs.IdentityWords.{IsHostIdentity};
 ghost use Rattle.fields_forms.specs.LocationWords.{IsLocation};
-ghost use Rattle.fields_forms.specs.LocationLaws.{LocationsSplit};
+ghost use Rattle.fields_forms.specs.LocationLaws.{LocationOctetsAreRead, LocationsSplit, ReadLocationsHaveOctets};
 ghost use Rattle.fields_text.specs.Laws.{RepresentsOne};
 
 use crate::location::Location;
@@ -35,6 +35,12 @@ pub fn words_represent_one()
     ensures relays { RepresentsOne IsRelay }
     ensures identities { RepresentsOne IsHostIdentity }
     ensures locations { RepresentsOne IsLocation }
+{}
+
+/// A location is read of its octets, and of no others.
+pub fn location_octets_read_back()
+    ensures made { LocationOctetsAreRead }
+    ensures read { ReadLocationsHaveOctets }
 {}
 
 /// A clone is the same value.

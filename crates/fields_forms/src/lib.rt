@@ -14,6 +14,6 @@ mod plain_names;
 pub use gateway::{GatewayAndKey, Relay, is_gateway_and_key, is_relay};
 pub use gateway_words::{read_gateway, read_relay};
 pub use host_identity::{HostIdentity, is_host_identity};
-pub use host_identity_words::read_host_identity;
+pub use host_identity_words::{push_identity, read_host_identity};
 pub use location::Location;
 pub use location_words::read_location;

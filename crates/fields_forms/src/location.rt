@@ -16,16 +16,25 @@ const SPHEROID: u32 = 10_000_000;
 /// Thousandths of a second of arc in 90 degrees.
 const RIGHT_ANGLE: u32 = 324_000_000;
 
-/// A location of version 0. It prints as latitude, longitude, altitude, size, and horizontal and
-/// vertical precision.
+/// A location of version 0 that has a presentation format. It prints as latitude, longitude,
+/// altitude, size, and horizontal and vertical precision.
+///
+/// A size or a precision is a digit in the high four bits and a power of ten in the low four: their
+/// product is a length in centimetres.
 #[derive(Clone, Copy, Debug)]
 pub struct Location {
-    size: u8,
-    horizontal: u8,
-    vertical: u8,
-    latitude: u32,
-    longitude: u32,
-    altitude: u32,
+    /// The diameter of a sphere around what is there.
+    pub size: u8,
+    /// The horizontal precision.
+    pub horizontal: u8,
+    /// The vertical precision.
+    pub vertical: u8,
+    /// Thousandths of a second of arc. 2^31 is the equator, and north is more.
+    pub latitude: u32,
+    /// Thousandths of a second of arc. 2^31 is the prime meridian, and east is more.
+    pub longitude: u32,
+    /// Centimetres above a point 100,000 m below the reference spheroid of GPS.
+    pub altitude: u32,
     ghost printable: { are_printable size horizontal vertical latitude longitude ≡ true },
 }
 
@@ -56,7 +65,40 @@ fn are_printable(size: u8, horizontal: u8, vertical: u8, latitude: u32, longitud
 
 impl Location {
     ghost use Rattle.std.specs.Prelude.{option_map};
-    ghost use Rattle.fields_forms.specs.LocationItems.{location_item, location_of};
+    ghost use Rattle.fields_forms.specs.LocationItems.{location_if, location_item, location_of};
+
+    /// The location with these fields. `None` if it has no presentation format: a size whose digit
+    /// or power is above 9, or zero with a power; a latitude of more than 90 degrees, or a longitude
+    /// of more than 180.
+    pub fn new(
+        size: u8,
+        horizontal: u8,
+        vertical: u8,
+        latitude: u32,
+        longitude: u32,
+        altitude: u32,
+    ) -> Option<Self>
+        ensures { option_map location_item result ≡ location_if 0 (record {
+          size = size;
+          horizontal = horizontal;
+          vertical = vertical;
+          latitude = latitude;
+          longitude = longitude;
+          altitude = altitude;
+        }) }
+    {
+        if !are_printable(size, horizontal, vertical, latitude, longitude) {
+            return None;
+        }
+        Some(Location {
+            size,
+            horizontal,
+            vertical,
+            latitude,
+            longitude,
+            altitude,
+        })
+    }
 
     /// The location that is these octets. `None` if they have no presentation format.
     pub fn from_octets(octets: &[u8]) -> Option<Self>

@@ -4,6 +4,7 @@ ghost use Rattle.std.specs.Option.{SomeIff};
 ghost use Rattle.fields_forms.specs.LocationWords.{AreDecimals, AreSizes, BeginsWithLetter, FindsDirection, IsAltitude, IsAngle, IsDecimal, IsDirected, IsEither, IsLength, IsLocation, IsMinutes, IsRounded, IsSeconds, IsSize, IsSizeAt, SplitsAngle, location_octets};
 ghost use Rattle.fields_text.specs.Reading.{Reads};
 
+use crate::location::Location;
 use fields_text::read_number;
 
 /// The number of the equator and of the prime meridian.
@@ -256,6 +257,18 @@ fn octets_of(sizes: (u8, u8, u8), latitude: u32, longitude: u32, altitude: u32) 
     [
         0, size, horizontal, vertical, a, b, c, d, e, f, g, h, i, j, k, l,
     ]
+}
+
+impl Location {
+    ghost use Rattle.fields_forms.specs.LocationItems.{location_item};
+
+    /// The octets of the location (RFC 1876 section 2).
+    pub fn octets(&self) -> [u8; 16]
+        ensures { result ≡ location_octets (location_item self.now) }
+    {
+        let sizes = (self.size, self.horizontal, self.vertical);
+        octets_of(sizes, self.latitude, self.longitude, self.altitude)
+    }
 }
 
 /// A location: latitude, longitude and altitude, then optionally the size, and the horizontal and

@@ -101,11 +101,11 @@ decoded text bytes old new r same sizes is written =
     (sliced_into dec pad allow mode bytes old new r sizes
     (subst (Decodes (decode_error dec pad allow mode bytes) (decoded_bytes dec pad bytes) (length old)) (sym is) (decodes dec pad allow mode bytes (length old))) written)
 
--- Base64 that isn't decoded into enough octets, or into as many as a value has, is no value.
-pub no_ech : (text old new filled : List ℕ) (size : ℕ) → old ≡ [] → size ≡ min ((length text / 4 + 1) * 3) 65535 → length filled ≡ size
-    → ((octets : List ℕ) → IsBase64 text octets → length filled < length octets) → PushesValue (IsEch text) old new false
-no_ech text old new filled size empty is full bad octets ech =
+-- Base64 that isn't decoded into enough octets, or into as many as a value may have, is no value.
+pub no_ech : (most : ℕ) (text old new filled : List ℕ) (size : ℕ) → old ≡ [] → size ≡ min ((length text / 4 + 1) * 3) most → length filled ≡ size
+    → ((octets : List ℕ) → IsBase64 text octets → length filled < length octets) → PushesValue most (IsEch text) old new false
+no_ech most text old new filled size empty is full bad octets ech =
     let more = bad octets ech.0 in
-    let most = base64_size text octets ech.0 in
+    let size_is = base64_size text octets ech.0 in
     let begun = ap (λ (xs : List ℕ). length (xs ++ octets)) empty in
     omega arith

@@ -51,10 +51,10 @@ last_text text others last whole none =
     ap comma_texts whole ∙ texts_of_both others last ∙ ap (λ (texts : List (List ℕ)). comma_texts others ++ texts) (text_alone last none)
 
 -- octets that are joined
-module _ (Is : List ℕ → List ℕ → Type 0) where
+module _ (most : ℕ) (Is : List ℕ → List ℕ → Type 0) where
   -- If the octets of a text are appended, those of the list of this text alone are.
-  pub joined_one : (text : List ℕ) (texts : List (List ℕ)) (old new : List ℕ) (r : Bool) → texts ≡ text ∷ [] → PushesValue (Is text) old new r → PushesValue (AreJoined Is texts) old new r
-  joined_one text texts old new r alone pushed = pushed_as (Is text) (AreJoined Is texts) old new r into back pushed where
+  pub joined_one : (text : List ℕ) (texts : List (List ℕ)) (old new : List ℕ) (r : Bool) → texts ≡ text ∷ [] → PushesValue most (Is text) old new r → PushesValue most (AreJoined Is texts) old new r
+  joined_one text texts old new r alone pushed = pushed_as most (Is text) (AreJoined Is texts) old new r into back pushed where
     into : (octets : List ℕ) → Is text octets → AreJoined Is texts octets
     into octets is = subst (λ (ts : List (List ℕ)). AreJoined Is ts octets) (sym alone) (octets, [], is, sym (append-nil octets), refl)
 
@@ -65,7 +65,7 @@ module _ (Is : List ℕ → List ℕ → Type 0) where
 
   -- If the octets of the first text are appended and then those of the others, those of all the texts are.
   pub joined_more : RepresentsOne Is → (text : List ℕ) (texts all : List (List ℕ)) (old middle new : List ℕ) (r : Bool) → all ≡ text ∷ texts
-      → PushesValue (Is text) old middle true → PushesValue (AreJoined Is texts) middle new r → PushesValue (AreJoined Is all) old new r
+      → PushesValue most (Is text) old middle true → PushesValue most (AreJoined Is texts) middle new r → PushesValue most (AreJoined Is all) old new r
   joined_more one text texts all old middle new true whole (first, is, e) (others, are, f) = (
     first ++ others,
     subst (λ (ts : List (List ℕ)). AreJoined Is ts (first ++ others)) (sym whole) (first, others, is, refl, are),
@@ -74,10 +74,11 @@ module _ (Is : List ℕ → List ℕ → Type 0) where
   joined_more one text texts all old middle new false whole (first, is, e) bad = λ octets are.
       let parts = subst (λ (ts : List (List ℕ)). AreJoined Is ts octets) whole are in
       let same = one text parts.0 first parts.2 is in
-      exceeds_with old middle first parts.1 octets e (parts.3 ∙ ap (λ (xs : List ℕ). xs ++ parts.1) same) (bad parts.1 parts.4)
+      exceeds_with most old middle first parts.1 octets e (parts.3 ∙ ap (λ (xs : List ℕ). xs ++ parts.1) same) (bad parts.1 parts.4)
 
   -- If the octets of the first text can't be appended, those of all the texts can't be.
-  pub joined_none : (text : List ℕ) (texts all : List (List ℕ)) (old middle new : List ℕ) → all ≡ text ∷ texts → PushesValue (Is text) old middle false → PushesValue (AreJoined Is all) old new false
+  pub joined_none : (text : List ℕ) (texts all : List (List ℕ)) (old middle new : List ℕ) → all ≡ text ∷ texts → PushesValue most (Is text) old middle false
+      → PushesValue most (AreJoined Is all) old new false
   joined_none text texts all old middle new whole bad = λ octets are.
       let parts = subst (λ (ts : List (List ℕ)). AreJoined Is ts octets) whole are in
-      exceeds_more old parts.0 parts.1 octets parts.3 (bad parts.0 parts.2)
+      exceeds_more most old parts.0 parts.1 octets parts.3 (bad parts.0 parts.2)

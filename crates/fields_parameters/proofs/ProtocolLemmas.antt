@@ -210,42 +210,44 @@ module _ (name : List ℕ) where
   no_octet : (text : List ℕ) → 1 ≤ length text → get_or text 0 0 ≢ 44 → octet_at text ≡ None → (value : List ℕ) → ¬ (NamesFrom name text value)
   no_octet text some other none value names = none_by text names.more names.others some other none names.listed
 
+-- names that are appended, if they leave at most `most` octets
+module _ (most : ℕ) (name : List ℕ) where
   -- At the end of a text the names are the name that was read.
-  pub at_end : (text old new : List ℕ) (r : Bool) → text ≡ [] → PushesValue (IsCountedName name) old new r → PushesValue (SpellsNames name text) old new r
-  at_end text old new r empty pushed = pushed_as (IsCountedName name) (SpellsNames name text) old new r into back pushed where
+  pub at_end : (text old new : List ℕ) (r : Bool) → text ≡ [] → PushesValue most (IsCountedName name) old new r → PushesValue most (SpellsNames name text) old new r
+  at_end text old new r empty pushed = pushed_as most (IsCountedName name) (SpellsNames name text) old new r into back pushed where
     into : (octets : List ℕ) → IsCountedName name octets → SpellsNames name text octets
-    into octets is = ([], subst (λ (t : List ℕ). SpellsOctets t []) (sym empty) spelled_end, end_name octets is)
+    into octets is = ([], subst (λ (t : List ℕ). SpellsOctets t []) (sym empty) spelled_end, end_name name octets is)
 
     back : (octets : List ℕ) → SpellsNames name text octets → IsCountedName name octets
     back octets (listed, spells, names) =
         let nothing = spelled_nothing [] listed refl (subst (λ (t : List ℕ). SpellsOctets t listed) empty spells) in
-        name_end octets (subst (λ (os : List ℕ). NamesFrom name os octets) nothing names)
+        name_end name octets (subst (λ (os : List ℕ). NamesFrom name os octets) nothing names)
 
   -- a text that begins with a comma
   module _ (text after : List ℕ) (begins : string_at text ≡ split 44 after) where
     split_comma : (octets : List ℕ) → SpellsNames name text octets → (others : List ℕ) × IsCounted name × (octets ≡ (length name ∷ name) ++ others) × SpellsNames [] after others
     split_comma octets (listed, spells, names) =
         let first = spelled_first text after listed 44 begins spells in
-        let parts = name_comma first.0 octets (subst (λ (os : List ℕ). NamesFrom name os octets) first.1 names) in
+        let parts = name_comma name first.0 octets (subst (λ (os : List ℕ). NamesFrom name os octets) first.1 names) in
         (parts.0, parts.1, parts.2, (first.0, first.2, parts.3))
 
     -- If the name before it is appended and then the names after it, the names of the whole text are appended.
-    pub at_comma : (old middle new : List ℕ) (r : Bool) → PushesValue (IsCountedName name) old middle true → PushesValue (SpellsNames [] after) middle new r
-        → PushesValue (SpellsNames name text) old new r
+    pub at_comma : (old middle new : List ℕ) (r : Bool) → PushesValue most (IsCountedName name) old middle true → PushesValue most (SpellsNames [] after) middle new r
+        → PushesValue most (SpellsNames name text) old new r
     at_comma old middle new true (octets, is, e) (others, (listed, spells, names), f) = (
       (length name ∷ name) ++ others,
-      (44 ∷ listed, spelled_more text after listed 44 begins spells, comma_name listed others is.0 names),
+      (44 ∷ listed, spelled_more text after listed 44 begins spells, comma_name name listed others is.0 names),
       both_pushed old middle new (length name ∷ name) others ((length name ∷ name) ++ others) (e ∙ ap (λ (xs : List ℕ). old ++ xs) is.1) f refl,
     )
     at_comma old middle new false (octets, is, e) bad = λ all are.
         let parts = split_comma all are in
-        exceeds_with old middle (length name ∷ name) parts.0 all (e ∙ ap (λ (xs : List ℕ). old ++ xs) is.1) parts.2 (bad parts.0 parts.3)
+        exceeds_with most old middle (length name ∷ name) parts.0 all (e ∙ ap (λ (xs : List ℕ). old ++ xs) is.1) parts.2 (bad parts.0 parts.3)
 
     -- If the name before it can't be appended, the names of the text can't be.
-    pub at_bad_comma : (old middle : List ℕ) → PushesValue (IsCountedName name) old middle false → NamesExceed name text old
+    pub at_bad_comma : (old middle : List ℕ) → PushesValue most (IsCountedName name) old middle false → NamesExceed most name text old
     at_bad_comma old middle bad all are =
         let parts = split_comma all are in
-        exceeds_more old (length name ∷ name) parts.0 all parts.2 (bad (length name ∷ name) (parts.1, refl))
+        exceeds_more most old (length name ∷ name) parts.0 all parts.2 (bad (length name ∷ name) (parts.1, refl))
 
   -- a text that begins with another octet
   module _ (text after : List ℕ) (first : ℕ) (begins : string_at text ≡ split first after) where
@@ -255,34 +257,35 @@ module _ (name : List ℕ) where
         (parts.0, parts.2, subst (λ (os : List ℕ). NamesFrom name os octets) parts.1 names)
 
     -- If no octet of a name is there, it spells no names.
-    pub no_name : first ≢ 44 → BeginsNone first after → (old : List ℕ) → NamesExceed name text old
+    pub no_name : first ≢ 44 → BeginsNone first after → (old : List ℕ) → NamesExceed most name text old
     no_name other nothing old all are =
         let parts = listed_first all are in
-        absurd (no_octet (first ∷ parts.0) (omega arith) other (nothing parts.0 parts.1) all parts.2)
+        absurd (no_octet name (first ∷ parts.0) (omega arith) other (nothing parts.0 parts.1) all parts.2)
 
     module _ (left : List ℕ) (o : ℕ) (is : BeginsName first after o left) where
       move_octet : (octets : List ℕ) → SpellsNames name text octets → SpellsNames (name ++ o ∷ []) left octets
       move_octet octets are =
           let parts = listed_first octets are in
           let rest = is.begins parts.0 parts.1 in
-          (rest.0, rest.1, name_octet (first ∷ parts.0) rest.0 octets o rest.2 parts.2)
+          (rest.0, rest.1, name_octet name (first ∷ parts.0) rest.0 octets o rest.2 parts.2)
 
       move_back : (octets : List ℕ) → SpellsNames (name ++ o ∷ []) left octets → SpellsNames name text octets
       move_back octets (listed, spells, names) =
           let parts = is.follows listed spells in
-          (first ∷ parts.0, spelled_more text after parts.0 first begins parts.1, octet_name (first ∷ parts.0) listed octets o parts.2 names)
+          (first ∷ parts.0, spelled_more text after parts.0 first begins parts.1, octet_name name (first ∷ parts.0) listed octets o parts.2 names)
 
       -- What appends the names after an octet, with this octet added to the name, appends those of the text.
-      pub at_octet : (longer old new : List ℕ) (r : Bool) → longer ≡ name ++ o ∷ [] → PushesValue (SpellsNames longer left) old new r → PushesValue (SpellsNames name text) old new r
+      pub at_octet : (longer old new : List ℕ) (r : Bool) → longer ≡ name ++ o ∷ [] → PushesValue most (SpellsNames longer left) old new r → PushesValue most (SpellsNames name text) old new r
       at_octet longer old new r same pushed =
-          pushed_as (SpellsNames (name ++ o ∷ []) left) (SpellsNames name text) old new r move_back move_octet (subst (λ (n : List ℕ). PushesValue (SpellsNames n left) old new r) same pushed)
+          pushed_as most (SpellsNames (name ++ o ∷ []) left) (SpellsNames name text) old new r move_back move_octet
+          (subst (λ (n : List ℕ). PushesValue most (SpellsNames n left) old new r) same pushed)
 
       -- A name has at most 255 octets.
-      pub at_full : 255 ≤ length name → (old : List ℕ) → NamesExceed name text old
+      pub at_full : 255 ≤ length name → (old : List ℕ) → NamesExceed most name text old
       at_full full old all are =
           let names = (move_octet all are).2 in
-          let most = names.counted.0.1 in
-          absurd (omega (arith, most, length-append (name ++ o ∷ []) names.more, length-append name (o ∷ [])))
+          let few = names.counted.0.1 in
+          absurd (omega (arith, few, length-append (name ++ o ∷ []) names.more, length-append name (o ∷ [])))
 
 escaped_read : (first o : ℕ) (after : List ℕ) → first ≡ 92 → (o == 44) || (o == 92) ≡ true → octet_at (first ∷ o ∷ after) ≡ split o after
 escaped_read first o after slash is =
@@ -307,9 +310,9 @@ pub is_slash : (o : ℕ) → o ≡ 92 → (o == 44) || (o == 92) ≡ true
 is_slash o is = ap (λ (n : ℕ). (n == 44) || (n == 92)) is
 
 -- Names that are appended are those of a character string.
-pub alpn_pushed : (text inner bytes empty old new : List ℕ) (r : Bool) → inner ≡ unquoted text → bytes ≡ inner → empty ≡ []
-    → PushesValue (SpellsNames empty bytes) old new r → PushesValue (IsAlpn text) old new r
-alpn_pushed text inner bytes empty old new r between same none pushed = pushed_as (SpellsNames empty bytes) (IsAlpn text) old new r into back pushed where
+pub alpn_pushed : (most : ℕ) (text inner bytes empty old new : List ℕ) (r : Bool) → inner ≡ unquoted text → bytes ≡ inner → empty ≡ []
+    → PushesValue most (SpellsNames empty bytes) old new r → PushesValue most (IsAlpn text) old new r
+alpn_pushed most text inner bytes empty old new r between same none pushed = pushed_as most (SpellsNames empty bytes) (IsAlpn text) old new r into back pushed where
   within : bytes ≡ unquoted text
   within = same ∙ between
 

@@ -91,16 +91,16 @@ nothing_is text inner r between is = (into, back) where
       is ∙ ap (λ (t : List ℕ). length t == 0) (between ∙ empty)
 
 -- No value is appended.
-pub nothing_pushed : (text old : List ℕ) (r : Bool) → IsTrue r ↔ IsNothing text [] → PushesValue (IsNothing text) old old r
-nothing_pushed text old true is = ([], is.0 refl, sym (append-nil old))
-nothing_pushed text old false is = λ octets nothing.
+pub nothing_pushed : (most : ℕ) (text old : List ℕ) (r : Bool) → IsTrue r ↔ IsNothing text [] → PushesValue most (IsNothing text) old old r
+nothing_pushed most text old true is = ([], is.0 refl, sym (append-nil old))
+nothing_pushed most text old false is = λ octets nothing.
     let none : octets ≡ [] = nil_from_length octets nothing.1 in
     absurd (false≢true (is.1 (subst (IsNothing text) none nothing)))
 
 -- the key is none of those with a value
-pub other_key : (key : ℕ) (text old new : List ℕ) (r : Bool) → key ≢ 0 → key ≢ 1 → key ≢ 3 → key ≢ 4 → key ≢ 5 → key ≢ 6 → key ≢ 7 → PushesValue (IsNothing text) old new r
-    → PushesValue (IsNamedValue key text) old new r
-other_key key text old new r n0 n1 n3 n4 n5 n6 n7 pushed = subst (λ (Is : List ℕ → Type 0). PushesValue Is old new r) (sym same) pushed where
+pub other_key : (most key : ℕ) (text old new : List ℕ) (r : Bool) → key ≢ 0 → key ≢ 1 → key ≢ 3 → key ≢ 4 → key ≢ 5 → key ≢ 6 → key ≢ 7 → PushesValue most (IsNothing text) old new r
+    → PushesValue most (IsNamedValue key text) old new r
+other_key most key text old new r n0 n1 n3 n4 n5 n6 n7 pushed = subst (λ (Is : List ℕ → Type 0). PushesValue most Is old new r) (sym same) pushed where
   same : IsNamedValue key text ≡ IsNothing text
   same =
       λ t value.
@@ -151,19 +151,20 @@ mandatory_is : (text keys : List ℕ) → InAnyOrder IsListedKey (comma_texts te
 mandatory_is text keys both = record { keys = keys; listed = both.0; increasing = both.1; octets = refl }
 
 -- the keys of a text, added to none
-module _ (text none keys old new : List ℕ) where
+module _ (most : ℕ) (text none keys old new : List ℕ) where
   -- Keys that are appended are the value of their text.
-  pub keys_pushed : (r : Bool) → none ≡ [] → AddsValues (λ (key : ℕ). key) IsListedKey (comma_texts text) none keys true → PushesKeys keys old new r → PushesValue (AreMandatory text) old new r
+  pub keys_pushed : (r : Bool) → none ≡ [] → AddsValues (λ (key : ℕ). key) IsListedKey (comma_texts text) none keys true → PushesKeys most keys old new r
+      → PushesValue most (AreMandatory text) old new r
   keys_pushed r empty adds pushed =
       let both = adds_all IsListedKey (λ (key : ℕ). key) (comma_texts text) none keys empty adds in
       let is = mandatory_is text keys both in
-      one_pushed (AreMandatory text) (flat_map two_octets keys) old new r is (λ other other_is. one_mandatory text other (flat_map two_octets keys) other_is is) pushed
+      one_pushed most (AreMandatory text) (flat_map two_octets keys) old new r is (λ other other_is. one_mandatory text other (flat_map two_octets keys) other_is is) pushed
 
   -- A text whose keys can't be added has no value.
-  pub keys_refused : none ≡ [] → AddsValues (λ (key : ℕ). key) IsListedKey (comma_texts text) none keys false → PushesValue (AreMandatory text) old new false
+  pub keys_refused : none ≡ [] → AddsValues (λ (key : ℕ). key) IsListedKey (comma_texts text) none keys false → PushesValue most (AreMandatory text) old new false
   keys_refused empty adds =
       let bad = adds_not IsListedKey (λ (key : ℕ). key) (comma_texts text) none keys empty adds in
-      none_pushed (AreMandatory text) old new (λ value are. bad are.keys are.listed are.increasing)
+      none_pushed most (AreMandatory text) old new (λ value are. bad are.keys are.listed are.increasing)
 
 one_alpn : (text v w : List ℕ) → IsAlpn text v → IsAlpn text w → v ≡ w
 one_alpn text v w (octets, a, first) (others, b, second) =
@@ -194,18 +195,18 @@ one_hint key text v w a b = by_test (key == 4) text v w a b where
   by_test false text v w a b = one_ipv6 text v w a b
 
 -- A hint that is appended.
-pub hint_pushed : (key : ℕ) (text octets old new : List ℕ) (r : Bool) → IsHint key text octets → PushesOctets octets old new r → PushesValue (IsHint key text) old new r
-hint_pushed key text octets old new r is pushed = one_pushed (IsHint key text) octets old new r is (λ other other_is. one_hint key text other octets other_is is) pushed
+pub hint_pushed : (most key : ℕ) (text octets old new : List ℕ) (r : Bool) → IsHint key text octets → PushesOctets most octets old new r → PushesValue most (IsHint key text) old new r
+hint_pushed most key text octets old new r is pushed = one_pushed most (IsHint key text) octets old new r is (λ other other_is. one_hint key text other octets other_is is) pushed
 
 -- A port that is appended.
-pub port_pushed : (text old new : List ℕ) (n : ℕ) (r : Bool) → (IsNumeral 10 text × (digits_value 10 text ≤ 65535)) × (n ≡ digits_value 10 text) → PushesOctets (n / 256 ∷ n % 256 ∷ []) old new r
-    → PushesValue (IsPort text) old new r
-port_pushed text old new n r read pushed =
-    one_pushed (IsPort text) (n / 256 ∷ n % 256 ∷ []) old new r (port_read text n read) (λ other is. one_port text other (n / 256 ∷ n % 256 ∷ []) is (port_read text n read)) pushed
+pub port_pushed : (most : ℕ) (text old new : List ℕ) (n : ℕ) (r : Bool) → (IsNumeral 10 text × (digits_value 10 text ≤ 65535)) × (n ≡ digits_value 10 text)
+    → PushesOctets most (n / 256 ∷ n % 256 ∷ []) old new r → PushesValue most (IsPort text) old new r
+port_pushed most text old new n r read pushed =
+    one_pushed most (IsPort text) (n / 256 ∷ n % 256 ∷ []) old new r (port_read text n read) (λ other is. one_port text other (n / 256 ∷ n % 256 ∷ []) is (port_read text n read)) pushed
 
 -- A text that is no number of 16 bits is no port.
-pub no_port : (text old new : List ℕ) → ¬ (IsNumeral 10 text × (digits_value 10 text ≤ 65535)) → PushesValue (IsPort text) old new false
-no_port text old new none = none_pushed (IsPort text) old new (not_port text none)
+pub no_port : (most : ℕ) (text old new : List ℕ) → ¬ (IsNumeral 10 text × (digits_value 10 text ≤ 65535)) → PushesValue most (IsPort text) old new false
+no_port most text old new none = none_pushed most (IsPort text) old new (not_port text none)
 
 -- A text is at most one value of a key.
 pub one_value : (key : ℕ) (text v w : List ℕ) → IsNamedValue key text v → IsNamedValue key text w → v ≡ w

@@ -50,11 +50,11 @@ pub record BeginsName (first : ℕ) (text : List ℕ) (octet : ℕ) (left : List
 abbrev pub BeginsNone : ℕ → List ℕ → Type 0
 BeginsNone first text = (octets : List ℕ) → SpellsOctets text octets → octet_at (first ∷ octets) ≡ None
 
--- the names of a text, if it spells any, don't fit after the octets of a value
-abbrev pub NamesExceed : (name text value : List ℕ) → Type 0
-NamesExceed name text value = (octets : List ℕ) → SpellsNames name text octets → 65535 < length (value ++ octets)
+-- the names of a text, if it spells any, make more than `most` octets after those of a value
+abbrev pub NamesExceed : (most : ℕ) (name text value : List ℕ) → Type 0
+NamesExceed most name text value = (octets : List ℕ) → SpellsNames name text octets → most < length (value ++ octets)
 
 -- what appending the names of a text returns, which follows from what appending those that are left after a first part of it returns
-abbrev pub ContinuesNames : (name text value begun left now : List ℕ) → Type 0
-ContinuesNames name text value begun left now =
-    (new : List ℕ) (pushed : Bool) → PushesValue (SpellsNames begun left) now new pushed → PushesValue (SpellsNames name text) value new pushed
+abbrev pub ContinuesNames : (most : ℕ) (name text value begun left now : List ℕ) → Type 0
+ContinuesNames most name text value begun left now =
+    (new : List ℕ) (pushed : Bool) → PushesValue most (SpellsNames begun left) now new pushed → PushesValue most (SpellsNames name text) value new pushed

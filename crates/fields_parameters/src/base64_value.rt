@@ -3,12 +3,12 @@ ghost use Rattle.std.specs.Prelude.{◌≡◌, ◌<◌, ◌≤◌, ℕ, [], List
 ghost use Rattle.fields_parameters.specs.ParameterValues.{IsEch};
 ghost use Rattle.fields_parameters.specs.PushedValues.{DecodesInto, PushesValue};
 
-use crate::value_octets::{MOST_OCTETS, ValueOctets};
+use arrayvec::ArrayVec;
 use base64::engine::general_purpose::STANDARD;
 
 /// Sets the value to this many zeros.
-fn fill(value: &mut ValueOctets, size: usize)
-    requires { size ≤ 65535 }
+fn fill<const N: usize>(value: &mut ArrayVec<u8, N>, size: usize)
+    requires { size ≤ N }
     ensures { length value.new.items ≡ size }
 {
     value.clear();
@@ -26,12 +26,12 @@ fn decode(octets: &mut [u8], text: &str) -> Option<usize>
 }
 
 /// Appends the octets of base64, one at least.
-pub(crate) fn push_ech(value: &mut ValueOctets, text: &str) -> bool
+pub(crate) fn push_ech<const N: usize>(value: &mut ArrayVec<u8, N>, text: &str) -> bool
     requires { value.old.items ≡ [] }
-    ensures { PushesValue (IsEch text.now) value.old.items value.new.items result }
+    ensures { PushesValue N (IsEch text.now) value.old.items value.new.items result }
 {
     let most = (text.len() / 4 + 1) * 3;
-    fill(value, most.min(MOST_OCTETS));
+    fill(value, most.min(N));
     let Some(size) = decode(value.as_mut_slice(), text) else {
         return false;
     };

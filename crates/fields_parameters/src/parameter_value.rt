@@ -10,7 +10,8 @@ use crate::base64_value::push_ech;
 use crate::mandatory::push_mandatory;
 use crate::parameter_key::LARGEST_NUMBER;
 use crate::protocols::push_alpn;
-use crate::value_octets::{ValueOctets, push_octets};
+use crate::value_octets::push_octets;
+use arrayvec::ArrayVec;
 use fields_plain::{read_ipv4, read_ipv6};
 use fields_text::{push_string, read_number};
 
@@ -35,8 +36,8 @@ fn is_nothing(text: &str) -> bool
 }
 
 /// Appends the two octets of a port.
-fn push_port(value: &mut ValueOctets, text: &str) -> bool
-    ensures { PushesValue (IsPort text.now) value.old.items value.new.items result }
+fn push_port<const N: usize>(value: &mut ArrayVec<u8, N>, text: &str) -> bool
+    ensures { PushesValue N (IsPort text.now) value.old.items value.new.items result }
 {
     let Some(port) = read_number(text, LARGEST_NUMBER) else {
         return false;
@@ -45,8 +46,8 @@ fn push_port(value: &mut ValueOctets, text: &str) -> bool
 }
 
 /// Appends the octets of an address.
-fn push_hint(value: &mut ValueOctets, key: u16, text: &str) -> bool
-    ensures { PushesValue (IsHint key text.now) value.old.items value.new.items result }
+fn push_hint<const N: usize>(value: &mut ArrayVec<u8, N>, key: u16, text: &str) -> bool
+    ensures { PushesValue N (IsHint key text.now) value.old.items value.new.items result }
 {
     if key == 4 {
         let Some(address) = read_ipv4(text.as_bytes()) else {
@@ -61,8 +62,8 @@ fn push_hint(value: &mut ValueOctets, key: u16, text: &str) -> bool
 }
 
 /// Appends the octets of addresses with commas between them.
-fn push_hints(value: &mut ValueOctets, key: u16, text: &str) -> bool
-    ensures { PushesValue (AreHints key text.now) value.old.items value.new.items result }
+fn push_hints<const N: usize>(value: &mut ArrayVec<u8, N>, key: u16, text: &str) -> bool
+    ensures { PushesValue N (AreHints key text.now) value.old.items value.new.items result }
 {
     let mut left = text;
     'hints: while let Some((first, others)) = left.split_once(',') {
@@ -75,9 +76,9 @@ fn push_hints(value: &mut ValueOctets, key: u16, text: &str) -> bool
 }
 
 /// Appends the value of a named key to no octets.
-pub(crate) fn push_named(value: &mut ValueOctets, key: u16, text: &str) -> bool
+pub(crate) fn push_named<const N: usize>(value: &mut ArrayVec<u8, N>, key: u16, text: &str) -> bool
     requires { value.old.items ≡ [] }
-    ensures { PushesValue (IsNamedValue key text.now) value.old.items value.new.items result }
+    ensures { PushesValue N (IsNamedValue key text.now) value.old.items value.new.items result }
 {
     match key {
         0 => push_mandatory(value, unquoted(text)),

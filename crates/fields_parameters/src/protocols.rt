@@ -5,7 +5,7 @@ ghost use Rattle.fields_parameters.specs.ProtocolNames.{BeginsName, BeginsNone, 
 ghost use Rattle.fields_parameters.specs.PushedValues.{PushesValue};
 
 use crate::parameter_value::unquoted;
-use crate::value_octets::{ValueOctets, push_octets};
+use crate::value_octets::push_octets;
 use arrayvec::ArrayVec;
 use fields_text::split_octet;
 
@@ -13,8 +13,8 @@ use fields_text::split_octet;
 type NameOctets = ArrayVec<u8, 255>;
 
 /// Appends a name of 1 to 255 octets after its length.
-fn push_name(value: &mut ValueOctets, name: &NameOctets) -> bool
-    ensures { PushesValue (IsCountedName name.now.items) value.old.items value.new.items result }
+fn push_name<const N: usize>(value: &mut ArrayVec<u8, N>, name: &NameOctets) -> bool
+    ensures { PushesValue N (IsCountedName name.now.items) value.old.items value.new.items result }
 {
     if name.is_empty() {
         return false;
@@ -49,15 +49,15 @@ fn split_name_octet(first: u8, text: &[u8]) -> Option<(u8, &[u8])>
 
 /// Moves an octet of a name from the text to `name`, or appends the name if the text begins with a
 /// comma. Returns the text after it.
-fn push_first<'a>(
-    value: &mut ValueOctets,
+fn push_first<'a, const N: usize>(
+    value: &mut ArrayVec<u8, N>,
     name: &mut NameOctets,
     text: &'a [u8],
 ) -> Option<&'a [u8]>
     requires { 0 < length text.now }
     ensures { MatchOption result
-        (NamesExceed name.old.items text.now value.old.items)
-        (λ left. (length left.now < length text.now) × ContinuesNames name.old.items text.now
+        (NamesExceed N name.old.items text.now value.old.items)
+        (λ left. (length left.now < length text.now) × ContinuesNames N name.old.items text.now
         value.old.items name.new.items left.now value.new.items) }
 {
     let Some((first, after)) = split_octet(text) else {
@@ -80,8 +80,12 @@ fn push_first<'a>(
 }
 
 /// Appends the names of a list, whose first one begins with the octets of `name`.
-fn push_names(value: &mut ValueOctets, name: &mut NameOctets, text: &[u8]) -> bool
-    ensures { PushesValue (SpellsNames name.old.items text.now)
+fn push_names<const N: usize>(
+    value: &mut ArrayVec<u8, N>,
+    name: &mut NameOctets,
+    text: &[u8],
+) -> bool
+    ensures { PushesValue N (SpellsNames name.old.items text.now)
         value.old.items value.new.items result }
 {
     let mut left = text;
@@ -95,8 +99,8 @@ fn push_names(value: &mut ValueOctets, name: &mut NameOctets, text: &[u8]) -> bo
 }
 
 /// Appends the octets of a string of protocol names with commas between them.
-pub(crate) fn push_alpn(value: &mut ValueOctets, text: &str) -> bool
-    ensures { PushesValue (IsAlpn text.now) value.old.items value.new.items result }
+pub(crate) fn push_alpn<const N: usize>(value: &mut ArrayVec<u8, N>, text: &str) -> bool
+    ensures { PushesValue N (IsAlpn text.now) value.old.items value.new.items result }
 {
     let mut name = ArrayVec::new();
     push_names(value, &mut name, unquoted(text).as_bytes())

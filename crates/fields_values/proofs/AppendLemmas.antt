@@ -43,10 +43,13 @@ taken_by kind forms.Locator64 (values.Types types) part is = absurd is.2
 taken_by kind forms.Name (values.Types types) part is = absurd is.2
 taken_by kind forms.Counted (values.Types types) part is = absurd is.2
 taken_by kind forms.Sized (values.Types types) part is = absurd is.2
-taken_by kind (forms.Fixed size) (values.Types types) part is = absurd is.2
+taken_by kind forms.Location (values.Types types) part is = absurd is.2
 taken_by kind forms.Strings (values.Types types) part is = absurd is.2
 taken_by kind forms.Parameters (values.Types types) part is = absurd is.2
 taken_by kind forms.Prefixes (values.Types types) part is = absurd is.2
+taken_by kind forms.Gateway (values.Types types) part is = absurd is.2
+taken_by kind forms.Relay (values.Types types) part is = absurd is.2
+taken_by kind forms.Identity (values.Types types) part is = absurd is.2
 taken_by kind forms.Rest (values.Types types) part is = absurd is.2
 taken_by kind form value part is = (part, is)
 

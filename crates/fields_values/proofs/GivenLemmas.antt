@@ -160,7 +160,7 @@ all_octets_taken kinds.ServiceParameters xs v octets sized bytes shown =
 all_octets_taken kinds.AddressPrefixes xs v octets sized bytes shown =
     octets_taken kinds.AddressPrefixes (value_form kinds.AddressPrefixes) xs v (λ given same. (xs, refl, (subst (λ (ys : List ℕ). accepts kinds.AddressPrefixes ys ≡ true) same sized, same))) shown
 all_octets_taken kinds.Location xs v octets sized bytes shown =
-    octets_taken kinds.Location (forms.Fixed 16) xs v (λ given same. (xs, refl, (subst (λ (ys : List ℕ). length ys ≡ 16) same sized, same))) shown
+    octets_taken kinds.Location forms.Location xs v (λ given same. (xs, refl, (subst (λ (ys : List ℕ). length ys ≡ 16) same sized, same))) shown
 all_octets_taken kinds.GatewayAndKey xs v octets sized bytes shown =
     octets_taken kinds.GatewayAndKey (value_form kinds.GatewayAndKey) xs v (λ given same. (xs, refl, (subst (λ (ys : List ℕ). accepts kinds.GatewayAndKey ys ≡ true) same sized, same))) shown
 all_octets_taken kinds.Relay xs v octets sized bytes shown =

@@ -35,6 +35,7 @@ use Rattle.fields_values.specs.declared.form.Form.{Form}
 use Rattle.fields_values.specs.declared.form.Form.TheVariants as forms
 use Rattle.fields_values.specs.declared.new_value.NewValue.{NewValue}
 use Rattle.fields_values.specs.declared.new_value.NewValue.TheVariants as values
+use Rattle.fields_values.proofs.FormOctets.{gateway_is, identity_is, relay_is}
 use Rattle.fields_values.proofs.NumberLemmas.{length-last_octets}
 
 -- lists
@@ -123,9 +124,10 @@ locator_size kind (values.Locator64 locator) octets is = ap (λ (xs : List ℕ).
 locator_size kind (values.Octets given) octets is = ap (λ (xs : List ℕ). length xs) is.1 ∙ is.0
 locator_size kind _ octets is = absurd is
 
-plain_size : (kind : Kind) (n : ℕ) (value : NewValue) (octets : List ℕ) → IsEncodedAs kind (forms.Fixed n) value octets → length octets ≡ n
-plain_size kind n (values.Octets given) octets is = ap (λ (xs : List ℕ). length xs) is.1 ∙ is.0
-plain_size kind n _ octets is = absurd is
+location_size : (kind : Kind) (value : NewValue) (octets : List ℕ) → IsEncodedAs kind forms.Location value octets → length octets ≡ 16
+location_size kind (values.Location location) octets is = ap (λ (xs : List ℕ). length xs) is
+location_size kind (values.Octets given) octets is = ap (λ (xs : List ℕ). length xs) is.1 ∙ is.0
+location_size kind _ octets is = absurd is
 
 counted_laid : (kind : Kind) (value : NewValue) (octets : List ℕ) (others : Layout) (rest : List Part) → IsEncodedAs kind forms.Counted value octets → IsLaidOut others rest
     → IsLaidOut (CharacterString others) (OctetsPart octets ∷ rest)
@@ -166,6 +168,21 @@ prefixes_accepted : (value : NewValue) (octets : List ℕ) → IsEncodedAs kinds
 prefixes_accepted (values.Prefixes prefixes) octets is = prefixes_follow prefixes.now octets is
 prefixes_accepted (values.Octets given) octets is = given_accepted kinds.AddressPrefixes given octets is
 prefixes_accepted _ octets is = absurd is
+
+gateway_accepted : (value : NewValue) (octets : List ℕ) → IsEncodedAs kinds.GatewayAndKey forms.Gateway value octets → accepts kinds.GatewayAndKey octets ≡ true
+gateway_accepted (values.GatewayAndKey value) octets is = gateway_is value octets is
+gateway_accepted (values.Octets given) octets is = given_accepted kinds.GatewayAndKey given octets is
+gateway_accepted _ octets is = absurd is
+
+relay_accepted : (value : NewValue) (octets : List ℕ) → IsEncodedAs kinds.Relay forms.Relay value octets → accepts kinds.Relay octets ≡ true
+relay_accepted (values.Relay value) octets is = relay_is value octets is
+relay_accepted (values.Octets given) octets is = given_accepted kinds.Relay given octets is
+relay_accepted _ octets is = absurd is
+
+identity_accepted : (value : NewValue) (octets : List ℕ) → IsEncodedAs kinds.HostIdentity forms.Identity value octets → accepts kinds.HostIdentity octets ≡ true
+identity_accepted (values.HostIdentity value) octets is = identity_is value octets is
+identity_accepted (values.Octets given) octets is = given_accepted kinds.HostIdentity given octets is
+identity_accepted _ octets is = absurd is
 
 rest_accepted : (kind : Kind) (value : NewValue) (octets : List ℕ) → IsEncodedAs kind forms.Rest value octets → accepts kind octets ≡ true
 rest_accepted kind (values.Octets given) octets is = given_accepted kind given octets is
@@ -234,10 +251,10 @@ module _ (others : Layout) (rest : List Part) (after : IsLaidOut others rest) wh
   field_laid kinds.SmallTypeBitMap value part is last = rest_laid kinds.SmallTypeBitMap is.0 part is.1 (rest_accepted kinds.SmallTypeBitMap value is.0 is.2) (last refl)
   field_laid kinds.ServiceParameters value part is last = rest_laid kinds.ServiceParameters is.0 part is.1 (parameters_accepted value is.0 is.2) (last refl)
   field_laid kinds.AddressPrefixes value part is last = rest_laid kinds.AddressPrefixes is.0 part is.1 (prefixes_accepted value is.0 is.2) (last refl)
-  field_laid kinds.Location value part is last = fixed_laid 16 is.0 part is.1 (plain_size kinds.Location 16 value is.0 is.2)
-  field_laid kinds.GatewayAndKey value part is last = rest_laid kinds.GatewayAndKey is.0 part is.1 (rest_accepted kinds.GatewayAndKey value is.0 is.2) (last refl)
-  field_laid kinds.Relay value part is last = rest_laid kinds.Relay is.0 part is.1 (rest_accepted kinds.Relay value is.0 is.2) (last refl)
-  field_laid kinds.HostIdentity value part is last = rest_laid kinds.HostIdentity is.0 part is.1 (rest_accepted kinds.HostIdentity value is.0 is.2) (last refl)
+  field_laid kinds.Location value part is last = fixed_laid 16 is.0 part is.1 (location_size kinds.Location value is.0 is.2)
+  field_laid kinds.GatewayAndKey value part is last = rest_laid kinds.GatewayAndKey is.0 part is.1 (gateway_accepted value is.0 is.2) (last refl)
+  field_laid kinds.Relay value part is last = rest_laid kinds.Relay is.0 part is.1 (relay_accepted value is.0 is.2) (last refl)
+  field_laid kinds.HostIdentity value part is last = rest_laid kinds.HostIdentity is.0 part is.1 (identity_accepted value is.0 is.2) (last refl)
   field_laid kinds.Opaque value part is last = rest_laid kinds.Opaque is.0 part is.1 (rest_accepted kinds.Opaque value is.0 is.2) (last refl)
 
 -- all fields

@@ -1,4 +1,6 @@
 mod AppendLemmas
+mod FormOctets
+mod FormSteps
 mod GivenLemmas
 mod LaidOutValues
 mod ListSteps

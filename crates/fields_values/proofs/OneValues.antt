@@ -37,12 +37,16 @@ one_octets kind forms.Ipv6 (values.Ipv6 address) xs ys a b = a.1 ∙ sym b.1
 one_octets kind forms.Eui48 (values.Eui48 address) xs ys a b = a.1 ∙ sym b.1
 one_octets kind forms.Eui64 (values.Eui64 address) xs ys a b = a.1 ∙ sym b.1
 one_octets kind forms.Locator64 (values.Locator64 locator) xs ys a b = a.1 ∙ sym b.1
+one_octets kind forms.Location (values.Location location) xs ys a b = a ∙ sym b
 one_octets kind forms.Counted (values.String string) xs ys a b = a.1 ∙ sym b.1
 one_octets kind forms.Sized (values.Sized string) xs ys a b = a.1 ∙ sym b.1
 one_octets kind forms.Strings (values.Strings strings) xs ys a b = one_strings strings.now xs ys a.1 b.1
 one_octets kind forms.Types (values.Types types) xs ys a b = one_type_map types.now xs ys a b
 one_octets kind forms.Parameters (values.Parameters parameters) xs ys a b = one_parameters 0 parameters.now xs ys a b
 one_octets kind forms.Prefixes (values.Prefixes prefixes) xs ys a b = one_prefixes prefixes.now xs ys a b
+one_octets kind forms.Gateway (values.GatewayAndKey value) xs ys a b = a.1 ∙ sym b.1
+one_octets kind forms.Relay (values.Relay value) xs ys a b = a.1 ∙ sym b.1
+one_octets kind forms.Identity (values.HostIdentity value) xs ys a b = a.2 ∙ sym b.2
 one_octets kind form (values.Octets given) xs ys a b = a.1 ∙ sym b.1
 one_octets kind form value xs ys a b = absurd a
 

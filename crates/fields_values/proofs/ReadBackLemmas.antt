@@ -13,6 +13,8 @@ use Rattle.fields_table.specs.declared.kind.Kind.{Kind}
 use Rattle.fields_table.specs.declared.kind.Kind.TheVariants as kinds
 use Rattle.fields_table.specs.declared.shape.Shape.{Shape}
 use Rattle.fields_table.specs.declared.shape.Shape.TheVariants as shapes
+use Rattle.fields_forms.specs.LocationItems.{location_item}
+use Rattle.fields_forms.specs.LocationWords.{location_octets}
 use Rattle.fields_lists.proofs.theory.ItemLemmas.{items_of_first}
 use Rattle.fields_parameters.proofs.theory.Shrinking.{parameter_shrinks}
 use Rattle.fields_lists.proofs.theory.Shrinking.{prefix_shrinks, string_shrinks}
@@ -133,10 +135,25 @@ locator_read (values.Locator64 locator) part (octets, e, (n, is)) = plain_read k
 locator_read (values.Octets given) part (octets, e, (n, is)) = plain_read kinds.Locator64 given.now octets part (λ xs. refl) e is
 locator_read _ part is = absurd is.2
 
-fixed_read : (kind : Kind) (size : ℕ) (value : NewValue) (part : Part) → ((xs : List ℕ) → octets_value kind xs ≡ Octets xs)
-    → IsPartIn kind (forms.Fixed size) value part → ReadsBack value (part_value kind part)
-fixed_read kind size (values.Octets given) part own (octets, e, (n, is)) = plain_read kind given.now octets part own e is
-fixed_read kind size _ part own is = absurd is.2
+location_read : (value : NewValue) (part : Part) → IsPartIn kinds.Location forms.Location value part → ReadsBack value (part_value kinds.Location part)
+location_read (values.Location location) part (octets, e, is) = plain_read kinds.Location (location_octets (location_item location)) octets part (λ xs. refl) e is
+location_read (values.Octets given) part (octets, e, (n, is)) = plain_read kinds.Location given.now octets part (λ xs. refl) e is
+location_read _ part is = absurd is.2
+
+gateway_read : (value : NewValue) (part : Part) → IsPartIn kinds.GatewayAndKey forms.Gateway value part → ReadsBack value (part_value kinds.GatewayAndKey part)
+gateway_read (values.GatewayAndKey value) part (octets, e, is) = (octets, plain_read kinds.GatewayAndKey octets octets part (λ xs. refl) e refl, is)
+gateway_read (values.Octets given) part (octets, e, (n, is)) = plain_read kinds.GatewayAndKey given.now octets part (λ xs. refl) e is
+gateway_read _ part is = absurd is.2
+
+relay_read : (value : NewValue) (part : Part) → IsPartIn kinds.Relay forms.Relay value part → ReadsBack value (part_value kinds.Relay part)
+relay_read (values.Relay value) part (octets, e, is) = (octets, plain_read kinds.Relay octets octets part (λ xs. refl) e refl, is)
+relay_read (values.Octets given) part (octets, e, (n, is)) = plain_read kinds.Relay given.now octets part (λ xs. refl) e is
+relay_read _ part is = absurd is.2
+
+identity_read : (value : NewValue) (part : Part) → IsPartIn kinds.HostIdentity forms.Identity value part → ReadsBack value (part_value kinds.HostIdentity part)
+identity_read (values.HostIdentity value) part (octets, e, is) = (octets, plain_read kinds.HostIdentity octets octets part (λ xs. refl) e refl, is)
+identity_read (values.Octets given) part (octets, e, (n, is)) = plain_read kinds.HostIdentity given.now octets part (λ xs. refl) e is
+identity_read _ part is = absurd is.2
 
 rest_read : (kind : Kind) (value : NewValue) (part : Part) → ((xs : List ℕ) → octets_value kind xs ≡ Octets xs) → IsPartIn kind forms.Rest value part → ReadsBack value (part_value kind part)
 rest_read kind (values.Octets given) part own (octets, e, (n, is)) = plain_read kind given.now octets part own e is
@@ -178,7 +195,7 @@ value_read kinds.RecordType value part is = type_read value part is
 value_read kinds.Eui48 value part is = eui48_read value part is
 value_read kinds.Eui64 value part is = eui64_read value part is
 value_read kinds.Locator64 value part is = locator_read value part is
-value_read kinds.Location value part is = fixed_read kinds.Location 16 value part (λ xs. refl) is
+value_read kinds.Location value part is = location_read value part is
 value_read kinds.CompressibleName value part is = name_read kinds.CompressibleName value part is
 value_read kinds.PointedName value part is = name_read kinds.PointedName value part is
 value_read kinds.LowercasedName value part is = name_read kinds.LowercasedName value part is
@@ -197,7 +214,7 @@ value_read kinds.Hexadecimal value part is = rest_read kinds.Hexadecimal value p
 value_read kinds.Base64 value part is = rest_read kinds.Base64 value part (λ xs. refl) is
 value_read kinds.Base64OrHyphen value part is = rest_read kinds.Base64OrHyphen value part (λ xs. refl) is
 value_read kinds.SmallTypeBitMap value part is = rest_read kinds.SmallTypeBitMap value part (λ xs. refl) is
-value_read kinds.GatewayAndKey value part is = rest_read kinds.GatewayAndKey value part (λ xs. refl) is
-value_read kinds.Relay value part is = rest_read kinds.Relay value part (λ xs. refl) is
-value_read kinds.HostIdentity value part is = rest_read kinds.HostIdentity value part (λ xs. refl) is
+value_read kinds.GatewayAndKey value part is = gateway_read value part is
+value_read kinds.Relay value part is = relay_read value part is
+value_read kinds.HostIdentity value part is = identity_read value part is
 value_read kinds.Opaque value part is = rest_read kinds.Opaque value part (λ xs. refl) is

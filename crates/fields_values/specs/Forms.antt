@@ -2,7 +2,7 @@
 use Rattle.fields_table.specs.declared.kind.Kind.{Kind}
 use Rattle.fields_table.specs.declared.kind.Kind.TheVariants as kinds
 use Rattle.fields_values.specs.declared.form.Form.{Form}
-use Rattle.fields_values.specs.declared.form.Form.TheVariants.{Number, RecordType, Ipv4, Ipv6, Eui48, Eui64, Locator64, Name, Counted, Sized, Fixed, Strings, Types, Parameters, Prefixes, Rest}
+use Rattle.fields_values.specs.declared.form.Form.TheVariants.{Number, RecordType, Ipv4, Ipv6, Eui48, Eui64, Locator64, Name, Counted, Sized, Location, Strings, Types, Parameters, Prefixes, Gateway, Relay, Identity, Rest}
 
 abbrev pub value_form : Kind → Form
 value_form kinds.Number8 = Number 1
@@ -28,9 +28,12 @@ value_form kinds.Tag = Counted
 value_form kinds.Salt = Counted
 value_form kinds.Hash = Counted
 value_form kinds.SizedOctets = Sized
-value_form kinds.Location = Fixed 16
+value_form kinds.Location = Location
 value_form kinds.Strings = Strings
 value_form kinds.TypeBitMap = Types
 value_form kinds.ServiceParameters = Parameters
 value_form kinds.AddressPrefixes = Prefixes
+value_form kinds.GatewayAndKey = Gateway
+value_form kinds.Relay = Relay
+value_form kinds.HostIdentity = Identity
 value_form kind = Rest

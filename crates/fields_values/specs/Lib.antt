@@ -3,6 +3,7 @@ pub mod Forms
 pub mod GivenValues
 pub mod Laws
 pub mod Named
+pub mod NewForms
 pub mod NewValues
 pub mod ReadBack
 pub mod ValueData

@@ -10,6 +10,8 @@ use Rattle.fields_table.specs.Shapes.{shape_of}
 use Rattle.fields_table.specs.declared.kind.Kind.{Kind}
 use Rattle.fields_table.specs.declared.shape.Shape.{Shape}
 use Rattle.fields_table.specs.declared.shape.Shape.TheVariants.{UncompressedName}
+use Rattle.fields_forms.specs.LocationItems.{location_item}
+use Rattle.fields_forms.specs.LocationWords.{location_octets}
 use Rattle.fields_lists.specs.ItemsLeft.{prefix_item}
 use Rattle.fields_parameters.specs.ParameterItems.{ParameterItem, parameter_octets}
 use Rattle.fields_lists.specs.declared.prefixes.AddressPrefix.{AddressPrefix}
@@ -18,6 +20,7 @@ use Rattle.fields_text.specs.LengthOctets.{counted, sized}
 use Rattle.fields_lists.specs.PrefixWords.{prefix_octets}
 use Rattle.fields_lists.specs.TypeMapWords.{IsTypeMapOf}
 use Rattle.fields_values.specs.Forms.{value_form}
+use Rattle.fields_values.specs.NewForms.{IsGatewayIn, IsIdentityIn, IsRelayIn}
 use Rattle.fields_values.specs.declared.form.Form.{Form}
 use Rattle.fields_values.specs.declared.form.Form.TheVariants as forms
 use Rattle.fields_values.specs.declared.new_value.NewValue.{NewValue}
@@ -68,11 +71,14 @@ abbrev pub AreFieldOctets : Kind → Form → List ℕ → Type 0
 AreFieldOctets kind forms.Eui48 octets = length octets ≡ 6
 AreFieldOctets kind forms.Eui64 octets = length octets ≡ 8
 AreFieldOctets kind forms.Locator64 octets = length octets ≡ 8
-AreFieldOctets kind (forms.Fixed size) octets = length octets ≡ size
+AreFieldOctets kind forms.Location octets = length octets ≡ 16
 AreFieldOctets kind forms.Strings octets = accepts kind octets ≡ true
 AreFieldOctets kind forms.Types octets = accepts kind octets ≡ true
 AreFieldOctets kind forms.Parameters octets = accepts kind octets ≡ true
 AreFieldOctets kind forms.Prefixes octets = accepts kind octets ≡ true
+AreFieldOctets kind forms.Gateway octets = accepts kind octets ≡ true
+AreFieldOctets kind forms.Relay octets = accepts kind octets ≡ true
+AreFieldOctets kind forms.Identity octets = accepts kind octets ≡ true
 AreFieldOctets kind forms.Rest octets = accepts kind octets ≡ true
 AreFieldOctets kind _ octets = ⊥
 
@@ -85,12 +91,16 @@ IsEncodedAs kind forms.Ipv6 (values.Ipv6 address) octets = (length address ≡ 1
 IsEncodedAs kind forms.Eui48 (values.Eui48 address) octets = (length address ≡ 6) × (octets ≡ address)
 IsEncodedAs kind forms.Eui64 (values.Eui64 address) octets = (length address ≡ 8) × (octets ≡ address)
 IsEncodedAs kind forms.Locator64 (values.Locator64 locator) octets = (length locator ≡ 8) × (octets ≡ locator)
+IsEncodedAs kind forms.Location (values.Location location) octets = octets ≡ location_octets (location_item location)
 IsEncodedAs kind forms.Counted (values.String string) octets = IsStringIn string.now octets
 IsEncodedAs kind forms.Sized (values.Sized string) octets = (length string.now ≤ 65535) × (octets ≡ sized string.now)
 IsEncodedAs kind forms.Strings (values.Strings strings) octets = (strings.now ≢ []) × AreStringsIn strings.now octets
 IsEncodedAs kind forms.Types (values.Types types) octets = IsTypeMapOf types.now octets
 IsEncodedAs kind forms.Parameters (values.Parameters parameters) octets = AreParametersIn 0 parameters.now octets
 IsEncodedAs kind forms.Prefixes (values.Prefixes prefixes) octets = ArePrefixesIn prefixes.now octets
+IsEncodedAs kind forms.Gateway (values.GatewayAndKey value) octets = IsGatewayIn value octets
+IsEncodedAs kind forms.Relay (values.Relay value) octets = IsRelayIn value octets
+IsEncodedAs kind forms.Identity (values.HostIdentity value) octets = IsIdentityIn value octets
 IsEncodedAs kind form (values.Octets given) octets = AreFieldOctets kind form given.now × (octets ≡ given.now)
 IsEncodedAs kind form value octets = ⊥
 
@@ -112,6 +122,7 @@ takes forms.Ipv6 (values.Ipv6 address) = true
 takes forms.Eui48 (values.Eui48 address) = true
 takes forms.Eui64 (values.Eui64 address) = true
 takes forms.Locator64 (values.Locator64 locator) = true
+takes forms.Location (values.Location location) = true
 takes forms.Name (values.Name name) = true
 takes forms.Counted (values.String string) = true
 takes forms.Sized (values.Sized string) = true
@@ -119,14 +130,20 @@ takes forms.Strings (values.Strings strings) = true
 takes forms.Types (values.Types types) = true
 takes forms.Parameters (values.Parameters parameters) = true
 takes forms.Prefixes (values.Prefixes prefixes) = true
+takes forms.Gateway (values.GatewayAndKey value) = true
+takes forms.Relay (values.Relay value) = true
+takes forms.Identity (values.HostIdentity value) = true
 takes forms.Eui48 (values.Octets octets) = true
 takes forms.Eui64 (values.Octets octets) = true
 takes forms.Locator64 (values.Octets octets) = true
-takes (forms.Fixed size) (values.Octets octets) = true
+takes forms.Location (values.Octets octets) = true
 takes forms.Strings (values.Octets octets) = true
 takes forms.Types (values.Octets octets) = true
 takes forms.Parameters (values.Octets octets) = true
 takes forms.Prefixes (values.Octets octets) = true
+takes forms.Gateway (values.Octets octets) = true
+takes forms.Relay (values.Octets octets) = true
+takes forms.Identity (values.Octets octets) = true
 takes forms.Rest (values.Octets octets) = true
 takes form value = false
 

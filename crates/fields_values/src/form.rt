@@ -27,8 +27,8 @@ pub(crate) enum Form {
     Counted,
     /// Octets after their length of 16 bits.
     Sized,
-    /// Octets of this number.
-    Fixed(usize),
+    /// A location.
+    Location,
     /// Character strings.
     Strings,
     /// A type bit map.
@@ -37,6 +37,12 @@ pub(crate) enum Form {
     Parameters,
     /// Address prefixes.
     Prefixes,
+    /// A gateway and a public key.
+    Gateway,
+    /// A relay.
+    Relay,
+    /// A host identity.
+    Identity,
     /// All remaining octets.
     Rest,
 }
@@ -62,11 +68,14 @@ pub(crate) fn value_form(kind: Kind) -> Form
         }
         Kind::CharacterString | Kind::Tag | Kind::Salt | Kind::Hash => Form::Counted,
         Kind::SizedOctets => Form::Sized,
-        Kind::Location => Form::Fixed(16),
+        Kind::Location => Form::Location,
         Kind::Strings => Form::Strings,
         Kind::TypeBitMap => Form::Types,
         Kind::ServiceParameters => Form::Parameters,
         Kind::AddressPrefixes => Form::Prefixes,
+        Kind::GatewayAndKey => Form::Gateway,
+        Kind::Relay => Form::Relay,
+        Kind::HostIdentity => Form::Identity,
         _ => Form::Rest,
     }
 }

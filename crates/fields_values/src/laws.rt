@@ -2,6 +2,7 @@
 ghost use Rattle.std.specs.Prelude.{◌≡◌, ◌↔◌, IsTrue};
 ghost use Rattle.fields_values.specs.Laws.{ReadValuesAreTaken, ValuesAreMade, ValuesAreOne, ValuesReadBack};
 
+use crate::new_forms::{NewGateway, NewGatewayAndKey, NewHostIdentity, NewRelay};
 use crate::new_value::NewValue;
 use crate::value_error::ValueError;
 
@@ -41,4 +42,20 @@ pub fn value_clones()
 pub fn value_clones_never_fail()
     ensures value { (a : _) → ⟦<NewValue<'static> as Clone>⟧.is_infallible a }
     ensures error { (a : _) → ⟦<ValueError as Clone>⟧.is_infallible a }
+{}
+
+/// A clone of a gateway, of a relay or of a host identity is the same.
+pub fn form_clones()
+    ensures gateway { (a b : _) → ⟦<NewGateway<'static> as Clone>⟧.is_clone a b → b ≡ a }
+    ensures key { (a b : _) → ⟦<NewGatewayAndKey<'static> as Clone>⟧.is_clone a b → b ≡ a }
+    ensures relay { (a b : _) → ⟦<NewRelay<'static> as Clone>⟧.is_clone a b → b ≡ a }
+    ensures identity { (a b : _) → ⟦<NewHostIdentity<'static> as Clone>⟧.is_clone a b → b ≡ a }
+{}
+
+/// Cloning a gateway, a relay or a host identity never fails.
+pub fn form_clones_never_fail()
+    ensures gateway { (a : _) → ⟦<NewGateway<'static> as Clone>⟧.is_infallible a }
+    ensures key { (a : _) → ⟦<NewGatewayAndKey<'static> as Clone>⟧.is_infallible a }
+    ensures relay { (a : _) → ⟦<NewRelay<'static> as Clone>⟧.is_infallible a }
+    ensures identity { (a : _) → ⟦<NewHostIdentity<'static> as Clone>⟧.is_infallible a }
 {}

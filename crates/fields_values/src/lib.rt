@@ -2,10 +2,12 @@
 #![tactic(auto)]
 
 mod form;
+mod forms;
 pub mod laws;
 mod lists;
 mod made;
 mod named;
+mod new_forms;
 mod new_value;
 mod push;
 mod security;
@@ -14,6 +16,7 @@ mod value_error;
 
 pub use made::from_values;
 pub use named::{a, aaaa, caa, cname, mx, ns, ptr, soa, srv, text, txt};
+pub use new_forms::{NewGateway, NewGatewayAndKey, NewHostIdentity, NewRelay};
 pub use new_value::NewValue;
 pub use security::{dnskey, ds, nsec, rrsig, sshfp, tlsa};
 pub use services::{https, naptr, svcb};

@@ -15,10 +15,10 @@ use fields_text::{push_last, push_octets};
 use std::alloc::Global;
 
 /// The most octets that a length octet counts.
-const MOST_COUNTED: usize = 255;
+pub(crate) const MOST_COUNTED: usize = 255;
 
 /// The most octets that a length of 16 bits counts.
-const MOST_SIZED: usize = 65_535;
+pub(crate) const MOST_SIZED: usize = 65_535;
 
 /// Appends octets after a length octet.
 pub(crate) fn push_counted(octets: &mut Vec<u8>, string: &[u8]) -> Result<(), Refusal>

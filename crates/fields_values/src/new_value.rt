@@ -2,8 +2,10 @@
 ghost use Rattle.std.specs.Prelude.{◌≡◌};
 ghost use Rattle.fields_values.specs.GivenValues.{given};
 
+use crate::new_forms::{NewGatewayAndKey, NewHostIdentity, NewRelay};
 use dns_iana::Rtype;
 use dns_name::ParsedName;
+use fields_forms::Location;
 use fields_lists::AddressPrefix;
 use fields_table::Value;
 
@@ -25,6 +27,8 @@ pub enum NewValue<'a> {
     Eui64([u8; 8]),
     /// A locator of 64 bits, of an L64 or NID record (RFC 6742 sections 2.1 and 2.3).
     Locator64([u8; 8]),
+    /// A location of version 0 that has a presentation format (RFC 1876 section 2).
+    Location(Location),
     /// A name, as `ToName::as_parsed` returns it.
     Name(ParsedName<'a>),
     /// At most 255 octets, without their length octet: a character string, a tag, a salt or a hash.
@@ -39,8 +43,15 @@ pub enum NewValue<'a> {
     Parameters(&'a [(u16, &'a [u8])]),
     /// Address prefixes, whose addresses have at most 127 octets.
     Prefixes(&'a [AddressPrefix<'a>]),
-    /// The octets of a field of any other kind, of a list, of a 48-bit or 64-bit address, or of a
-    /// locator, as `fields_table::Value::Octets` shows them.
+    /// A gateway and its public key.
+    GatewayAndKey(NewGatewayAndKey<'a>),
+    /// A relay.
+    Relay(NewRelay<'a>),
+    /// A host identity.
+    HostIdentity(NewHostIdentity<'a>),
+    /// The octets of a field of any other kind, of a list, of a 48-bit or 64-bit address, of a
+    /// locator, a location, a gateway, a relay or a host identity, as `fields_table::Value::Octets`
+    /// shows them.
     Octets(&'a [u8]),
 }
 

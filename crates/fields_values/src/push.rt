@@ -1,17 +1,20 @@
 //! Values of fields as octets.
 ghost use Rattle.std.specs.Prelude.{◌≡◌, ◌↔◌, ◌<◌, ◌^◌, IsTrue, length};
 ghost use Rattle.fields_values.specs.Appending.{Appends, AppendsValue};
-ghost use Rattle.fields_values.specs.declared.new_value.NewValue.TheVariants.{Number, RecordType, Ipv4, Ipv6, Eui48, Eui64, Locator64, Name, String, Sized, Strings, Types, Parameters, Prefixes, Octets};
+ghost use Rattle.fields_values.specs.declared.new_value.NewValue.TheVariants.{Number, RecordType, Ipv4, Ipv6, Eui48, Eui64, Locator64, Location as NewLocation, Name, String, Sized, Strings, Types, Parameters, Prefixes, GatewayAndKey, Relay as AsRelay, HostIdentity, Octets};
 
 use crate::form::{Form, value_form};
+use crate::forms::{push_gateway_and_key, push_host_identity, push_relay_octets};
 use crate::lists::{
     push, push_big_endian, push_counted, push_parameters, push_prefixes, push_sized, push_strings,
     push_types,
 };
+use crate::new_forms::{NewGatewayAndKey, NewHostIdentity, NewRelay};
 use crate::new_value::NewValue;
 use crate::value_error::Refusal;
 use dns_iana::Rtype;
 use dns_name::ParsedName;
+use fields_forms::Location;
 use fields_lists::AddressPrefix;
 use fields_table::Kind;
 use std::alloc::Global;
@@ -48,8 +51,15 @@ fn push_plain(octets: &mut Vec<u8>, kind: Kind, more: &[u8]) -> Result<(), Refus
         Form::Eui48 => push_address(octets, more, 6),
         Form::Eui64 => push_address(octets, more, 8),
         Form::Locator64 => push_address(octets, more, 8),
-        Form::Fixed(size) => push_address(octets, more, size),
-        Form::Strings | Form::Types | Form::Parameters | Form::Prefixes | Form::Rest => {
+        Form::Location => push_address(octets, more, 16),
+        Form::Strings
+        | Form::Types
+        | Form::Parameters
+        | Form::Prefixes
+        | Form::Gateway
+        | Form::Relay
+        | Form::Identity
+        | Form::Rest => {
             if !kind.accepts(more) {
                 return Err(Refusal::OutOfRange);
             }
@@ -130,6 +140,17 @@ fn push_locator(octets: &mut Vec<u8>, kind: Kind, locator: &[u8; 8]) -> Result<(
 {
     match value_form(kind) {
         Form::Locator64 => push_address(octets, locator, 8),
+        _ => Err(Refusal::WrongKind),
+    }
+}
+
+/// Appends a location.
+fn push_location(octets: &mut Vec<u8>, kind: Kind, location: &Location) -> Result<(), Refusal>
+    ensures { AppendsValue kind (NewLocation location.now) octets.old.items octets.new.items
+        result }
+{
+    match value_form(kind) {
+        Form::Location => push(octets, &location.octets()),
         _ => Err(Refusal::WrongKind),
     }
 }
@@ -219,6 +240,42 @@ fn push_address_prefixes(
     }
 }
 
+/// Appends a gateway and its public key.
+fn push_gateway(
+    octets: &mut Vec<u8>,
+    kind: Kind,
+    value: &NewGatewayAndKey<'_>,
+) -> Result<(), Refusal>
+    ensures { AppendsValue kind (GatewayAndKey value.now) octets.old.items octets.new.items
+        result }
+{
+    match value_form(kind) {
+        Form::Gateway => push_gateway_and_key(octets, value),
+        _ => Err(Refusal::WrongKind),
+    }
+}
+
+/// Appends a relay.
+fn push_relay(octets: &mut Vec<u8>, kind: Kind, value: &NewRelay<'_>) -> Result<(), Refusal>
+    ensures { AppendsValue kind (AsRelay value.now) octets.old.items octets.new.items result }
+{
+    match value_form(kind) {
+        Form::Relay => push_relay_octets(octets, value),
+        _ => Err(Refusal::WrongKind),
+    }
+}
+
+/// Appends a host identity.
+fn push_host(octets: &mut Vec<u8>, kind: Kind, value: &NewHostIdentity<'_>) -> Result<(), Refusal>
+    ensures { AppendsValue kind (HostIdentity value.now) octets.old.items octets.new.items
+        result }
+{
+    match value_form(kind) {
+        Form::Identity => push_host_identity(octets, value),
+        _ => Err(Refusal::WrongKind),
+    }
+}
+
 /// Appends the octets of a value that is a field of this kind.
 pub(crate) fn push_value(
     alloc: Global,
@@ -236,6 +293,7 @@ pub(crate) fn push_value(
         NewValue::Eui48(address) => push_eui48(octets, kind, address),
         NewValue::Eui64(address) => push_eui64(octets, kind, address),
         NewValue::Locator64(locator) => push_locator(octets, kind, locator),
+        NewValue::Location(location) => push_location(octets, kind, location),
         NewValue::Name(name) => push_name(octets, kind, name),
         NewValue::String(string) => push_string(octets, kind, string),
         NewValue::Sized(more) => push_sized_octets(octets, kind, more),
@@ -244,5 +302,8 @@ pub(crate) fn push_value(
         NewValue::Types(types) => push_map(alloc, octets, kind, types),
         NewValue::Parameters(parameters) => push_service(octets, kind, parameters),
         NewValue::Prefixes(prefixes) => push_address_prefixes(octets, kind, prefixes),
+        NewValue::GatewayAndKey(value) => push_gateway(octets, kind, value),
+        NewValue::Relay(value) => push_relay(octets, kind, value),
+        NewValue::HostIdentity(value) => push_host(octets, kind, value),
     }
 }

@@ -8,12 +8,12 @@ use denote.Text.{Utf8}
 
 -- what appending the hints that are left returns, appending all returns
 abbrev pub invariant-hints : goal.invariant-hints
-invariant-hints l = record {
+invariant-hints g l = record {
   utf8 : shadow (Utf8 l.left);
   whole :
-      (new : List ℕ) (pushed : Bool) → PushesValue (AreHints l.key l.left) l.value.items new pushed
-      → PushesValue (AreHints l.key l.fn.text) l.fn.value.items new pushed;
+      (new : List ℕ) (pushed : Bool) → PushesValue g.row.N (AreHints l.key l.left) l.value.items new pushed
+      → PushesValue g.row.N (AreHints l.key l.fn.text) l.fn.value.items new pushed;
 }
 
 abbrev pub decreases-hints : goal.decreases-hints
-decreases-hints l = length l.left
+decreases-hints g l = length l.left

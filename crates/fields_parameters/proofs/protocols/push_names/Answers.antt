@@ -5,16 +5,16 @@ use Rattle.fields_parameters.proofs.ProtocolLemmas.{at_end}
 use Rattle.fields_parameters.proofs.protocols.push_names.Goals as goal
 
 pub octets-init : goal.octets-init
-octets-init c = λ new pushed all. all
+octets-init g c = λ new pushed all. all
 
 pub octets-preserved : goal.octets-preserved
-octets-preserved c = λ new pushed after. c.octets.invariant new pushed (c.in-Some.ensures.1 new pushed after)
+octets-preserved g c = λ new pushed after. c.octets.invariant new pushed (c.in-Some.ensures.1 new pushed after)
 
 pub returns-in-None : goal.returns-in-None
-returns-in-None c = c.octets.invariant c.push_first.new.value.items false c.in-None.ensures
+returns-in-None g c = c.octets.invariant c.push_first.new.value.items false c.in-None.ensures
 
 pub returns : goal.returns
-returns c =
+returns g c =
     let none : length c.octets.left.now ≡ 0 = grind (arith, common_steps) in
     c.octets.invariant c.push_name.new.value.items c.push_name.result
-    (at_end c.octets.name.items c.octets.left.now c.octets.value.items c.push_name.new.value.items c.push_name.result (no_items c.octets.left.now (omega arith)) c.push_name.ensures)
+    (at_end g.row.N c.octets.name.items c.octets.left.now c.octets.value.items c.push_name.new.value.items c.push_name.result (no_items c.octets.left.now (omega arith)) c.push_name.ensures)

@@ -3,7 +3,7 @@ use Rattle.fields_parameters.specs.ProtocolNames.{ContinuesNames}
 use Rattle.fields_parameters.proofs.protocols.push_names.Given as goal
 
 abbrev pub invariant-octets : goal.invariant-octets
-invariant-octets l = ContinuesNames l.fn.name.items l.fn.text l.fn.value.items l.name.items l.left l.value.items
+invariant-octets g l = ContinuesNames g.row.N l.fn.name.items l.fn.text l.fn.value.items l.name.items l.left l.value.items
 
 abbrev pub decreases-octets : goal.decreases-octets
-decreases-octets l = length l.left
+decreases-octets g l = length l.left

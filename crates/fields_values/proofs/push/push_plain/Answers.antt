@@ -19,10 +19,10 @@ returns-in-Locator64 c =
     given_appended c.args.kind c.value_form.result forms.Locator64 c.args.more c.args.octets.now.items c.push_address-in-Locator64.new.octets.items c.push_address-in-Locator64.result
     c.in-Locator64.is c.value_form.ensures refl (λ part is. is) (λ octets is. (octets, refl, is)) c.push_address-in-Locator64.ensures
 
-pub returns-in-Fixed : goal.returns-in-Fixed
-returns-in-Fixed c =
-    given_appended c.args.kind c.value_form.result (forms.Fixed c.in-Fixed.size) c.args.more c.args.octets.now.items c.push_address-in-Fixed.new.octets.items c.push_address-in-Fixed.result
-    c.in-Fixed.is c.value_form.ensures refl (λ part is. is) (λ octets is. (octets, refl, is)) c.push_address-in-Fixed.ensures
+pub returns-in-Location : goal.returns-in-Location
+returns-in-Location c =
+    given_appended c.args.kind c.value_form.result forms.Location c.args.more c.args.octets.now.items c.push_address-in-Location.new.octets.items c.push_address-in-Location.result
+    c.in-Location.is c.value_form.ensures refl (λ part is. is) (λ octets is. (octets, refl, is)) c.push_address-in-Location.ensures
 
 pub returns-else-not-accepts : goal.returns-else-not-accepts
 returns-else-not-accepts c =
@@ -47,9 +47,27 @@ returns-else-not-accepts c =
                         | inl is ↦ plain_appended c.args.kind c.value_form.result forms.Prefixes c.args.more c.args.octets.now.items c.push.new.octets.items
                             c.push.result is c.value_form.ensures refl (λ part is. is) (λ octets is. (octets, refl, is)) (c_accepts, refl) c.push.ensures.ok
                             c.push.ensures.err
-                        | inr is ↦ plain_appended c.args.kind c.value_form.result forms.Rest c.args.more c.args.octets.now.items
-                            c.push.new.octets.items c.push.result is c.value_form.ensures refl (λ part is. is) (λ octets is. (octets, refl, is))
-                            (c_accepts, refl) c.push.ensures.ok c.push.ensures.err
+                        | inr h4 ↦
+                            elim h4 [
+                              | inl is ↦ plain_appended c.args.kind c.value_form.result forms.Gateway c.args.more c.args.octets.now.items
+                                  c.push.new.octets.items c.push.result is c.value_form.ensures refl (λ part is. is) (λ octets is. (octets, refl, is))
+                                  (c_accepts, refl) c.push.ensures.ok c.push.ensures.err
+                              | inr h5 ↦
+                                  elim h5 [
+                                    | inl is ↦ plain_appended c.args.kind c.value_form.result forms.Relay c.args.more c.args.octets.now.items
+                                        c.push.new.octets.items c.push.result is c.value_form.ensures refl (λ part is. is) (λ octets is. (octets, refl, is))
+                                        (c_accepts, refl) c.push.ensures.ok c.push.ensures.err
+                                    | inr h6 ↦
+                                        elim h6 [
+                                          | inl is ↦ plain_appended c.args.kind c.value_form.result forms.Identity c.args.more c.args.octets.now.items
+                                              c.push.new.octets.items c.push.result is c.value_form.ensures refl (λ part is. is) (λ octets is. (octets, refl, is))
+                                              (c_accepts, refl) c.push.ensures.ok c.push.ensures.err
+                                          | inr is ↦ plain_appended c.args.kind c.value_form.result forms.Rest c.args.more c.args.octets.now.items
+                                              c.push.new.octets.items c.push.result is c.value_form.ensures refl (λ part is. is) (λ octets is. (octets, refl, is))
+                                              (c_accepts, refl) c.push.ensures.ok c.push.ensures.err
+                                        ]
+                                  ]
+                            ]
                       ]
                 ]
           ]
