@@ -1,7 +1,7 @@
 -- Values that an RFC rules out in RDATA whose octets are well-formed.
 use Rattle.std.specs.Prelude.{◌≡◌, ℕ, ◌-◌, ◌==◌, ◌||◌, if◌then◌else◌, Option, Some, None, List, [], ◌∷◌, length, map, Result, Ok, Err}
 use Rattle.fields_checks.specs.Digests.{digest_reason}
-use Rattle.fields_checks.specs.Services.{service_reason}
+use Rattle.fields_checks.specs.Services.{parameters_reason}
 use Rattle.fields_checks.specs.declared.check_error.ValueReason.{ValueReason}
 use Rattle.fields_checks.specs.declared.check_error.CheckError.{CheckError}
 use Rattle.fields_parameters.specs.ParameterItems.{parameters_of}
@@ -40,10 +40,10 @@ abbrev pub last_octets : List ℕ → List FieldValue → List ℕ
 last_octets octets [] = octets
 last_octets octets (value ∷ values) = last_octets (octets_or value octets) values
 
--- what is wrong with the values of RDATA of this type: its parameters if it is SVCB or HTTPS, else its digest, by the number before it
+-- what is wrong with the values of RDATA of this type, by the number before them: with its parameters if it is SVCB or HTTPS, else with its digest
 abbrev pub reason_of : ℕ → List FieldValue → Option ValueReason
 reason_of rtype values =
-    if (rtype == 64) || (rtype == 65) then service_reason (parameters_of (last_octets [] values))
+    if (rtype == 64) || (rtype == 65) then parameters_reason (last_number 0 values) (parameters_of (last_octets [] values))
     else digest_reason rtype (last_number 0 values) (length (last_octets [] values))
 
 -- the index of the last field of a type: the digest, or the parameters

@@ -42,6 +42,10 @@ abbrev pub reason_after : List ParameterItem → Option ℕ → Option ValueReas
 reason_after items (Some key) = Some (MissingKey key)
 reason_after items None = if has_key items 2 && not (has_key items 1) then Some NoAlpn else None
 
--- what is wrong with parameters
+-- what is wrong with parameters that aren't ignored
 abbrev pub service_reason : List ParameterItem → Option ValueReason
 service_reason items = if has_bad_mandatory items then Some BadMandatory else reason_after items (missing_key items)
+
+-- what is wrong with parameters after this priority: nothing in AliasMode, whose priority is 0, in which they are ignored. RFC 9460 section 2.4.2
+abbrev pub parameters_reason : ℕ → List ParameterItem → Option ValueReason
+parameters_reason priority items = if priority == 0 then None else service_reason items

@@ -6,7 +6,7 @@ ghost use Rattle.fields_table.specs.Values.{value_shown};
 
 use crate::check_error::{CheckError, ValueReason};
 use crate::digest::digest_reason;
-use crate::service::service_reason;
+use crate::service::parameters_reason;
 use dns_data::RecordData;
 use fields_table::{FieldData, Value, fields_of};
 
@@ -58,7 +58,7 @@ fn reason_of(data: &FieldData<'_>) -> Option<ValueReason>
 {
     let (number, octets) = last_values(data);
     match data.rtype().to_int() {
-        64 | 65 => service_reason(octets),
+        64 | 65 => parameters_reason(number, octets),
         rtype => digest_reason(rtype, number, octets),
     }
 }
@@ -69,7 +69,7 @@ fn reason_of(data: &FieldData<'_>) -> Option<ValueReason>
 ///   size of its type, if the type is registered. A ZONEMD record's has 12 octets at least.
 /// - In an SVCB or HTTPS record `mandatory` lists keys in ascending order, one at least, and not its
 ///   own. Each of them has a parameter. `no-default-alpn` comes with `alpn` (RFC 9460 sections 7.1.1
-///   and 8).
+///   and 8). In AliasMode, which has priority 0, parameters are ignored (section 2.4.2).
 pub fn check_values(data: &FieldData<'_>) -> Result<(), CheckError>
     ensures { ChecksValues (rtype_of data.now) (values_of data.now) result }
 {

@@ -1,7 +1,7 @@
 //! Service parameters that need others (RFC 9460 sections 7.1.1 and 8).
 ghost use Rattle.std.specs.Prelude.{◌≡◌, find, map, not};
 ghost use Rattle.std.specs.Int.{from_be_bytes, w16};
-ghost use Rattle.fields_checks.specs.Services.{are_ascending, are_mandatory_keys, has_bad_mandatory, has_key, is_bad_mandatory, listed_keys, missing_key, service_reason};
+ghost use Rattle.fields_checks.specs.Services.{are_ascending, are_mandatory_keys, has_bad_mandatory, has_key, is_bad_mandatory, listed_keys, missing_key, parameters_reason, service_reason};
 ghost use Rattle.fields_lists.specs.Groups.{groups};
 ghost use Rattle.fields_parameters.specs.ItemsLeft.{parameter_item};
 ghost use Rattle.fields_parameters.specs.ParameterItems.{parameters_of};
@@ -103,8 +103,8 @@ fn has_bad_mandatory(parameters: &[u8]) -> bool
     false
 }
 
-/// What is wrong with service parameters.
-pub(crate) fn service_reason(parameters: &[u8]) -> Option<ValueReason>
+/// What is wrong with service parameters that aren't ignored.
+fn service_reason(parameters: &[u8]) -> Option<ValueReason>
     ensures { result ≡ service_reason (parameters_of parameters.now) }
 {
     if has_bad_mandatory(parameters) {
@@ -117,4 +117,15 @@ pub(crate) fn service_reason(parameters: &[u8]) -> Option<ValueReason>
         return Some(ValueReason::NoAlpn);
     }
     None
+}
+
+/// What is wrong with service parameters after this priority. In AliasMode, which has priority 0, they
+/// are ignored (RFC 9460 section 2.4.2).
+pub(crate) fn parameters_reason(priority: u64, parameters: &[u8]) -> Option<ValueReason>
+    ensures { result ≡ parameters_reason priority (parameters_of parameters.now) }
+{
+    if priority == 0 {
+        return None;
+    }
+    service_reason(parameters)
 }

@@ -1,7 +1,16 @@
 mod CompletingLemmas
 mod DurationLemmas
+mod FirstParts
+mod KeptFields
+mod KeptForms
+mod KeptHashes
+mod KeptNames
+mod KeptNumbers
+mod KeptTypes
+mod KeptWords
 mod LineLemmas
 mod MnemonicLemmas
 mod NameLemmas
+mod PrintedLines
 mod ProblemLemmas
 mod WordLemmas

@@ -2,6 +2,7 @@ pub mod Completing
 pub mod Durations
 pub mod FieldWays
 pub mod Heads
+pub mod Laws
 pub mod Lines
 pub mod Mnemonics
 pub mod NameWords

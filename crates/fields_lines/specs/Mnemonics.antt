@@ -3,7 +3,8 @@ use Rattle.std.specs.Prelude.{ℕ, ◌==◌, if◌then◌else◌, Option, Some, 
 use Rattle.std.specs.Str.{str_eq_ignore_ascii_case}
 use Rattle.dns_iana.specs.Mnemonics.{Mnemonics}
 
--- algorithms. RFC 4034 appendix A.1, and the registry of DNSSEC algorithms
+-- algorithms. RFC 4034 appendix A.1: 1 to 5 and 252 to 254; RFC 5155 section 2: 6, 7; RFC 5702 section 7: 8, 10; RFC 5933 section 8: 12; RFC 6605 section 7: 13, 14; RFC 8080 section 5:
+-- 15, 16; RFC 8078 section 4: 0; RFC 9563: 17; RFC 9558: 23. A second name is what BIND or dnspython reads
 unfoldable pub algorithms : Mnemonics
 algorithms =
     (0, codes "DELETE")
@@ -50,7 +51,7 @@ certificate_types =
     ∷ (254, codes "OID")
     ∷ []
 
--- errors of TSIG and TKEY records. RFC 8945 section 3, RFC 2930 section 2.6
+-- errors of TSIG and TKEY records. RFC 1035 section 4.1.1: 0 to 5; RFC 2136 section 2.2: 6 to 10; RFC 8945 section 3: 16 to 18, 22; RFC 2930 section 2.6: 19 to 21; RFC 7873 section 8: 23
 unfoldable pub errors : Mnemonics
 errors =
     (0, codes "NOERROR")
@@ -74,7 +75,7 @@ errors =
     ∷ (23, codes "BADCOOKIE")
     ∷ []
 
--- flags of KEY, DNSKEY and CDNSKEY records. RFC 2535 section 3.1.2, RFC 4034 section 2.1.1
+-- flags of KEY, DNSKEY and CDNSKEY records. RFC 2535 section 7.1; KSK is the flag SEP of RFC 4034 section 2.1.1, as BIND reads it
 unfoldable pub key_flags : Mnemonics
 key_flags =
     (0x4000, codes "NOCONF")

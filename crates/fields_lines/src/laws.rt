@@ -1,8 +1,22 @@
-//! Theorems on errors and on what holds before a line. Each contract is a theorem.
+//! Theorems on printed records, on errors and on what holds before a line. Each contract is a theorem.
 ghost use Rattle.std.specs.Prelude.{◌≡◌, ◌↔◌, IsTrue};
+ghost use Rattle.fields_lines.specs.Laws.{PrintedLinesAreRead};
 
 use crate::defaults::Defaults;
 use crate::line_error::{LineError, WordReason};
+use fields_records::laws::{
+    fields_are_all, printed_data_reads_back, printed_fields_split, printed_records_are_words,
+};
+
+/// A printed record reads back by `read_line`, whatever the defaults are, if its TTL is at most 2^31-1.
+pub fn printed_lines_are_read()
+    ensures { PrintedLinesAreRead }
+{
+    printed_data_reads_back();
+    printed_records_are_words();
+    fields_are_all();
+    printed_fields_split();
+}
 
 /// Two errors, or two reasons, are equal if and only if they are the same.
 pub fn error_equality()

@@ -7,7 +7,7 @@ ghost use Rattle.fields_lines.specs.Mnemonics.{flags_of, key_flags, named};
 type Entry = (u32, &'static str);
 
 /// Algorithms (RFC 4034 appendix A.1, and the registry of DNSSEC algorithms), also by the names that
-/// BIND reads.
+/// BIND and dnspython read.
 pub(crate) const ALGORITHMS: [Entry; 27] = [
     (0, "DELETE"),
     (1, "RSAMD5"),
@@ -53,7 +53,7 @@ pub(crate) const CERTIFICATE_TYPES: [Entry; 10] = [
 ];
 
 /// Errors of TSIG and TKEY records (RFC 8945 section 3, RFC 2930 section 2.6, RFC 1035 section 4.1.1,
-/// RFC 2136 section 2.2).
+/// RFC 2136 section 2.2, RFC 7873 section 8).
 pub(crate) const ERRORS: [Entry; 19] = [
     (0, "NOERROR"),
     (1, "FORMERR"),
@@ -76,8 +76,8 @@ pub(crate) const ERRORS: [Entry; 19] = [
     (23, "BADCOOKIE"),
 ];
 
-/// Flags of KEY, DNSKEY and CDNSKEY records (RFC 2535 section 3.1.2, RFC 4034 section 2.1.1), by the
-/// names that BIND reads.
+/// Flags of KEY, DNSKEY and CDNSKEY records (RFC 2535 section 7.1), and the name that BIND reads for
+/// the flag SEP (RFC 4034 section 2.1.1).
 pub(crate) const KEY_FLAGS: [Entry; 32] = [
     (0x4000, "NOCONF"),
     (0x8000, "NOAUTH"),
