@@ -15,9 +15,10 @@
  *     13. Writing a message by one call
  *     14. Writing a message item by item
  *     15. Responses, and items of other messages
- *     16. Replies, and what a cache asks of them
- *     17. Responses from a cache
- *     18. Messages of a stream, and transfers of zones
+ *     16. Responses of a name server
+ *     17. Replies, and what a cache asks of them
+ *     18. Responses from a cache
+ *     19. Messages of a stream, and transfers of zones
  *
  * and each begins with an example. There `message` are the `message_len` octets of a message, and `record` is its first record, as
  * dnsm_next wrote it. Each call is in an example.
@@ -821,7 +822,7 @@ dnsm_status dnsm_finish(const dnsm_draft *draft, uint8_t *out, size_t out_len, s
  *
  * Errors, the first that applies: DNSM_SHORT_INPUT if the query has fewer than 12 octets; DNSM_IS_RESPONSE; DNSM_NO_QUESTION;
  * the error of reading the question; DNSM_NO_ROOM if the buffer is shorter than a header and the question with its name
- * uncompressed. Then nothing is written. To answer by FORMERR, use dnsm_begin. */
+ * uncompressed. Then nothing is written. dnsm_respond answers by FORMERR. */
 dnsm_status dnsm_begin_response(dnsm_draft *draft, uint8_t *out, size_t out_len, const uint8_t *query, size_t query_len,
                                 uint16_t rcode);
 
@@ -835,7 +836,47 @@ dnsm_status dnsm_begin_response(dnsm_draft *draft, uint8_t *out, size_t out_len,
 dnsm_status dnsm_put_from(dnsm_draft *draft, uint8_t *out, size_t out_len, const uint8_t *message, size_t message_len,
                           const dnsm_item *item);
 
-/* 16. Replies, and what a cache asks of them
+/* 16. Responses of a name server
+ *
+ *     static const uint8_t name[] = "\7example\3org", address[] = {192, 0, 2, 1};
+ *     const dnsm_put_item set[] = {{name, sizeof name, address, sizeof address, 3600, DNSM_TYPE_A, DNSM_CLASS_IN, DNSM_ANSWER}};
+ *     uint8_t query[DNSM_MADE], out[512];
+ *     uint16_t rcode = DNSM_RCODE_NOERROR;
+ *     size_t len;
+ *     dnsm_draft draft;
+ *     dnsm_opt opt;
+ *     if (dnsm_query(4660, true, "example.org", 11, DNSM_TYPE_A, DNSM_CLASS_IN, query, sizeof query, &len) == DNSM_OK &&
+ *         dnsm_respond(&draft, out, 512, query, len, &rcode, &opt) == DNSM_OK && dnsm_put_set(&draft, out, 512, set, 1, true) == DNSM_OK)
+ *         printf("rcode %u, %zu octets, %zu reserved\n", rcode, draft.len, draft.reserved);
+ *
+ * examples/serve.c is a name server. */
+
+/* Begins the response to any query, also to one that dnsm_begin_response refuses: with its question, if it has exactly one that can be
+ * read, its ID, opcode, RD and CD, QR, and the low four bits of the rcode. `*rcode` is the rcode of twelve bits that is wanted, and is set
+ * to that of the response. This is, the first that applies: DNSM_RCODE_FORMERR for more than one OPT record (RFC 6891 section 6.1.1);
+ * DNSM_RCODE_BADVERS if the version of the OPT record is above 0 (section 6.1.3); DNSM_RCODE_FORMERR without such a question; the one that
+ * is wanted. A query of another opcode may have no question: to answer DNSM_RCODE_NOTIMP, set it in `flags` afterwards. This call doesn't
+ * ask dnsm_is_regular: looking for OPT records in a query of 64 KiB that isn't regular can take tenths of a second.
+ *
+ * Sets `*opt` to what the OPT record of the response says: version 0, DO of the query (RFC 3225 section 3), the upper bits of the rcode,
+ * and as `udp_size` how many octets of a UDP payload the client can receive, at least 512: set it to your own. The draft reserves the 11
+ * octets of an OPT record without options. If no OPT record of the query can be read, all of `*opt` is 0, and nothing is reserved. Before
+ * the OPT record is put (dnsm_opt_ttl), set `reserved` to 0. Else the draft is as after dnsm_begin_response.
+ *
+ * Errors, the first that applies: DNSM_SHORT_INPUT if the query has fewer than 12 octets; DNSM_IS_RESPONSE; DNSM_NO_ROOM if the buffer
+ * is shorter than a header and the question with its name uncompressed. Then nothing is written. */
+dnsm_status dnsm_respond(dnsm_draft *draft, uint8_t *out, size_t out_len, const uint8_t *query, size_t query_len, uint16_t *rcode,
+                         dnsm_opt *opt);
+
+/* Appends all items of a set, as dnsm_put does, or none. If it is left out, the draft is as before, but at DNSM_NO_ROOM DNSM_TC is set if
+ * the set is `required`, as one that answers the question (RFC 2181 section 9). Addresses of name servers are not. Once DNSM_TC is set,
+ * each set is left out: a response is truncated at its end (RFC 1035 section 6.2).
+ *
+ * Errors: DNSM_NO_ROOM if DNSM_TC was set; else that of the first item that dnsm_put refuses. Then the set is left out, and octets of
+ * the buffer after the message may have changed. */
+dnsm_status dnsm_put_set(dnsm_draft *draft, uint8_t *out, size_t out_len, const dnsm_put_item *items, size_t items_len, bool required);
+
+/* 17. Replies, and what a cache asks of them
  *
  *     uint8_t query[DNSM_MADE], root[1] = {0}, regular;
  *     size_t len, end;
@@ -907,7 +948,8 @@ dnsm_status dnsm_reply(const uint8_t *query, size_t query_len, const uint8_t *re
  * Errors: DNSM_SHORT_INPUT if the message has fewer than 12 octets. Then `*regular` isn't written. */
 dnsm_status dnsm_is_regular(const uint8_t *message, size_t message_len, uint8_t *regular);
 
-/* Sets `*ttl` to the least TTL of the records of the three sections, in seconds. The records of OPT, TSIG, TKEY and SIG have none.
+/* Sets `*ttl` to the least TTL of the records of the three sections, in seconds. The records of OPT, TSIG, TKEY and SIG have none. A reply
+ * that there is no such record may be kept for less: for the `ttl` of what it says (dnsm_reply).
  *
  * Returns DNSM_OK with a TTL, or DNSM_END if no record has one. Without a TTL, `*ttl` isn't written.
  *
@@ -921,7 +963,7 @@ dnsm_status dnsm_min_ttl(const uint8_t *message, size_t message_len, uint32_t *t
  * Errors: those of dnsm_min_ttl. Then `*end` isn't written. */
 dnsm_status dnsm_records_end(const uint8_t *message, size_t message_len, size_t *end);
 
-/* 17. Responses from a cache
+/* 18. Responses from a cache
  *
  *     uint8_t cached[512];
  *     uint32_t ttl;
@@ -938,7 +980,7 @@ dnsm_status dnsm_records_end(const uint8_t *message, size_t message_len, size_t 
  * dnsm_is_regular wants it: DNSM_BAD_POINTER if a pointer leads to anything but a label of an earlier name. Then nothing has changed. */
 dnsm_status dnsm_age(uint8_t *message, size_t message_len, uint32_t seconds);
 
-/* 18. Messages of a stream, and transfers of zones
+/* 19. Messages of a stream, and transfers of zones
  *
  *     static const uint8_t root[1] = {0};
  *     static const uint8_t stream[52] = "\0\x32\x12\x34\x84\0\0\1\0\1\0\0\0\0\0\0\xfb\0\1\0\0\6\0\1\0\0\0\0\0\x16\0\0\0\0\0\1";
@@ -953,7 +995,9 @@ dnsm_status dnsm_age(uint8_t *message, size_t message_len, uint32_t seconds);
  *
  * Over TCP each message follows its length in two octets (RFC 1035 section 4.2.2). Keep what was received in a buffer of 65,537 octets:
  * receive more while dnsm_first_message returns DNSM_END, then take all steps of the message at offset 2, and move what follows it to the
- * start. examples/transfer.c does so. A response to AXFR or IXFR has one or several messages (RFC 5936 section 2.2, RFC 1995 section 4). */
+ * start. examples/transfer.c does so. A response to AXFR or IXFR has one or several messages (RFC 5936 section 2.2, RFC 1995 section 4).
+ * To write one, put its records into a draft of at most 65,535 octets up to DNSM_NO_ROOM, and that record into the next message. Only the
+ * first message has the question (RFC 5936 section 2.2.2), as in examples/write_transfer.c. */
 
 /* What a record of a transfer does. */
 enum {

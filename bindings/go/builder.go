@@ -1,6 +1,7 @@
 package dnsm
 
 // #include <dnsm.h>
+// #include <stdlib.h>
 //
 // // The item is made here, because no pointer to memory of Go may be stored in memory that is passed to C.
 // static dnsm_status put(dnsm_draft *draft, uint8_t *out, size_t out_len, const uint8_t *name, size_t name_len,
@@ -9,7 +10,28 @@ package dnsm
 //     const dnsm_put_item item = {name, name_len, data, data_len, ttl, type, class_, section};
 //     return dnsm_put(draft, out, out_len, &item);
 // }
+//
+// // Puts the items of a set, whose names and data follow one another in `octets`.
+// static dnsm_status put_set(dnsm_draft *draft, uint8_t *out, size_t out_len, const uint8_t *octets, const dnsm_put_item *fields,
+//                            size_t fields_len, bool required)
+// {
+//     dnsm_put_item *const items = malloc((fields_len + 1) * sizeof *items);
+//     if (!items)
+//         return DNSM_NO_MEMORY;
+//     for (size_t i = 0; i < fields_len; i++) {
+//         items[i] = fields[i];
+//         items[i].name = octets;
+//         octets += items[i].name_len;
+//         items[i].data = octets;
+//         octets += items[i].data_len;
+//     }
+//     const dnsm_status status = dnsm_put_set(draft, out, out_len, items, fields_len, required);
+//     free(items);
+//     return status;
+// }
 import "C"
+
+import "unsafe"
 
 // Builder writes a message into a buffer of the caller, item by item. Names are compressed. Make one with NewBuilder.
 type Builder struct {
@@ -44,6 +66,27 @@ func NewResponse(out, query []byte, rcode uint16) (*Builder, error) {
 		return nil, Status(status)
 	}
 	return b, nil
+}
+
+// Respond begins the response to any query, with its question if it has exactly one that can be read: with its ID, opcode, RD and CD, QR,
+// and the low four bits of the rcode. It returns also the rcode, and what the OPT record of the response says, or nil if the query has
+// none. The rcode is FORMERR for several OPT records or without such a question, BADVERS for a version of EDNS above 0, else the low twelve
+// bits of `rcode`. The UDPSize of the OPT record is the most octets of a UDP payload that the client can receive, at least 512: set it to
+// your own. The 11 octets of an OPT record without options are reserved: before it is put, SetReserved(0). The error is ShortInput for less
+// than a header, IsResponse or NoRoom.
+func Respond(out, query []byte, rcode Rcode) (*Builder, Rcode, *OPT, error) {
+	b := &Builder{out: out}
+	said := C.uint16_t(rcode)
+	var fields C.dnsm_opt
+	status := C.dnsm_respond(&b.draft, pointer(out), C.size_t(len(out)), pointer(query), C.size_t(len(query)), &said, &fields)
+	if status != C.DNSM_OK {
+		return nil, 0, nil, Status(status)
+	}
+	if fields.udp_size > 0 {
+		opt := fieldsOf(fields)
+		return b, Rcode(said), &opt, nil
+	}
+	return b, Rcode(said), nil, nil
 }
 
 // SetLimit sets the most octets that the message may have. Before, its buffer is the only limit.
@@ -85,6 +128,33 @@ func (b *Builder) Put(item NewItem) error {
 		pointer(item.Data), C.size_t(len(item.Data)), C.uint32_t(item.TTL), C.uint16_t(item.Type), C.uint16_t(item.Class),
 		C.uint8_t(item.Section))
 	return failure(status)
+}
+
+// PutSet appends all items of a set, or leaves it out if they don't fit, and says whether they went in. If a required set doesn't fit, as
+// one that answers the question, TC is set. Once TC is set each set is left out. The error is that of Put, but no NoRoom, or NoMemory. With
+// an error the set is left out, too.
+func (b *Builder) PutSet(items []NewItem, required bool) (bool, error) {
+	var octets []byte
+	fields := make([]C.dnsm_put_item, len(items)+1)
+	for i, item := range items {
+		name, err := item.nameOctets()
+		if err != nil {
+			return false, err
+		}
+		octets = append(append(octets, name...), item.Data...)
+		fields[i] = C.dnsm_put_item{name_len: C.size_t(len(name)), data_len: C.size_t(len(item.Data)), ttl: C.uint32_t(item.TTL),
+			_type: C.uint16_t(item.Type), class_: C.uint16_t(item.Class), section: C.uint8_t(item.Section)}
+	}
+	status := C.put_set(&b.draft, pointer(b.out), C.size_t(len(b.out)), pointer(octets), (*C.dnsm_put_item)(unsafe.Pointer(&fields[0])),
+		C.size_t(len(items)), C.bool(required))
+	switch status {
+	case C.DNSM_OK:
+		return true, nil
+	case C.DNSM_NO_ROOM:
+		return false, nil
+	default:
+		return false, Status(status)
+	}
 }
 
 // PutFrom appends an item of another message, in a section and with a TTL: a cache lowers it by the age of the message. Names are

@@ -25,12 +25,7 @@ func (i Item) OPT() (*OPT, error) {
 	if status := C.dnsm_opt_fields(&i.item, &fields); status != C.DNSM_OK {
 		return nil, Status(status)
 	}
-	opt := &OPT{
-		UDPSize:   uint16(fields.udp_size),
-		DO:        fields.flags&C.DNSM_DO != 0,
-		RcodeHigh: uint8(fields.rcode_high),
-		Version:   uint8(fields.version),
-	}
+	opt := fieldsOf(fields)
 	offset := i.item.data
 	for {
 		var found C.dnsm_opt_option
@@ -38,10 +33,20 @@ func (i Item) OPT() (*OPT, error) {
 		case C.DNSM_OK:
 			opt.Options = append(opt.Options, Option{uint16(found.code), i.octets[found.data:][:found.data_len:found.data_len]})
 		case C.DNSM_END:
-			return opt, nil
+			return &opt, nil
 		default:
-			return opt, Status(status)
+			return &opt, Status(status)
 		}
+	}
+}
+
+// fieldsOf is an OPT record with these fields, without options.
+func fieldsOf(fields C.dnsm_opt) OPT {
+	return OPT{
+		UDPSize:   uint16(fields.udp_size),
+		DO:        fields.flags&C.DNSM_DO != 0,
+		RcodeHigh: uint8(fields.rcode_high),
+		Version:   uint8(fields.version),
 	}
 }
 

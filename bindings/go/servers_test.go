@@ -246,6 +246,79 @@ func TestResponses(t *testing.T) {
 	}
 }
 
+// RFC 6891 sections 6.1.1, 6.1.3 and 6.2.3.
+func TestAnyQueryGetsAResponse(t *testing.T) {
+	opt := func(size uint16, version byte) []byte {
+		return []byte{0, 0, 41, byte(size >> 8), byte(size), 0, version, 0x80, 0, 0, 0}
+	}
+	asked, _ := Query(7, true, "example.org", TypeMX)
+	for _, each := range []struct {
+		opts          [][]byte
+		wanted, rcode Rcode
+		udpSize       uint16
+		high          uint8
+	}{
+		{nil, 0x1003, 3, 0, 0},
+		{[][]byte{opt(0, 0)}, 5, 5, 512, 0},
+		{[][]byte{opt(4096, 0)}, 23, 23, 4096, 1},
+		{[][]byte{opt(4096, 1)}, 5, 16, 4096, 1},
+		{[][]byte{opt(4096, 0), opt(512, 0)}, 5, 1, 4096, 0},
+	} {
+		query := append(append([]byte{}, asked...), bytes.Join(each.opts, nil)...)
+		query[11] = byte(len(each.opts))
+		b, rcode, made, err := Respond(make([]byte, 512), query, each.wanted)
+		if err != nil || rcode != each.rcode || b.Flags() != QR|RD|uint16(rcode)&15 || b.Len() != 29 || (made == nil) != (each.opts == nil) {
+			t.Fatal(each, b, rcode, made, err)
+		}
+		if made == nil {
+			continue
+		}
+		item, _ := made.Item()
+		b.SetLimit(40)
+		if made.UDPSize != each.udpSize || made.RcodeHigh != each.high || !made.DO || made.Version != 0 || !errors.Is(b.Put(item), NoRoom) {
+			t.Error(each, made)
+		}
+		b.SetReserved(0)
+		if err := b.Put(item); err != nil || b.Len() != 40 {
+			t.Error(each, err)
+		}
+	}
+	if b, rcode, _, err := Respond(make([]byte, 512), asked[:28], 5); err != nil || rcode != 1 || b.Len() != 12 {
+		t.Error(b, rcode, err)
+	}
+	if b, _, _, err := Respond(make([]byte, 512), []byte(mailResponse), 0); b != nil || !errors.Is(err, IsResponse) {
+		t.Error(b, err)
+	}
+}
+
+// RFC 2181 sections 5 and 9.
+func TestSetsArePutWhole(t *testing.T) {
+	record := func(data ...byte) NewItem {
+		return NewItem{Section: Answer, Name: "example.org", Type: TypeA, Class: ClassIN, TTL: 300, Data: data}
+	}
+	set := []NewItem{record(192, 0, 2, 1), record(192, 0, 2, 2)}
+	b, _ := NewBuilder(make([]byte, 512), 7, QR)
+	put := func(items []NewItem, required, in bool, wanted error, flags uint16, length int) {
+		t.Helper()
+		if found, err := b.PutSet(items, required); found != in || err != wanted || b.Flags() != flags || b.Len() != length {
+			t.Error(found, err, b.Flags(), b.Len())
+		}
+	}
+	b.SetLimit(12 + 27 + 16 - 1)
+	put(set, false, false, nil, QR, 12)
+	put([]NewItem{record(1)}, false, false, BadData, QR, 12)
+	put(set, true, false, nil, QR|TC, 12)
+	put(set[:1], false, false, nil, QR|TC, 12)
+	b.SetLimit(12 + 27 + 16)
+	b.SetFlags(QR)
+	put(nil, true, true, nil, QR, 12)
+	put(set, true, true, nil, QR, 55)
+	made, err := b.Finish()
+	if items := itemsOf(t, made); err != nil || len(items) != 2 || made[38] != 1 || made[54] != 2 {
+		t.Error(items, err)
+	}
+}
+
 func TestDataFromText(t *testing.T) {
 	data, err := DataFromText(TypeMX, "10 mail.example.org.")
 	if err != nil || !bytes.Equal(data, append([]byte{0, 10}, octetsOf(t, "mail.example.org")...)) {
@@ -512,6 +585,26 @@ func TestTransfersAreRead(t *testing.T) {
 		changes, _ := NewIXFR(7, []byte{0}, ClassIN, 1)
 		if said, err := stepsOf(changes, transferred(7, QR, TypeIXFR, serials...)); said != wanted || err != nil || !changes.HasEnded() {
 			t.Error(said, err)
+		}
+	}
+}
+
+// Steps that are left out end a transfer.
+func TestAllStepsHaveToBeTaken(t *testing.T) {
+	message := transferred(7, QR, TypeAXFR, 3, 0, 3)
+	for taken := 0; taken < 5; taken++ {
+		transfer, _ := NewAXFR(7, []byte{0}, ClassIN)
+		steps, _ := transfer.Take(message)
+		for i := 0; i < taken; i++ {
+			steps.Next()
+		}
+		ended := transfer.End()
+		_, again := transfer.Take(message)
+		if taken < 3 && !(errors.Is(ended, Incomplete) && errors.Is(again, Incomplete)) {
+			t.Error(taken, ended, again)
+		}
+		if taken >= 3 && !(ended == nil && errors.Is(again, AfterEnd)) {
+			t.Error(taken, ended, again)
 		}
 	}
 }

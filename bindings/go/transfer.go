@@ -29,6 +29,7 @@ func MissingOctets(stream []byte) int {
 // Transfer is a transfer of a zone, of which some messages were taken (RFC 5936, RFC 1995). TSIG isn't checked.
 type Transfer struct {
 	transfer C.dnsm_transfer
+	steps    *Steps // of the last message
 }
 
 // NewAXFR is the transfer that a query by AXFR asks for: the whole zone. The zone is its name as uncompressed octets. The error is BadText
@@ -52,14 +53,18 @@ func newTransfer(id uint16, zone []byte, class Class, changes bool, known uint32
 	return t, nil
 }
 
-// Take is an iterator over the steps of the next message. Take all of them before the next message. The error says why the message isn't
-// the next one: ShortInput, AfterEnd, OtherQuery, NoResponse, BadRcode, Truncated, or that of reading a question. Each later call
-// returns it again.
+// Take is an iterator over the steps of the next message. Take all of them: else the next call returns Incomplete, as steps would be left
+// out. The error says why the message isn't the next one: ShortInput, AfterEnd, OtherQuery, NoResponse, BadRcode, Truncated, or that of
+// reading a question. Each later call returns it again.
 func (t *Transfer) Take(message []byte) (*Steps, error) {
+	if !t.steps.areTaken() {
+		return nil, Incomplete
+	}
 	s := &Steps{transfer: t, octets: message}
 	if status := C.dnsm_open_transfer(&t.transfer, pointer(message), C.size_t(len(message)), &s.cursor); status != C.DNSM_OK {
 		return nil, Status(status)
 	}
+	t.steps = s
 	return s, nil
 }
 
@@ -68,6 +73,9 @@ func (t *Transfer) HasEnded() bool { return t.End() == nil }
 
 // End says that no message follows. The error is the one that ended the transfer, or Incomplete if it hasn't ended.
 func (t *Transfer) End() error {
+	if !t.steps.areTaken() {
+		return Incomplete
+	}
 	return failure(C.dnsm_end_transfer(&t.transfer))
 }
 
@@ -108,6 +116,11 @@ func (s *Steps) Next() bool {
 		s.status = C.dnsm_next_step(&s.transfer.transfer, pointer(s.octets), C.size_t(len(s.octets)), &s.cursor, &s.step)
 	}
 	return s.status == C.DNSM_OK
+}
+
+// areTaken says whether all steps were taken, or an error.
+func (s *Steps) areTaken() bool {
+	return s == nil || s.status != C.DNSM_OK || s.cursor.left == 0
 }
 
 // Step is the step that Next has taken.

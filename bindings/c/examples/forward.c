@@ -145,10 +145,11 @@ static bool ask(const question *asked, entry *to)
     const time_t since = time(NULL);
     question varied = *asked;
     size_t len = vary(&varied) ? exchange(SOCK_DGRAM, &varied) : 0;
+    uint8_t regular = 0;
     uint32_t lifetime;
     if (len > 0 && reply[2] & DNSM_TC >> 8)
         len = exchange(SOCK_STREAM, &varied);
-    if (len == 0 || !read_lifetime(len, &lifetime))
+    if (dnsm_is_regular(reply, len, &regular) != DNSM_OK || !regular || !read_lifetime(len, &lifetime))
         return false;
     reply[0] = reply[1] = 0;
     for (size_t i = 12; i < asked->name_end; i++) /* a length octet isn't a letter */
@@ -199,23 +200,20 @@ static void put_answer(dnsm_draft *draft, const question *asked)
     draft->flags |= status == DNSM_NO_ROOM ? DNSM_TC : DNSM_RCODE_SERVFAIL;
 }
 
-/* Puts the question of a query, and writes what is asked upstream. Returns the rcode if it gets no answer, else 0. */
-static uint16_t read_question(size_t len, const dnsm_opt *opt, dnsm_draft *draft, question *to)
+/* Writes what is asked upstream for a query with one question. Returns the rcode if it gets no answer, else 0. */
+static uint16_t read_question(size_t len, const dnsm_opt *opt, question *to)
 {
     dnsm_header header;
     dnsm_cursor cursor;
     dnsm_item item;
     dnsm_draft up;
     if (dnsm_open(query, len, &header, &cursor) != DNSM_OK || dnsm_next(query, len, &cursor, &item) != DNSM_OK ||
-        header.counts[DNSM_QUESTION] != 1 || dnsm_put_from(draft, out, MOST, query, len, &item) != DNSM_OK ||
         dnsm_begin(&up, to->octets, PLAIN, 0, DNSM_RD | (header.flags & (DNSM_AD | DNSM_CD))) != DNSM_OK ||
         dnsm_put_from(&up, to->octets, PLAIN, query, len, &item) != DNSM_OK ||
         put_opt(&up, to->octets, PLAIN, opt->flags, 0) != DNSM_OK || dnsm_finish(&up, to->octets, PLAIN, &to->len) != DNSM_OK)
         return DNSM_RCODE_FORMERR;
     to->name_end = to->len - 4 - OPT_OCTETS;
     to->flags = up.flags | (opt->flags & DNSM_DO);
-    if (opt->version != 0)
-        return DNSM_RCODE_BADVERS;
     return header.opcode != DNSM_OPCODE_QUERY || item.type == DNSM_TYPE_AXFR || item.type == DNSM_TYPE_IXFR ? DNSM_RCODE_NOTIMP : 0;
 }
 
@@ -223,23 +221,20 @@ static uint16_t read_question(size_t len, const dnsm_opt *opt, dnsm_draft *draft
 static size_t respond(size_t len, bool is_udp)
 {
     dnsm_draft draft;
-    dnsm_opt opt = {.udp_size = PLAIN};
-    dnsm_item item;
+    dnsm_opt opt;
     question asked;
-    uint16_t rcode;
-    const dnsm_status has_opt = dnsm_find_opt(query, len, &opt, &item, &rcode);
-    const uint16_t id = (uint16_t)(query[0] << 8 | query[1]), flags = (uint16_t)(query[2] << 8 | query[3]);
-    if (len < 12 || flags & DNSM_QR ||
-        dnsm_begin(&draft, out, MOST, id, DNSM_QR | DNSM_RA | (flags & (0x7800 | DNSM_RD | DNSM_CD))) != DNSM_OK)
+    uint8_t regular = 0;
+    uint16_t rcode = dnsm_is_regular(query, len, &regular) == DNSM_OK && regular ? DNSM_RCODE_NOERROR : DNSM_RCODE_FORMERR;
+    if (dnsm_respond(&draft, out, MOST, query, len, &rcode, &opt) != DNSM_OK)
         return 0;
+    draft.flags |= DNSM_RA;
     draft.limit = !is_udp ? MOST : opt.udp_size < PLAIN ? PLAIN : opt.udp_size < UDP_MOST ? opt.udp_size : UDP_MOST;
-    draft.reserved = has_opt == DNSM_OK ? OPT_OCTETS : 0;
-    rcode = has_opt == DNSM_OK || has_opt == DNSM_NO_OPT ? read_question(len, &opt, &draft, &asked) : DNSM_RCODE_FORMERR;
-    draft.flags |= rcode & 15;
+    if (rcode == 0)
+        draft.flags |= rcode = read_question(len, &opt, &asked);
     if (rcode == 0)
         put_answer(&draft, &asked);
     draft.reserved = 0;
-    if (has_opt == DNSM_OK)
+    if (opt.udp_size > 0)
         put_opt(&draft, out, MOST, opt.flags, rcode);
     return dnsm_finish(&draft, out, MOST, &len) == DNSM_OK ? len : 0;
 }

@@ -18,8 +18,8 @@
 #include <sys/time.h>
 #include <unistd.h>
 
-/* The octets of an OPT record without options; of a UDP message for a client without EDNS, and at most; of a TCP message. */
-enum { OPT_OCTETS = 11, PLAIN = 512, UDP_MOST = 1232, TCP_MOST = 65535 };
+/* The octets of a UDP message for a client without EDNS, and at most; of a TCP message. */
+enum { PLAIN = 512, UDP_MOST = 1232, TCP_MOST = 65535 };
 /* How many CNAME records are followed. How long a TCP connection may be idle, in seconds. The index of the field MINIMUM of SOA. */
 enum { CHAIN = 8, IDLE = 5, SOA_MINIMUM = 6 };
 
@@ -37,7 +37,9 @@ typedef struct record {
     dnsm_item item;
 } record;
 
+/* The records of the zone, ordered by owner and type, and as items of the answer section. */
 static record *zone, *soa;
+static dnsm_put_item *items;
 static size_t zone_len;
 
 /* A query and the response to it. Over TCP two octets with the length precede the response (RFC 1035 section 4.2.2). */
@@ -55,12 +57,18 @@ static dnsm_status make_key(key *to, const uint8_t *message, size_t len, size_t 
     return dnsm_name_key(message, len, place, to->octets, sizeof to->octets, &to->len);
 }
 
-/* Compares keys, and records by their keys. */
-static int compare(const void *one, const void *other)
+static int compare_keys(const key *a, const key *b)
 {
-    const key *a = one, *b = other;
     const int order = memcmp(a->octets, b->octets, a->len < b->len ? a->len : b->len);
     return order ? order : (a->len > b->len) - (a->len < b->len);
+}
+
+/* Compares records by their owners and types. */
+static int compare(const void *one, const void *other)
+{
+    const record *a = one, *b = other;
+    const int order = compare_keys(&a->key, &b->key);
+    return order ? order : (a->item.type > b->item.type) - (a->item.type < b->item.type);
 }
 
 static bool is_below(const key *name, const key *above)
@@ -68,13 +76,13 @@ static bool is_below(const key *name, const key *above)
     return name->len >= above->len && memcmp(name->octets, above->octets, above->len) == 0;
 }
 
-/* The number of the first record whose key isn't before this one. */
+/* The number of the first record whose owner isn't before this name. */
 static size_t find(const key *name)
 {
     size_t from = 0, to = zone_len;
     while (from < to) {
         const size_t middle = from + (to - from) / 2;
-        if (compare(&zone[middle], name) < 0)
+        if (compare_keys(&zone[middle].key, name) < 0)
             from = middle + 1;
         else
             to = middle;
@@ -92,6 +100,21 @@ static dnsm_status add_record(const uint8_t *octets, size_t len, const dnsm_item
     memcpy(it.octets, octets, len);
     zone[zone_len] = it;
     return make_key(&zone[zone_len++].key, octets, len, item->place);
+}
+
+/* Orders the records, and makes the items. */
+static void order_zone(const char *path)
+{
+    qsort(zone, zone_len, sizeof *zone, compare);
+    items = calloc(zone_len, sizeof *items);
+    for (size_t i = 0; items && i < zone_len; i++) {
+        const dnsm_item *it = &zone[i].item;
+        items[i] = (dnsm_put_item){zone[i].octets, it->data - 10, zone[i].octets + it->data, it->data_len,
+                                   it->ttl, it->type, it->class_, DNSM_ANSWER};
+        soa = it->type == DNSM_TYPE_SOA ? &zone[i] : soa;
+    }
+    if (!soa)
+        stop(path, "no zone with an SOA record");
 }
 
 /* Reads a zone file. */
@@ -116,81 +139,74 @@ static void read_zone(const char *path)
             stop(path, dnsm_status_text(status, why, sizeof why, &len) == DNSM_OK ? why : "no record");
         }
     }
-    qsort(zone, zone_len, sizeof *zone, compare);
-    for (size_t i = 0; i < zone_len; i++)
-        if (zone[i].item.type == DNSM_TYPE_SOA)
-            soa = &zone[i];
-    if (ferror(file) || !soa)
-        stop(path, "no zone with an SOA record");
+    if (ferror(file))
+        stop(path, strerror(errno));
     fclose(file);
     free(line);
-}
-
-static dnsm_status put(dnsm_draft *draft, const record *from, uint8_t section, uint32_t ttl)
-{
-    dnsm_item item = from->item;
-    item.section = section;
-    item.ttl = ttl;
-    return dnsm_put_from(draft, out, TCP_MOST, from->octets, from->len, &item);
+    order_zone(path);
 }
 
 /* Puts the SOA record. Its TTL says how long a client may keep that there is no such record: RFC 2308 section 3. */
 static dnsm_status put_negative(dnsm_draft *draft, uint16_t rcode)
 {
     dnsm_data_field minimum = {.number = UINT32_MAX};
+    dnsm_put_item item = items[soa - zone];
     size_t index = SOA_MINIMUM;
     dnsm_next_field(soa->octets, soa->len, &soa->item, &index, &minimum);
     draft->flags |= rcode;
-    return put(draft, soa, DNSM_AUTHORITY, minimum.number < soa->item.ttl ? (uint32_t)minimum.number : soa->item.ttl);
+    item.section = DNSM_AUTHORITY;
+    item.ttl = minimum.number < item.ttl ? (uint32_t)minimum.number : item.ttl;
+    return dnsm_put_set(draft, out, TCP_MOST, &item, 1, true);
+}
+
+/* How many records of a type a name has, or of any. The first is at `*at`, which was set to the first record of the name. */
+static size_t count_set(size_t *at, const key *name, uint16_t type)
+{
+    size_t count = 0;
+    while (*at < zone_len && zone[*at].item.type < type && type != DNSM_TYPE_ANY && compare_keys(&zone[*at].key, name) == 0)
+        ++*at;
+    while (*at + count < zone_len && (zone[*at + count].item.type == type || type == DNSM_TYPE_ANY) &&
+           compare_keys(&zone[*at + count].key, name) == 0)
+        count++;
+    return count;
 }
 
 /* Puts what the zone has of a name and type. If that is a CNAME record alone, sets `*alias` to it, else to NULL. */
 static dnsm_status put_records(dnsm_draft *draft, const key *name, uint16_t type, const record **alias)
 {
-    size_t at = find(name);
-    bool found = false;
+    const size_t first = find(name);
+    size_t at = first, count = count_set(&at, name, type);
     *alias = NULL;
-    if (at == zone_len || !is_below(&zone[at].key, name))
+    if (first == zone_len || !is_below(&zone[first].key, name))
         return put_negative(draft, DNSM_RCODE_NXDOMAIN);
-    for (; at < zone_len && compare(&zone[at], name) == 0; at++) {
-        const bool is_asked = zone[at].item.type == type || type == DNSM_TYPE_ANY;
-        if (!is_asked && zone[at].item.type != DNSM_TYPE_CNAME)
-            continue;
-        *alias = is_asked ? NULL : &zone[at];
-        found = true;
-        const dnsm_status status = put(draft, &zone[at], DNSM_ANSWER, zone[at].item.ttl);
-        if (status != DNSM_OK)
-            return status;
+    if (count == 0) {
+        at = first;
+        count = count_set(&at, name, DNSM_TYPE_CNAME);
+        *alias = count > 0 ? &zone[at] : NULL;
     }
-    return found ? DNSM_OK : put_negative(draft, 0);
+    return count > 0 ? dnsm_put_set(draft, out, TCP_MOST, items + at, count, true) : put_negative(draft, 0);
 }
 
-/* Puts the answer to a question. */
-static dnsm_status put_answer(dnsm_draft *draft, key *name, uint16_t type)
+/* Puts the answer to a question. What doesn't fit is left out, and TC set. */
+static void put_answer(dnsm_draft *draft, key *name, uint16_t type)
 {
     const record *alias;
     size_t place;
-    for (int step = 0; step < CHAIN && is_below(name, &soa->key); step++) {
-        const dnsm_status status = put_records(draft, name, type, &alias);
-        if (status != DNSM_OK || !alias)
-            return status;
-        if (dnsm_data_name(alias->octets, alias->len, &alias->item, 0, &place) != DNSM_OK ||
+    draft->flags |= DNSM_AA;
+    for (int step = 0; step < CHAIN && is_below(name, &soa->key); step++)
+        if (put_records(draft, name, type, &alias) != DNSM_OK || !alias ||
+            dnsm_data_name(alias->octets, alias->len, &alias->item, 0, &place) != DNSM_OK ||
             make_key(name, alias->octets, alias->len, place) != DNSM_OK)
-            break;
-    }
-    return DNSM_OK;
+            return;
 }
 
-/* The rcode of a query without an answer. Otherwise 0; then the question and the key of its name are there. */
-static uint16_t refuse(size_t len, dnsm_status has_opt, const dnsm_opt *opt, dnsm_item *question, key *name)
+/* The rcode of a query with one question that gets no answer, or 0. Reads the question, and the key of its name. */
+static uint16_t refuse(size_t len, dnsm_item *question, key *name)
 {
     dnsm_header header;
     dnsm_cursor cursor;
-    if ((has_opt != DNSM_OK && has_opt != DNSM_NO_OPT) || dnsm_open(query, len, &header, &cursor) != DNSM_OK ||
-        dnsm_next(query, len, &cursor, question) != DNSM_OK || question->section != DNSM_QUESTION || header.counts[0] != 1)
+    if (dnsm_open(query, len, &header, &cursor) != DNSM_OK || dnsm_next(query, len, &cursor, question) != DNSM_OK)
         return DNSM_RCODE_FORMERR;
-    if (has_opt == DNSM_OK && opt->version != 0)
-        return DNSM_RCODE_BADVERS;
     if (header.opcode != DNSM_OPCODE_QUERY)
         return DNSM_RCODE_NOTIMP;
     if (question->class_ != DNSM_CLASS_IN || question->type == DNSM_TYPE_AXFR || question->type == DNSM_TYPE_IXFR ||
@@ -203,39 +219,23 @@ static uint16_t refuse(size_t len, dnsm_status has_opt, const dnsm_opt *opt, dns
 static size_t respond(size_t len, bool is_udp)
 {
     dnsm_draft draft;
-    key name;
-    size_t made;
+    dnsm_opt opt;
     dnsm_item item;
-    dnsm_opt opt = {.udp_size = PLAIN};
-    uint16_t rcode;
-    const dnsm_status has_opt = dnsm_find_opt(query, len, &opt, &item, &rcode);
-    dnsm_status status = dnsm_begin_response(&draft, out, TCP_MOST, query, len, 0);
-    if (status == DNSM_IS_RESPONSE || len < 12)
+    key name;
+    uint8_t regular = 0;
+    uint16_t rcode = dnsm_is_regular(query, len, &regular) == DNSM_OK && regular ? DNSM_RCODE_NOERROR : DNSM_RCODE_FORMERR;
+    if (dnsm_respond(&draft, out, TCP_MOST, query, len, &rcode, &opt) != DNSM_OK)
         return 0;
-    if (status != DNSM_OK) /* there is no question: the response has ID, opcode and RD alone */
-        status = dnsm_begin(&draft, out, TCP_MOST, (uint16_t)(query[0] << 8 | query[1]),
-                            (uint16_t)(DNSM_QR | (query[2] << 8 & (0x7800 | DNSM_RD))));
-    rcode = refuse(len, has_opt, &opt, &item, &name);
-    draft.flags = (uint16_t)((draft.flags & ~DNSM_CD) | (rcode & 15));
+    draft.flags &= (uint16_t)~DNSM_CD;
     draft.limit = !is_udp ? TCP_MOST : opt.udp_size < PLAIN ? PLAIN : opt.udp_size < UDP_MOST ? opt.udp_size : UDP_MOST;
-    draft.reserved = has_opt == DNSM_OK ? OPT_OCTETS : 0;
-    if (status == DNSM_OK && rcode == 0) {
-        draft.flags |= DNSM_AA;
-        const dnsm_draft mark = draft;
-        status = put_answer(&draft, &name, item.type);
-        if (status == DNSM_NO_ROOM) {
-            draft = mark;
-            draft.flags |= DNSM_TC;
-            status = DNSM_OK;
-        }
-    }
+    if (rcode == 0)
+        draft.flags |= rcode = refuse(len, &item, &name);
+    if (rcode == 0)
+        put_answer(&draft, &name, item.type);
+    const dnsm_put_item last = {(const uint8_t *)"", 1, NULL, 0, dnsm_opt_ttl(&opt), DNSM_TYPE_OPT, UDP_MOST, DNSM_ADDITIONAL};
     draft.reserved = 0;
-    if (status == DNSM_OK && has_opt == DNSM_OK) {
-        const dnsm_opt ours = {UDP_MOST, opt.flags & DNSM_DO, (uint8_t)(rcode >> 4), 0};
-        const dnsm_put_item last = {(const uint8_t *)"", 1, NULL, 0, dnsm_opt_ttl(&ours), DNSM_TYPE_OPT, UDP_MOST, DNSM_ADDITIONAL};
-        status = dnsm_put(&draft, out, TCP_MOST, &last);
-    }
-    return status == DNSM_OK && dnsm_finish(&draft, out, TCP_MOST, &made) == DNSM_OK ? made : 0;
+    const bool is_whole = opt.udp_size == 0 || dnsm_put(&draft, out, TCP_MOST, &last) == DNSM_OK;
+    return is_whole && dnsm_finish(&draft, out, TCP_MOST, &len) == DNSM_OK ? len : 0;
 }
 
 static void serve_udp(int udp)

@@ -110,6 +110,15 @@ reads_transfer() {
     ends_with 1 "$build/transfer" 4660 example.com 1 <"$stream" && ends_with 1 "$build/transfer" 4660 a..b <"$stream"
 }
 
+# A zone in several messages is read as it was written, but for its SOA record. One without it isn't written.
+writes_transfer() {
+  { grep -v '^;\|^$' "$here/zone.txt" && printf 'h%d.example.org. 300 IN TXT "text"\n' {1..4000}; } >"$build/zone" &&
+    "$build/write_transfer" 4660 example.org <"$build/zone" >"$build/stream" && [ "$(wc -c <"$build/stream")" -gt 65537 ] &&
+    "$build/transfer" 4660 example.org <"$build/stream" | sed -n 's/^+ //p' | diff <(tail -n +2 "$build/zone") - &&
+    ends_with 1 "$build/write_transfer" 4660 example.org <<<'example.org. 300 IN A 192.0.2.1' &&
+    ends_with 1 "$build/write_transfer" 4660 a..b <"$build/zone"
+}
+
 # What the programs that print messages make of long lines: the number of words of each line that they print.
 prints_long() {
   long_messages | "$build/show" | awk 'NF { print $1, NF }' | diff <(printf '%s\n' 'header 6' 'counts 5' 'header 6' 'counts 5' 'answer 65542') - &&
@@ -163,12 +172,12 @@ refuse_words() {
 examples() {
   local source
   has_sanitizers "$1" || echo "$1 has no sanitizers: the examples in C run without" >&3
-  for source in "$here"/{ask,build,edge,servers,show}.c "$here"/../examples/{forward,mx,respond,serve,transfer,write}.c; do
+  for source in "$here"/{ask,build,edge,servers,show}.c "$here"/../examples/{forward,mx,respond,serve,transfer,write,write_transfer}.c; do
     compile "$1" c11 "$source" || return
   done
   compile "$1" c11 "$here/../examples/show.c" show_simply || return
   "$build/edge" && "$build/servers" && quoted "$1" && "$build/mx" | diff "$build/expected_data" - && messages >"$build/messages" &&
-    "$build/show" <"$build/messages" | diff "$build/expected" - && reads_transfer &&
+    "$build/show" <"$build/messages" | diff "$build/expected" - && reads_transfer && writes_transfer &&
     "$build/write" | diff "$packages/written.txt" - && reads messages shown show_simply && reads queries responded respond &&
     prints_long && reads_all && statuses && serves &&
     "$build/show" prefixes <"$build/messages" && "$build/show" changes <"$build/messages"

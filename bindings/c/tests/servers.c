@@ -578,6 +578,100 @@ static void responses(void)
     assert(dnsm_data_octets(out, len, &item, out + len, sizeof out - len, &len) == DNSM_OK && len == 33);
 }
 
+/* The query with OPT records of this payload size and version, and with DO (RFC 6891 section 6.1.2). Returns its length. */
+static size_t with_opts(uint8_t *to, uint8_t opts, uint16_t size, uint8_t version)
+{
+    const uint8_t opt[] = {0, 0, 41, (uint8_t)(size >> 8), (uint8_t)size, 0, version, 0x80, 0, 0, 0};
+    memcpy(to, query, QUERY);
+    to[11] = opts;
+    for (uint8_t i = 0; i < opts; i++)
+        memcpy(to + QUERY + i * sizeof opt, opt, sizeof opt);
+    return QUERY + opts * sizeof opt;
+}
+
+/* The heads of responses: RFC 1035 section 4.1.1, RFC 6891 sections 6.1.1, 6.1.3 and 6.2.3. */
+static void heads(void)
+{
+    static const struct { uint16_t wanted, size; uint8_t opts, version; uint16_t rcode, udp_size; uint8_t rcode_high; } rows[] = {
+        {0, 0, 0, 0, 0, 0, 0}, {3, 0, 0, 0, 3, 0, 0}, {0x1003, 0, 0, 0, 3, 0, 0}, {3, 4096, 1, 0, 3, 4096, 0}, {0, 0, 1, 0, 0, 512, 0},
+        {0, 511, 1, 0, 0, 512, 0}, {0, 65535, 1, 0, 0, 65535, 0}, {DNSM_RCODE_BADCOOKIE, 1232, 1, 0, 23, 1232, 1},
+        {4095, 1232, 1, 0, 4095, 1232, 255}, {0, 1232, 1, 1, 16, 1232, 1}, {5, 1232, 1, 255, 16, 1232, 1}, {0, 1232, 2, 0, 1, 1232, 0},
+        {5, 1232, 2, 1, 1, 1232, 0}};
+    uint8_t asked[64];
+    dnsm_draft draft;
+    dnsm_opt opt;
+    for (size_t i = 0; i < sizeof rows / sizeof *rows; i++) {
+        const size_t asked_len = with_opts(asked, rows[i].opts, rows[i].size, rows[i].version);
+        uint16_t rcode = rows[i].wanted;
+        assert(dnsm_respond(&draft, out, sizeof out, asked, asked_len, &rcode, &opt) == DNSM_OK && rcode == rows[i].rcode);
+        assert(draft.id == 0x1234 && draft.flags == (0x8110 | (rcode & 15)) && draft.len == 29 && draft.counts[0] == 1 && draft.section == 0);
+        assert(draft.limit == SIZE_MAX && draft.unchecked == 0 && draft.reserved == (rows[i].opts ? 11 : 0));
+        assert(opt.udp_size == rows[i].udp_size && opt.rcode_high == rows[i].rcode_high && opt.version == 0);
+        assert(opt.flags == (rows[i].opts ? DNSM_DO : 0) && memcmp(out + 12, query + 12, 17) == 0);
+    }
+}
+
+/* Heads without a question, by FORMERR or BADVERS, and queries that get none. The opcode of the first is NOTIFY. */
+static void heads_without_question(void)
+{
+    uint8_t asked[64];
+    dnsm_draft draft = {.len = 7};
+    dnsm_opt opt = {.udp_size = 7};
+    uint16_t rcode = 5;
+    assert(dnsm_respond(&draft, out, sizeof out, query, 11, &rcode, &opt) == DNSM_SHORT_INPUT);
+    assert(dnsm_respond(&draft, out, sizeof out, response, RESPONSE, &rcode, &opt) == DNSM_IS_RESPONSE);
+    assert(dnsm_respond(&draft, out, 28, query, QUERY, &rcode, &opt) == DNSM_NO_ROOM);
+    assert(dnsm_respond(&draft, out, 11, query, QUERY - 1, &rcode, &opt) == DNSM_NO_ROOM);
+    assert(draft.len == 7 && opt.udp_size == 7 && rcode == 5);
+    assert(dnsm_respond(&draft, out, 12, OCTETS("\x12\x34\x21\0\0\0\0\0\0\0\0\0"), &rcode, &opt) == DNSM_OK && rcode == 1);
+    assert(draft.flags == 0xa101 && draft.id == 0x1234 && draft.len == 12 && draft.counts[0] == 0 && opt.udp_size == 0);
+    rcode = 5;
+    assert(dnsm_respond(&draft, out, sizeof out, query, QUERY - 1, &rcode, &opt) == DNSM_OK && rcode == 1 && draft.flags == 0x8111);
+    assert(draft.len == 12 && draft.counts[0] == 0 && draft.reserved == 0);
+    /* No question, and then an OPT record of version 1. */
+    const size_t asked_len = with_opts(asked, 1, 1232, 1);
+    asked[5] = 0;
+    memmove(asked + 12, asked + QUERY, asked_len - QUERY);
+    assert(dnsm_respond(&draft, out, sizeof out, asked, 23, &rcode, &opt) == DNSM_OK && rcode == 16 && draft.flags == 0x8110);
+    assert(draft.len == 12 && opt.rcode_high == 1 && draft.reserved == 11);
+}
+
+static bool is_same(const dnsm_draft *one, const dnsm_draft *other)
+{
+    return memcmp(one, other, offsetof(dnsm_draft, hints)) == 0 && memcmp(one->hints, other->hints, sizeof one->hints) == 0;
+}
+
+/* Sets go in whole, or are left out, and then TC is set if the set is required (RFC 2181 sections 5 and 9). */
+static void sets(void)
+{
+    static const uint8_t addresses[] = {192, 0, 2, 1, 192, 0, 2, 2};
+    const dnsm_put_item two[] = {{query + 12, 13, addresses, 4, 300, DNSM_TYPE_A, DNSM_CLASS_IN, DNSM_ANSWER},
+                                 {query + 12, 13, addresses + 4, 4, 300, DNSM_TYPE_A, DNSM_CLASS_IN, DNSM_ANSWER}};
+    const dnsm_put_item odd[] = {two[0], {query + 12, 13, addresses, 5, 300, DNSM_TYPE_A, DNSM_CLASS_IN, DNSM_ANSWER}};
+    dnsm_draft draft, mark;
+    dnsm_opt opt;
+    uint16_t rcode = 0;
+    assert(dnsm_respond(&draft, out, sizeof out, query, QUERY, &rcode, &opt) == DNSM_OK);
+    draft.limit = 29 + 2 * 16 - 1;
+    mark = draft;
+    assert(dnsm_put_set(&draft, out, sizeof out, two, 2, false) == DNSM_NO_ROOM && is_same(&draft, &mark));
+    assert(dnsm_put_set(&draft, out, sizeof out, odd, 2, false) == DNSM_BAD_DATA && is_same(&draft, &mark));
+    assert(dnsm_put_set(&draft, out, sizeof out, two, 2, true) == DNSM_NO_ROOM && draft.flags == (mark.flags | DNSM_TC));
+    assert(dnsm_put_set(&draft, out, sizeof out, two, 1, true) == DNSM_NO_ROOM && dnsm_put_set(&draft, out, sizeof out, NULL, 0, false) == DNSM_NO_ROOM);
+    draft.flags = mark.flags;
+    assert(is_same(&draft, &mark));
+    draft.limit++;
+    assert(dnsm_put_set(&draft, out, sizeof out, NULL, 0, true) == DNSM_OK && draft.len == 29);
+    draft.reserved = 1;
+    assert(dnsm_put_set(&draft, out, sizeof out, two, 2, false) == DNSM_NO_ROOM && draft.len == 29);
+    draft.reserved = 0;
+    assert(dnsm_put_set(&draft, out, sizeof out, two, 2, true) == DNSM_OK && draft.len == 61 && draft.counts[1] == 2 && draft.flags == mark.flags);
+    assert(dnsm_finish(&draft, out, sizeof out, &len) == DNSM_OK && len == 61 && item_of(out, len, 2).section == DNSM_ANSWER);
+    assert(memcmp(out + 57, addresses + 4, 4) == 0);
+    draft.limit = 65535;
+    assert(dnsm_put_set(&draft, out, sizeof out, odd, 2, true) == DNSM_BAD_DATA && draft.len == 61 && draft.flags == mark.flags);
+}
+
 /* Items that aren't put. */
 static void refused(void)
 {
@@ -622,6 +716,9 @@ int main(void)
     transfers();
     no_transfers();
     responses();
+    heads();
+    heads_without_question();
+    sets();
     refused();
     puts("ok");
     return 0;

@@ -1,13 +1,15 @@
 """Messages that are written item by item."""
 
-from ctypes import byref, c_char, c_size_t, string_at
-from typing import NamedTuple, Optional
+from ctypes import byref, c_char, c_size_t, c_uint16, string_at
+from typing import Iterable, NamedTuple, Optional, Tuple
 
 from . import _calls
-from ._edns import Edns
+from ._edns import Edns, made_edns
+from ._errors import NoRoom
 from ._items import Record
 from ._names import Name, name_octets
 from ._numbers import Class, Section, Type
+from ._write import NewRecord
 
 
 class Mark(NamedTuple):
@@ -54,6 +56,23 @@ class Builder:
         begin = _calls.library.dnsm_begin_response
         _calls.check(begin(byref(builder._draft), builder._out, builder._limit, query, len(query), rcode))
         return builder
+
+    @classmethod
+    def respond(cls, query: _calls.Octets, rcode: int = 0, *, limit: int = 65535) -> "Tuple[Builder, int, Optional[Edns]]":
+        """The response to any query, with its question if there is exactly one that can be read, the rcode of the response, and its OPT
+        record, or None if the query has none.
+
+        The rcode is FORMERR for several OPT records or without such a question, BADVERS for a version of EDNS above 0, else `rcode`. The
+        `udp_size` of the OPT record is how many octets the client can receive: replace it by your own before `put_edns`. `reserved` is
+        11 then, which is for an OPT record without options. `limit` is for the builder's own memory; to respond over UDP, set
+        `builder.limit`. Raises `NotAnswerable` for a response, and `MalformedMessage` for less than a header.
+        """
+        builder, query = cls(0, limit=limit), _calls.octets_of(query)
+        said, fields = c_uint16(_calls.number(rcode, 12, "rcode")), _calls.OptFields()
+        respond = _calls.library.dnsm_respond
+        draft, out = byref(builder._draft), builder._out
+        _calls.check(respond(draft, out, builder._limit, query, len(query), byref(said), byref(fields)))
+        return builder, said.value, made_edns(fields, ()) if fields.udp_size else None
 
     @property
     def id(self) -> int:
@@ -112,18 +131,22 @@ class Builder:
         Raises `NoRoom` if the limit leaves too few octets, without those that are reserved, and `NameTextError`, `DataError`,
         `TooLong` or another `Error` for an item that can't be written. Then the message is as before.
         """
-        name, data = name_octets(name), _calls.octets_of(data)
-        item = _calls.PutItem(
-            name,
-            len(name),
-            data,
-            len(data),
-            _calls.number(ttl, 32, "ttl"),
-            _calls.number(type, 16, "a type"),
-            _calls.number(class_, 16, "a class"),
-            _calls.number(section, 8, "a section"),
-        )
+        item = _item(section, NewRecord(name, type, data, ttl, class_))
         _calls.check(_calls.library.dnsm_put(byref(self._draft), self._out, self._limit, byref(item)))
+
+    def put_set(self, section: int, records: Iterable[NewRecord], *, required: bool) -> bool:
+        """Appends all records of a set, or leaves it out if they don't fit, and returns whether they went in.
+
+        If there is no room for a `required` set, as one that answers the question, TC is set. Once TC is set each set is left out. Raises what
+        `put` raises for records that can't be written; then the set is left out, too.
+        """
+        items = [_item(section, record) for record in records]
+        array = (_calls.PutItem * len(items))(*items)
+        put = _calls.library.dnsm_put_set
+        try:
+            return _calls.check(put(byref(self._draft), self._out, self._limit, array, len(items), required))
+        except NoRoom:
+            return False
 
     def put_from(self, record: Record, section: Optional[int] = None, ttl: Optional[int] = None) -> None:
         """Appends a record of another message, in its section and with its TTL unless others are given.
@@ -156,3 +179,18 @@ class Builder:
         length = c_size_t()
         _calls.check(_calls.library.dnsm_finish(byref(self._draft), self._out, self._limit, byref(length)))
         return string_at(self._out, length.value)
+
+
+def _item(section: int, record: NewRecord) -> _calls.PutItem:
+    """The item for the calls. It keeps the octets that its pointers lead to."""
+    name, data = name_octets(record.name), _calls.octets_of(record.data)
+    return _calls.PutItem(
+        name,
+        len(name),
+        data,
+        len(data),
+        _calls.number(record.ttl, 32, "ttl"),
+        _calls.number(record.type, 16, "a type"),
+        _calls.number(record.class_, 16, "a class"),
+        _calls.number(section, 8, "a section"),
+    )

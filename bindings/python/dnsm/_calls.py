@@ -173,6 +173,8 @@ _CALLS = {
     "dnsm_build": [c_uint16, c_uint16, POINTER(NewItem), c_size_t, *_OUT],
     "dnsm_begin": [POINTER(Draft), *_BUFFER, c_uint16, c_uint16],
     "dnsm_put": [POINTER(Draft), *_BUFFER, POINTER(PutItem)],
+    "dnsm_put_set": [POINTER(Draft), *_BUFFER, POINTER(PutItem), c_size_t, c_bool],
+    "dnsm_respond": [POINTER(Draft), *_BUFFER, *_OCTETS, POINTER(c_uint16), POINTER(OptFields)],
     "dnsm_begin_response": [POINTER(Draft), *_BUFFER, *_OCTETS, c_uint16],
     "dnsm_put_from": [POINTER(Draft), *_BUFFER, *_OCTETS, POINTER(Item)],
     "dnsm_finish": [POINTER(Draft), *_OUT],

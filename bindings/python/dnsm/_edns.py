@@ -76,12 +76,13 @@ def read_edns(octets: bytes, item: _calls.Item) -> Edns:
         for option in read_options(octets, item):
             options.append(option)
     except MalformedMessage as error:
-        error.edns = _made(fields, options)
+        error.edns = made_edns(fields, options)
         raise
-    return _made(fields, options)
+    return made_edns(fields, options)
 
 
-def _made(fields: _calls.OptFields, options: Iterable[Option]) -> Edns:
+def made_edns(fields: _calls.OptFields, options: Iterable[Option]) -> Edns:
+    """An OPT record with these fields and options."""
     return Edns(
         fields.udp_size,
         bool(fields.flags & DO),

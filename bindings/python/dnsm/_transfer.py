@@ -48,6 +48,34 @@ def missing_octets(stream: Octets) -> int:
     return _first(_calls.octets_of(stream))[1]
 
 
+class _Steps:
+    """The steps of a message, up to the first error."""
+
+    __slots__ = ("_cursor", "_ended", "_octets", "_transfer")
+
+    def __init__(self, transfer: _calls.Transfer, octets: bytes, cursor: _calls.Cursor) -> None:
+        self._transfer, self._octets, self._cursor, self._ended = transfer, octets, cursor, False
+
+    def are_taken(self) -> bool:
+        """Whether all were taken, or an error."""
+        return self._ended or self._cursor.left == 0
+
+    def __iter__(self) -> Iterator[Step]:
+        return self
+
+    def __next__(self) -> Step:
+        if self._ended:
+            raise StopIteration
+        step, self._ended = _calls.Step(), True
+        following, cursor = _calls.library.dnsm_next_step, byref(self._cursor)
+        if not _calls.check(following(byref(self._transfer), self._octets, len(self._octets), cursor, byref(step))):
+            raise StopIteration
+        self._ended = False
+        kind, item = StepKind(step.kind), _calls.Item.from_buffer_copy(step.item)
+        record = Record(self._octets, item) if kind in _WITH_RECORD else None
+        return Step(kind, step.serial if kind in _WITH_SERIAL else None, record)
+
+
 class Transfer:
     """A transfer of a zone, of which some messages were taken (RFC 5936, RFC 1995). TSIG isn't checked.
 
@@ -55,10 +83,11 @@ class Transfer:
     AXFR for the whole zone. Raises what other calls raise if the zone is no name.
     """
 
-    __slots__ = ("_transfer",)
+    __slots__ = ("_steps", "_transfer")
 
     def __init__(self, id: int, zone: Name, *, class_: int = Class.IN, known: Optional[int] = None) -> None:
         zone, self._transfer = name_octets(zone), _calls.Transfer()
+        self._steps: Optional[_Steps] = None
         id, class_ = _calls.number(id, 16, "an ID"), _calls.number(class_, 16, "a class")
         serial = _calls.number(known or 0, 32, "a serial")
         call = _calls.library.dnsm_begin_transfer
@@ -67,19 +96,19 @@ class Transfer:
     def take(self, message: Octets) -> Iterator[Step]:
         """The steps of the next message.
 
-        Take all of them before the next message. `TransferError` and `MalformedMessage` say why a message or a record can't come next;
-        each later call raises the same. What the steps before did is to be undone then.
+        Take all of them: else the next `take`, `end` and `has_ended` raise a `RuntimeError`, as steps would be left out. `TransferError` and
+        `MalformedMessage` say why a message or a record can't come next; each later call raises the same. What the steps before did is to
+        be undone then.
         """
+        self._check_taken()
         octets, cursor = _calls.octets_of(message), _calls.Cursor()
         _calls.check(_calls.library.dnsm_open_transfer(byref(self._transfer), octets, len(octets), byref(cursor)))
-        return self._steps(octets, cursor)
+        steps = self._steps = _Steps(self._transfer, octets, cursor)
+        return steps
 
-    def _steps(self, octets: bytes, cursor: _calls.Cursor) -> Iterator[Step]:
-        step, following = _calls.Step(), _calls.library.dnsm_next_step
-        while _calls.check(following(byref(self._transfer), octets, len(octets), byref(cursor), byref(step))):
-            kind = StepKind(step.kind)
-            item = _calls.Item.from_buffer_copy(step.item)
-            yield Step(kind, step.serial if kind in _WITH_SERIAL else None, Record(octets, item) if kind in _WITH_RECORD else None)
+    def _check_taken(self) -> None:
+        if self._steps is not None and not self._steps.are_taken():
+            raise RuntimeError("steps of the message before weren't taken")
 
     @property
     def state(self) -> TransferState:
@@ -88,8 +117,10 @@ class Transfer:
 
     def has_ended(self) -> bool:
         """Whether it has ended without an error. Else it waits for a message: over UDP, ask again over TCP (RFC 1995 section 2)."""
+        self._check_taken()
         return int(self._transfer.status) == 0 and self.state == TransferState.ENDED
 
     def end(self) -> None:
         """Says that no message follows. Raises the error that ended the transfer, or `TransferError` if it hasn't ended."""
+        self._check_taken()
         _calls.check(_calls.library.dnsm_end_transfer(byref(self._transfer)))

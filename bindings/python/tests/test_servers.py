@@ -235,6 +235,48 @@ class Responses(unittest.TestCase):
         self.assertRaises(NotAnswerable, Builder.response, build(1))
         self.assertEqual(Builder.response(query("a", id=1), 3).flags, Flag.QR | Flag.RD | 3)
 
+    def test_any_query(self) -> None:
+        """RFC 6891 sections 6.1.1, 6.1.3 and 6.2.3: the rcode, and what the OPT record says."""
+        asked = query("example.org", Type.MX, id=7)
+        for opts, wanted, rcode, edns in (
+            ((), 3, 3, None),
+            (((0, 0),), 5, 5, Edns(512, True)),
+            (((4096, 0),), 23, 23, Edns(4096, True, rcode_high=1)),
+            (((4096, 1),), 5, 16, Edns(4096, True, rcode_high=1)),
+            (((4096, 0), (512, 0)), 5, 1, Edns(4096, True)),
+        ):
+            octets = asked[:11] + bytes([len(opts)]) + asked[12:]
+            octets += b"".join(b"\0" + struct.pack(">HHBBHH", 41, size, 0, version, 0x8000, 0) for size, version in opts)
+            builder, said, answer = Builder.respond(octets, wanted, limit=40)
+            self.assertEqual((said, answer, builder.flags), (rcode, edns, Flag.QR | Flag.RD | rcode & 15))
+            self.assertEqual((len(builder), builder.reserved), (29, 11 if opts else 0))
+            if answer is not None:
+                self.assertRaises(NoRoom, builder.put_edns, answer)
+                builder.reserved = 0
+                builder.put_edns(answer)
+                self.assertEqual(Message(builder.finish()).extended_rcode(), rcode)
+        builder, said, answer = Builder.respond(asked[:28], 5)
+        self.assertEqual((len(builder), said, answer), (12, 1, None))
+        self.assertRaises(NotAnswerable, Builder.respond, RESPONSE)
+        self.assertRaises(MalformedMessage, Builder.respond, asked[:11])
+        self.assertRaises(ValueError, Builder.respond, asked, 4096)
+
+    def test_sets(self) -> None:
+        """RFC 2181 sections 5 and 9."""
+        builder = Builder(7, Flag.QR, limit=55)
+        records = [NewRecord("example.org", Type.A, bytes([192, 0, 2, last]), 300) for last in (1, 2)]
+        builder.limit = 54
+        self.assertFalse(builder.put_set(Section.ANSWER, records, required=False))
+        self.assertRaises(DataError, builder.put_set, Section.ANSWER, [NewRecord("a", Type.A, b"")], required=False)
+        self.assertEqual((builder.flags, len(builder)), (Flag.QR, 12))
+        self.assertFalse(builder.put_set(Section.ANSWER, records, required=True))
+        self.assertEqual((builder.flags, len(builder)), (Flag.QR | Flag.TC, 12))
+        self.assertFalse(builder.put_set(Section.ANSWER, records[:1], required=False))
+        builder.limit, builder.flags = 55, Flag.QR
+        self.assertTrue(builder.put_set(Section.ANSWER, records, required=True))
+        self.assertEqual((builder.flags, len(builder)), (Flag.QR, 55))
+        self.assertEqual([it.data_octets()[3] for it in Message(builder.finish()).records], [1, 2])
+
 
 class Texts(unittest.TestCase):
     def test_data(self) -> None:
@@ -397,6 +439,11 @@ class TransferTest(unittest.TestCase):
                 with self.assertRaises((MalformedMessage, TransferError)) as raised:
                     list(transfer.take(again))
                 self.assertEqual((raised.exception.status, transfer.has_ended()), (status, False))
+        transfer = Transfer(4660, ".")
+        next(transfer.take(transferred(Type.AXFR, soa(3), NS)))
+        for call in (lambda: transfer.take(transferred(0, soa(3))), transfer.end, transfer.has_ended):
+            with self.assertRaises(RuntimeError):
+                call()
         with self.assertRaises(TransferError) as outside:
             list(Transfer(4660, "example").take(transferred(Type.AXFR, soa(3)).replace(b"\0\0\xfc", b"\7example\0\0\xfc")))
         self.assertEqual(outside.exception.status, Status.OUTSIDE_ZONE)

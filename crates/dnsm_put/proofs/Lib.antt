@@ -9,6 +9,8 @@ pub mod FieldsWritten
 pub mod theory
 pub mod Copied
 pub mod Responses
+pub mod RespondingLemmas
+pub mod SetLemmas
 pub mod ItemsWritten
 pub mod Drafts
 pub mod Finished

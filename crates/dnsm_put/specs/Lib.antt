@@ -5,4 +5,6 @@ pub mod Drafts
 pub mod Refusals
 pub mod PutLayouts
 pub mod Responses
+pub mod Responding
+pub mod Sets
 pub mod Copies

@@ -239,6 +239,7 @@ pub fn put(draft: &mut Draft, out: &mut [u8], item: &PutItem<'_>) -> Result<(), 
     ensures means { OnOk result (Means item.now) }
     ensures room { OnOk result ((draft.new.len + draft.old.reserved ≤ length out.old)
         × (draft.new.len + draft.old.reserved ≤ draft.old.limit)) }
+    ensures after { OnOk result (draft.old.len ≤ draft.new.len) }
     ensures size { OnOk result (draft.new.len ≤ draft.old.len + item_size item.now) }
     ensures section { OnOk result (draft.new.section ≡ item.now.section) }
     ensures acceptable { OnOk result (IsAcceptable draft.old item.now) }

@@ -22,7 +22,9 @@ pub mod laws;
 mod names;
 mod octets;
 mod rdata;
+mod responding;
 mod response;
+mod sets;
 
 ghost use Rattle.std.specs.Prelude.{◌≡◌, ◌⊎◌, ◌<◌, ◌≤◌, length, take, replicate, IfOk, IfErr, OnOk, OnErr};
 ghost use Rattle.dns_build.specs.State.{State, with_header, up_to, InBuilder};
@@ -38,7 +40,9 @@ use draft::clear;
 pub use draft::{Draft, PutError, PutItem};
 pub use items::put;
 use octets::put_octets;
+pub use responding::respond;
 pub use response::{ResponseError, begin_response};
+pub use sets::put_set;
 
 /// Begins a message without items, in a buffer of at least 12 octets. There is no limit, no octet
 /// is reserved, RDATA is checked, and no hint of an older draft is left. Writes nothing to the

@@ -81,7 +81,7 @@ fn question_of(query: &[u8]) -> Result<Question<ParsedName<'_>>, ResponseError>
 }
 
 /// The header of the response to a query with header `asked`.
-fn response_header(asked: Header, rcode: u16) -> Header
+pub(crate) fn response_header(asked: Header, rcode: u16) -> Header
     ensures { fields result ≡ response_header (fields asked) rcode }
 {
     let mut header = asked;
@@ -103,7 +103,7 @@ fn number_of(high: u8, low: u8) -> u16
 }
 
 /// The four octets of a header as two numbers: the ID, and the third and fourth octets.
-fn numbers_in(octets: &[u8]) -> (u16, u16)
+pub(crate) fn numbers_in(octets: &[u8]) -> (u16, u16)
     requires { length octets.now ≡ 4 }
     ensures { fields_in (to_be_bytes w16 result.0 ++ to_be_bytes w16 result.1)
         ≡ fields_in octets.now }

@@ -18,7 +18,7 @@ pub enum CallError {
     BadPointer,
     /// A name has more than 255 octets (RFC 1035 section 2.3.4).
     LongName,
-    /// Malformed octets of any other kind. No call returns it.
+    /// Octets after the RDATA of an SOA record, in a transfer.
     Form,
     /// The caller's buffer, or the limit of a draft, is too short.
     NoRoom,

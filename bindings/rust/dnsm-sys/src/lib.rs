@@ -640,6 +640,23 @@ extern "C" {
     ) -> dnsm_status;
     pub fn dnsm_begin(draft: *mut dnsm_draft, out: *mut u8, out_len: usize, id: u16, flags: u16) -> dnsm_status;
     pub fn dnsm_put(draft: *mut dnsm_draft, out: *mut u8, out_len: usize, item: *const dnsm_put_item) -> dnsm_status;
+    pub fn dnsm_put_set(
+        draft: *mut dnsm_draft,
+        out: *mut u8,
+        out_len: usize,
+        items: *const dnsm_put_item,
+        items_len: usize,
+        required: bool,
+    ) -> dnsm_status;
+    pub fn dnsm_respond(
+        draft: *mut dnsm_draft,
+        out: *mut u8,
+        out_len: usize,
+        query: *const u8,
+        query_len: usize,
+        rcode: *mut u16,
+        opt: *mut dnsm_opt,
+    ) -> dnsm_status;
     pub fn dnsm_begin_response(
         draft: *mut dnsm_draft,
         out: *mut u8,

@@ -1,5 +1,5 @@
 //! Messages that are written item by item.
-use crate::{Error, Item, NewItem, Section};
+use crate::{EdnsOption, Error, Item, NewItem, NewOpt, Section};
 use dnsm_sys::*;
 
 /// A message that is written into a buffer of the caller, item by item, without an allocation. Names are compressed.
@@ -34,6 +34,45 @@ pub struct Builder<'a> {
 const EMPTY: dnsm_draft =
     dnsm_draft { len: 0, limit: 0, reserved: 0, id: 0, flags: 0, counts: [0; 4], section: 0, unchecked: 0, hints: [0; 64] };
 
+/// The item for the calls, with this name.
+fn pass(item: &NewItem<'_>, name: &[u8]) -> dnsm_put_item {
+    dnsm_put_item {
+        name: name.as_ptr(),
+        name_len: name.len(),
+        data: item.data.as_ptr(),
+        data_len: item.data.len(),
+        ttl: item.ttl,
+        type_: item.rtype.0,
+        class_: item.class.0,
+        section: item.section as u8,
+    }
+}
+
+/// What the OPT record of a response says, as [`Builder::respond`] returns it: the upper bits of the rcode, and DO of the query.
+#[derive(Debug, Clone, Copy)]
+pub struct ResponseOpt(dnsm_opt);
+
+impl ResponseOpt {
+    /// The most octets of a UDP payload that the client can receive, at least 512.
+    pub fn udp_size(&self) -> u16 {
+        self.0.udp_size
+    }
+
+    /// Whether the client wants DNSSEC records.
+    pub fn dnssec_ok(&self) -> bool {
+        self.0.flags & DNSM_DO != 0
+    }
+
+    /// The record with the server's own size of a payload, and options. Before it is put, [`set_reserved`](Builder::set_reserved) to 0.
+    ///
+    /// # Errors
+    ///
+    /// `LongData` for an option of more than 65,535 octets.
+    pub fn record(&self, udp_size: u16, options: &[EdnsOption<'_>]) -> Result<NewOpt, Error> {
+        NewOpt::new(udp_size, self.dnssec_ok(), self.0.rcode_high, options)
+    }
+}
+
 /// How much of a message was written, as [`Builder::mark`] returns it.
 #[derive(Debug, Clone, Copy)]
 pub struct Mark(dnsm_draft);
@@ -64,6 +103,25 @@ impl<'a> Builder<'a> {
             dnsm_begin_response(&mut draft, out.as_mut_ptr(), out.len(), query.as_ptr(), query.len(), rcode)
         })?;
         Ok(Self { out, draft })
+    }
+
+    /// Begins the response to any query, with its question if it has exactly one that can be read: with its ID, opcode, RD and CD, QR,
+    /// and the low four bits of the rcode. Returns also the rcode and, if the query has an OPT record, what that of the response says.
+    ///
+    /// The rcode is FORMERR for several OPT records or without such a question, BADVERS for a version of EDNS above 0, else the low
+    /// twelve bits of `rcode`. The 11 octets of an OPT record without options are reserved.
+    ///
+    /// # Errors
+    ///
+    /// `ShortInput` for less than a header, `IsResponse`, and `NoRoom`.
+    pub fn respond(out: &'a mut [u8], query: &[u8], rcode: u16) -> Result<(Self, u16, Option<ResponseOpt>), Error> {
+        let (mut draft, mut said, mut fields) = (EMPTY, rcode, dnsm_opt::default());
+        // SAFETY: the pointers and the lengths are those of the buffer and the query, and the references are to live values.
+        Error::check(unsafe {
+            dnsm_respond(&mut draft, out.as_mut_ptr(), out.len(), query.as_ptr(), query.len(), &mut said, &mut fields)
+        })?;
+        let opt = (fields.udp_size > 0).then_some(fields);
+        Ok((Self { out, draft }, said, opt.map(ResponseOpt)))
     }
 
     /// Sets the most octets that the message may have. Before, its buffer is the only limit.
@@ -111,20 +169,30 @@ impl<'a> Builder<'a> {
     /// before that of the last item. `BadText` for octets or a text that is no name, `LongData`, `BadData` and `TooMany`.
     pub fn put(&mut self, item: &NewItem<'_>) -> Result<(), Error> {
         let mut buffer = [0; DNSM_NAME_OCTETS];
-        let name = item.name.octets(&mut buffer)?;
-        let passed = dnsm_put_item {
-            name: name.as_ptr(),
-            name_len: name.len(),
-            data: item.data.as_ptr(),
-            data_len: item.data.len(),
-            ttl: item.ttl,
-            type_: item.rtype.0,
-            class_: item.class.0,
-            section: item.section as u8,
-        };
+        let passed = pass(item, item.name.octets(&mut buffer)?);
         // SAFETY: the pointers and the lengths are those of the buffer, the name and the RDATA, and the references are to live
         // values.
         Error::check(unsafe { dnsm_put(&mut self.draft, self.out.as_mut_ptr(), self.out.len(), &passed) })
+    }
+
+    /// Appends all items of a set, or leaves it out if they don't fit, and returns whether they went in. If a `required` set doesn't
+    /// fit, as one that answers the question, TC is set. Once TC is set each set is left out. Allocates.
+    ///
+    /// # Errors
+    ///
+    /// Those of [`put`](Self::put) but `NoRoom`. Then the set is left out, too.
+    pub fn put_set(&mut self, items: &[NewItem<'_>], required: bool) -> Result<bool, Error> {
+        let mut buffers = vec![[0; DNSM_NAME_OCTETS]; items.len()];
+        let passed = items.iter().zip(&mut buffers).map(|(item, buffer)| Ok(pass(item, item.name.octets(buffer)?)));
+        let passed = passed.collect::<Result<Vec<_>, Error>>()?;
+        // SAFETY: the pointers and the lengths are those of the buffer and of `passed`, which points to names and RDATA that live.
+        let put = Error::check(unsafe {
+            dnsm_put_set(&mut self.draft, self.out.as_mut_ptr(), self.out.len(), passed.as_ptr(), passed.len(), required)
+        });
+        match put {
+            Err(Error::NoRoom) => Ok(false),
+            other => other.map(|()| true),
+        }
     }
 
     /// Appends an item of another message, in a section and with a TTL. A cache lowers the TTL by the age of the message. Names are

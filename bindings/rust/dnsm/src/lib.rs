@@ -30,7 +30,7 @@ mod write;
 #[doc = include_str!("../README.md")]
 struct Page;
 
-pub use builder::{Builder, Mark};
+pub use builder::{Builder, Mark, ResponseOpt};
 pub use error::Error;
 pub use item::{NewItem, NewName, NewOpt};
 pub use message::{age_ttls, DataText, Field, Fields, Header, Item, Items, Message, Name};

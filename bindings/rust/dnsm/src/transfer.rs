@@ -62,7 +62,8 @@ impl Transfer {
         Ok(Self(begun))
     }
 
-    /// The steps of the next message. Take all of them before the next message.
+    /// The steps of the next message. Take all of them: if they are dropped before, steps are left out, and the transfer ends with the
+    /// error `Incomplete`.
     ///
     /// # Errors
     ///
@@ -153,3 +154,11 @@ impl<'m> Iterator for Steps<'_, 'm> {
 }
 
 impl std::iter::FusedIterator for Steps<'_, '_> {}
+
+impl Drop for Steps<'_, '_> {
+    fn drop(&mut self) {
+        if !self.ended && self.cursor.left > 0 {
+            self.transfer.status = DNSM_INCOMPLETE;
+        }
+    }
+}

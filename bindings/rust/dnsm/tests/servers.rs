@@ -179,6 +179,59 @@ fn records_are_put_into_another_message() {
     assert_eq!(Builder::response(&mut out, &asked, 5).unwrap().flags(), QR | RD | 5);
 }
 
+/// RFC 6891 sections 6.1.1, 6.1.3 and 6.2.3: the rcode, the payload size and the upper bits of the rcode.
+#[test]
+fn any_query_gets_a_response() {
+    let opt = |size: u16, version| [&[0, 0, 41][..], &size.to_be_bytes(), &[0, version, 0x80, 0, 0, 0]].concat();
+    let asked = query(7, true, "example.org", Rtype::MX, Class::IN).unwrap();
+    for (opts, wanted, rcode, answered) in [
+        (vec![], 0x1003, 3, None),
+        (vec![opt(0, 0)], 5, 5, Some((512, 0))),
+        (vec![opt(4096, 0)], 23, 23, Some((4096, 1))),
+        (vec![opt(4096, 1)], 5, 16, Some((4096, 1))),
+        (vec![opt(4096, 0), opt(512, 0)], 5, 1, Some((4096, 0))),
+    ] {
+        let mut octets = [&asked[..], &opts.concat()].concat();
+        octets[11] = opts.len() as u8;
+        let mut out = [0; 512];
+        let (mut builder, said, opt) = Builder::respond(&mut out, &octets, wanted).unwrap();
+        assert_eq!((said, builder.flags(), builder.len()), (rcode, QR | RD | rcode & 15, 29));
+        assert_eq!(opt.map(|it| (it.udp_size(), it.dnssec_ok())), answered.map(|it| (it.0, true)));
+        builder.set_limit(39);
+        if let Some(opt) = opt {
+            let record = opt.record(1232, &[]).unwrap();
+            assert_eq!(builder.put(&record.item()), Err(Error::NoRoom));
+            builder.set_limit(40);
+            builder.set_reserved(0);
+            builder.put(&record.item()).unwrap();
+            let read = Message::new(builder.finish().unwrap()).unwrap().find_opt().unwrap().unwrap();
+            assert_eq!((read.0.udp_size(), read.0.dnssec_ok(), read.1), (1232, true, rcode));
+        }
+    }
+    let mut out = [0; 512];
+    assert_eq!(Builder::respond(&mut out, &asked[..28], 5).map(|it| (it.1, it.0.len())), Ok((1, 12)));
+    assert_eq!(Builder::respond(&mut out, RESPONSE, 0).err(), Some(Error::IsResponse));
+}
+
+/// RFC 2181 sections 5 and 9.
+#[test]
+fn sets_are_put_whole() {
+    let mut out = [0; 512];
+    let mut builder = Builder::new(&mut out, 7, QR).unwrap();
+    let record = |data| NewItem::record(Section::Answer, "example.org", Rtype::A, 300, data);
+    let set = [record(&[192, 0, 2, 1]), record(&[192, 0, 2, 2])];
+    builder.set_limit(12 + 27 + 16 - 1);
+    assert_eq!((builder.put_set(&set, false), builder.flags(), builder.len()), (Ok(false), QR, 12));
+    assert_eq!((builder.put_set(&[record(&[1])], false), builder.flags()), (Err(Error::BadData), QR));
+    assert_eq!((builder.put_set(&set, true), builder.flags(), builder.len()), (Ok(false), QR | TC, 12));
+    assert_eq!(builder.put_set(&set[..1], false), Ok(false));
+    builder.set_limit(12 + 27 + 16);
+    builder.set_flags(QR);
+    assert_eq!((builder.put_set(&set, true), builder.flags(), builder.len()), (Ok(true), QR, 55));
+    let read = items(builder.finish().unwrap());
+    assert_eq!(read.iter().map(|it| it.data_octets().unwrap()[3]).collect::<Vec<_>>(), [1, 2]);
+}
+
 #[test]
 fn data_is_read_from_text() {
     let data = data_from_text(Rtype::MX, "10 mail.example.org.").unwrap();
@@ -350,6 +403,18 @@ fn transfers_are_read() {
     assert_eq!(changes(&[3, 1, 0, 3, 0, 3]), "b3SOA -SOA -NS +SOA +NS e3 ");
     assert_eq!(changes(&[3, 0, 3]), "b3SOA w +NS e3 ");
     assert_eq!(changes(&[1]), "u1 ");
+}
+
+/// Steps that are left out end a transfer.
+#[test]
+fn all_steps_have_to_be_taken() {
+    let message = transferred(7, QR, Some(Rtype::AXFR), &[3, 0, 3]);
+    for (taken, outcome) in [(0, Err(Error::Incomplete)), (2, Err(Error::Incomplete)), (3, Ok(())), (4, Ok(()))] {
+        let mut transfer = Transfer::axfr(7, b"\0", Class::IN).unwrap();
+        assert_eq!(transfer.take(&message).unwrap().take(taken).count(), taken.min(3));
+        assert_eq!(transfer.end(), outcome);
+        assert_eq!(transfer.take(&message).err(), Some(if taken < 3 { Error::Incomplete } else { Error::AfterEnd }));
+    }
 }
 
 #[test]
