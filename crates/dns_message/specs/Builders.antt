@@ -11,6 +11,8 @@ pub use Rattle.dns_build.specs.MessageOf.{IsMessageOf, ReadsBack, GivesRecords, 
 pub use Rattle.dns_build.specs.TypedReading.{pushed, taken, IsLaidOutBy, IsTakenBy, EncodedAs, AllEncodedAs}
 -- answers
 pub use Rattle.dns_build.specs.Answers.{readable_questions, answer_header, answering, AreAccepted, RefusesAfter, RepresentsAnswer, GivesAnswer, GivesEither, IsEither, IsFailure}
+-- responses: how they begin, and their OPT records
+pub use Rattle.dns_build.specs.Responses.{response_rcode, rcode_to, response_header, header_to, opt_for, opt_to, responding, builder_of}
 -- copied records
 pub use Rattle.dns_build.specs.CopyRecords.{record_sections, PushesKept, CopiesRecord, CopiesList, CopiesSection, CopiesSections, CopiesMessage}
 pub use Rattle.dns_build.specs.CopyRecords.CopiesList.{none, fault, refused, copied}
@@ -21,7 +23,7 @@ pub use Rattle.dns_build.specs.KeptRecords.Keeps.{none, dropped, kept}
 -- sets of records, octets that are left free, and responses that fit a limit
 pub use Rattle.dns_build.specs.Sets.{AllFit, ReturnsAfter, SetIsRefused, SetReturns}
 pub use Rattle.dns_build.specs.Reserved.{PushLeaving, Reserving, SetLeaving, builder_in, reserve_result}
-pub use Rattle.dns_build.specs.Fitting.{FitsSet, MissesRequired, RecordSet, fit_set, fit_sets, fitting, goes_in, is_short, is_within, left_out, with_truncation}
+pub use Rattle.dns_build.specs.Fitting.{FitsSet, MissesAnyRequired, MissesRequired, RecordSet, ResponseSets, answers_fitted, authorities_fitted, fit_set, fit_sets, fitting, goes_in, is_short, is_within, left_out, response_fitted, with_truncation}
 -- OPT records
 pub use Rattle.dns_build.specs.Opt.{opt_record, with_opt, with_rcode, PushesOptRecord, Gathers, OptReturns, PushesOpt}
 pub use Rattle.dns_build.specs.ReservedOpt.{Reservation, reservation, limit_without, limit_left}

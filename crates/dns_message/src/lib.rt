@@ -323,6 +323,7 @@ pub mod data {
 /// finds values that an RFC rules out in well-formed RDATA.
 pub mod fields {
     pub use fields_checks::{CheckError, ValueReason, check_values, laws as check_laws};
+    pub use fields_forms::{Location, laws as form_laws};
     pub use fields_lines::{
         Defaults, LineError, WordReason, begins_with_owner, laws as line_laws, read_duration,
         read_line,
@@ -336,7 +337,10 @@ pub mod fields {
         RecordTypes, Row, Shape, Value, fields_of, laws, layout_type, record_types,
     };
     pub use fields_text::{TextError, laws as word_laws, split_words};
-    pub use fields_values::{NewValue, ValueError, from_values, laws as value_laws};
+    pub use fields_values::{
+        NewGateway, NewGatewayAndKey, NewHostIdentity, NewRelay, NewValue, ValueError, from_values,
+        laws as value_laws,
+    };
 }
 
 /// RDATA of one record type, from native values. `fields::from_values` makes RDATA of any type.

@@ -2,10 +2,8 @@
 use Rattle.std.proofs.Common.{◌≡◌, ◌∙◌, ℕ, ◌+◌, ◌-◌, ◌≤◌, true, false, None, Some, List, [], ap, arith, length, refl, subst, sym}
 use Rattle.std.specs.List.{flat_map}
 use Rattle.std.specs.Prelude.{Err, IfErr, IfOk, Ok, Option, Result, is_some, option_map}
-use Rattle.dns_build.specs.Fitting.{fit_sets, fitting}
-use Rattle.dns_build.specs.Reserved.{Reserving}
-use Rattle.dns_build.specs.Responses.{header_to, opt_for as built, rcode_to}
-use Rattle.dns_message.specs.Builders.{Built, Gathered, InAdditional, InAnswer, InAuthority, IsMessageOf, MovesState, Represents, State, move_to, with_limit}
+use Rattle.dns_message.specs.Builders.{Built, Gathered, InAdditional, InAnswer, InAuthority, IsMessageOf, MovesState, Represents, Reserving, State, fit_sets, fitting, header_to, move_to}
+use Rattle.dns_message.specs.Builders.{opt_for as built, rcode_to, with_limit}
 use Rattle.dns_message.specs.Data.{OptionItem, encode_options}
 use Rattle.dns_message.specs.Messages.{opt_of}
 use Rattle.dns_message.specs.Records.{OptItem}
@@ -42,6 +40,7 @@ module _ (zone : Zone) (rcode : ℕ) (steps : List StepItem) (limit : ℕ) (b : 
   abbrev state : State
   state = filled reserved zone steps (fitting limit reserved (started rcode (is_authoritative steps) limit b))
 
+  -- The builder represents that state.
   pub represents : Represents InAdditional Tree state full.built
   represents = subst (λ n. Represents InAdditional Tree (filled n zone steps (fitting limit reserved (started rcode (is_authoritative steps) limit b))) full.built) fit_reserved
       (fills (fitting limit reserved (started rcode (is_authoritative steps) limit b)) (fits (started rcode (is_authoritative steps) limit b) h))
@@ -96,6 +95,7 @@ pub reserved_some : {X : Type 0} (f : X → Gathered) (o : Option X) → is_some
 reserved_some f None is = absurd (let e = is in cc)
 reserved_some f (Some x) is = refl
 
+-- Without an OPT record none are.
 pub reserved_none : {X : Type 0} (f : X → Gathered) (o : Option X) → is_some o ≡ false → 0 ≡ reserved_for (option_map f o)
 reserved_none f None is = refl
 reserved_none f (Some x) is = absurd (let e = is in cc)
@@ -105,6 +105,7 @@ pub ok_by : {M E : Type 0} (octets : M → List ℕ) (P Q : List ℕ → Type 0)
 ok_by octets P Q follows (Ok m) h = follows (octets m) h
 ok_by octets P Q follows (Err e) h = tt
 
+-- What follows for an error follows for its result.
 pub err_by : {M E : Type 0} (P Q : E → Type 0) → ((e : E) → P e → Q e) → (r : Result M E) → IfErr r P → IfErr r Q
 err_by P Q follows (Ok m) h = tt
 err_by P Q follows (Err e) h = follows e h

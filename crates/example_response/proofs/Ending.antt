@@ -1,9 +1,8 @@
 -- How responses are ended: their octets, and the OPT record.
 use Rattle.std.proofs.Common.{◌≡◌, ◌≢◌, ◌∙◌, ℕ, ◌+◌, ◌≤◌, true, None, Some, List, [], ◌∷◌, ◌++◌, ap, append_assoc, arith, length, length-append, refl, subst, sym}
 use Rattle.std.specs.Prelude.{Err, Option, Ok, map}
-use Rattle.dns_build.specs.Reserved.{Reserving}
-use Rattle.dns_message.specs.Builders.{Built, Gathered, InAdditional, IsMessageOf, PushesOptRecord, Represents, State, opt_record, opt_size, with_header, with_limit}
-use Rattle.dns_message.specs.Builders.{all_of, with_opt, with_record}
+use Rattle.dns_message.specs.Builders.{Built, Gathered, InAdditional, IsMessageOf, PushesOptRecord, Represents, Reserving, State, all_of, opt_record, opt_size, with_header, with_limit, with_opt}
+use Rattle.dns_message.specs.Builders.{with_record}
 use Rattle.dns_message.specs.Headers.{HeaderFields}
 use Rattle.dns_message.specs.Questions.{encode_question}
 use Rattle.dns_message.specs.Records.{RecordItem, encode_record}

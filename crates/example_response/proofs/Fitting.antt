@@ -5,9 +5,8 @@ use Rattle.std.proofs.lemmas.List.{append-nil, map-append, take_more}
 use Rattle.std.specs.List.{flat_map}
 use Rattle.std.specs.Borrow.{Bor}
 use Rattle.std.specs.Prelude.{Option, Some, Result, Ok, Err}
-use Rattle.dns_build.specs.Fitting.{RecordSet, fit_set, fit_sets, goes_in, left_out}
-use Rattle.dns_build.specs.Reserved.{Reserving}
-use Rattle.dns_message.specs.Builders.{Built, InAdditional, InAnswer, InAuthority, InBuilder, InQuestion, MovesState, Represents, Stage, State, with_records}
+use Rattle.dns_message.specs.Builders.{Built, InAdditional, InAnswer, InAuthority, InBuilder, InQuestion, MovesState, RecordSet, Represents, Reserving, Stage, State, fit_set, fit_sets, goes_in}
+use Rattle.dns_message.specs.Builders.{left_out, with_records}
 use Rattle.dns_message.specs.Fields.{owned_parts_of, owned_rtype_of}
 use Rattle.dns_message.specs.Names.{Labels, name_labels}
 use Rattle.dns_message.specs.Records.{RecordItem}
@@ -90,7 +89,8 @@ fits_by xs ys old new r made = subst (λ (zs : List RecordItem). Fits InAnswer (
 
 -- The addresses of a host are those of type A, and then those of type AAAA.
 pub glue_by : (zone : Zone) (cut host : Labels) (name : Option Labels) (a b : Option Rrset) (needed : Bool) (old mid new : Reserving)
-    → Some host ≡ name → a ≡ set_at zone host 1 → b ≡ set_at zone host 28 → needed ≡ is_within host cut → MovesState InAdditional InAdditional Tree (fit_sets None Tree InAdditional old.reserved (address_sets a needed)) old.built mid.built → mid.reserved ≡ old.reserved
+    → Some host ≡ name → a ≡ set_at zone host 1 → b ≡ set_at zone host 28 → needed ≡ is_within host cut
+    → MovesState InAdditional InAdditional Tree (fit_sets None Tree InAdditional old.reserved (address_sets a needed)) old.built mid.built → mid.reserved ≡ old.reserved
     → MovesState InAdditional InAdditional Tree (fit_sets None Tree InAdditional mid.reserved (address_sets b needed)) mid.built new.built
     → MovesState InAdditional InAdditional Tree (fit_sets None Tree InAdditional old.reserved (host_sets zone cut name)) old.built new.built
 glue_by zone cut host name a b needed old mid new is first second asked =

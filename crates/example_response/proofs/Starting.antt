@@ -1,8 +1,7 @@
 -- How responses are started.
 use Rattle.std.proofs.Common.{◌≡◌, ◌∙◌, ℕ, ◌≤◌, Bool, true, None, List, [], ◌∷◌, ◌++◌, ap, append_assoc, arith, length-append, sym}
 use Rattle.std.specs.Prelude.{Err}
-use Rattle.dns_build.specs.Responses.{responding}
-use Rattle.dns_message.specs.Builders.{GivesAnswer, State, fresh, readable_questions, with_limit, with_questions}
+use Rattle.dns_message.specs.Builders.{GivesAnswer, State, fresh, readable_questions, responding, with_limit, with_questions}
 use Rattle.dns_message.specs.Questions.{QuestionItem}
 use Rattle.dns_message.specs.Targets.{Tree}
 use Rattle.dns_message.specs.declared.builder.PushError.{PushError}

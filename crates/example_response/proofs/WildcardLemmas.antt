@@ -25,6 +25,7 @@ at_asterisk : (k : ℕ) (d : List ℕ) → k < length asterisk → get_or asteri
 at_asterisk zero d l = refl
 at_asterisk (suc k) d l = absurd (omega arith)
 
+-- The octets of the name that is an asterisk are an uncompressed name.
 pub asterisk_is_uncompressed : IsUncompressed (1 ∷ 42 ∷ 0 ∷ [])
 asterisk_is_uncompressed = (
   asterisk,

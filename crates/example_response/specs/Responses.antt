@@ -1,10 +1,7 @@
 -- Responses to queries about a zone. RFC 1035 section 4.1.1, RFC 2181 section 9, RFC 6891 section 6.1.
 use Rattle.std.specs.Prelude.{nat_lt, ◌≡◌, ◌≤◌, ◌<◌, ◌+◌, ◌==◌, not, if◌then◌else◌, ℕ, Bool, false, List, [], length, Option, Some, None, option_map, Result, Ok, Err}
-use Rattle.dns_build.specs.Fitting.{fitting}
-use Rattle.dns_build.specs.Reserved.{Reserving}
-use Rattle.dns_build.specs.Responses.{header_to, opt_to}
-use Rattle.dns_message.specs.Builders.{Gathered, InEach, IsMessageOf, fresh, opt_size, readable_questions, size_after, with_opt}
-use Rattle.dns_message.specs.Builders.{InAdditional, InAnswer, State, with_limit}
+use Rattle.dns_message.specs.Builders.{Gathered, InAdditional, InAnswer, InEach, IsMessageOf, Reserving, State, fitting, fresh, header_to, opt_size, opt_to, readable_questions, size_after, with_limit}
+use Rattle.dns_message.specs.Builders.{with_opt}
 use Rattle.dns_message.specs.Headers.{fields_in}
 use Rattle.dns_message.specs.Messages.{asked_first, opt_of}
 use Rattle.dns_message.specs.Questions.{QuestionItem, parsed_question}

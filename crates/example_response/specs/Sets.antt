@@ -1,9 +1,7 @@
 -- Which sets of records a response has in its sections. RFC 1034 section 4.3.2, RFC 2181 sections 5 and 9, RFC 2308 section 3, RFC 6672 section 3.1.
 use Rattle.std.specs.Prelude.{ℕ, Bool, true, List, [], ◌∷◌, ◌++◌, map, Option, Some, None, OnOk, Result}
 use Rattle.std.specs.List.{flat_map}
-use Rattle.dns_build.specs.Fitting.{RecordSet, fit_sets}
-use Rattle.dns_build.specs.Reserved.{Reserving}
-use Rattle.dns_message.specs.Builders.{InAdditional, InAnswer, InAuthority, MovesState, Stage, State, move_to}
+use Rattle.dns_message.specs.Builders.{InAdditional, InAnswer, InAuthority, MovesState, RecordSet, Reserving, Stage, State, fit_sets, move_to}
 use Rattle.dns_message.specs.Data.{CompressibleName}
 use Rattle.dns_message.specs.Fields.{owned_parts_of, owned_rtype_of}
 use Rattle.dns_message.specs.Names.{Labels, name_labels}

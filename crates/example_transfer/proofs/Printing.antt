@@ -14,7 +14,7 @@ use Rattle.dns_message.specs.declared.name.ParsedName.{ParsedName}
 use Rattle.dns_message.specs.declared.record.Record.{Record}
 use Rattle.dns_message.specs.declared.wire.ParseError.{ParseError}
 use Rattle.dns_message.proofs.CallerLemmas.{appends_both, appends_none}
-use Rattle.dns_transfer.specs.Steps.{Item}
+use Rattle.dns_message.specs.Transfers.Steps.{Item}
 use Rattle.example_transfer.specs.Printed.{AreItemTexts, HasNoOctets, IsRecordText, IsRemovedText, octets_line, Prints, PrintsItem, PrintsItems}
 use Rattle.example_transfer.specs.Printed.AreItemTexts.{none, more}
 use Rattle.example_transfer.specs.Printed.IsRecordLine.{as_fields, as_octets}

@@ -3,13 +3,8 @@ use Rattle.std.proofs.Common.{◌≡◌, ◌∙◌, ℕ, Bool, Option, Result, O
 use Rattle.dns_message.specs.Messages.{records_of}
 use Rattle.dns_message.specs.Sections.RecordSection.{position}
 use Rattle.dns_message.specs.Streams.{BeginsWith, BeginsWithAll, IsPartial, Refuses}
-use Rattle.dns_transfer.specs.Asked.{Asked}
-use Rattle.dns_transfer.specs.Transfers.{IsTaken, TransfersFrom}
-use Rattle.dns_transfer.specs.Messages.{RefusesMessage}
-use Rattle.dns_transfer.specs.declared.grammar.State.{State}
-use Rattle.dns_transfer.specs.Transfers.TransfersFrom.{none, message, stopped, refused}
-use Rattle.dns_transfer.specs.Steps.{Finishes, Item, TakesMessage, cursor_of, run_of, state_left, steps_left, asked_of as asked_in}
-use Rattle.dns_transfer.specs.Transfer.{asked_of, state_of}
+use Rattle.dns_message.specs.Transfers.{Asked, IsTaken, TransfersFrom, RefusesMessage, State, none, message, stopped, refused, asked_of, state_of}
+use Rattle.dns_message.specs.Transfers.Steps.{Finishes, Item, TakesMessage, cursor_of, run_of, state_left, steps_left, asked_of as asked_in}
 use Rattle.dns_message.specs.declared.message.Section.TheVariants.{Answer}
 use Rattle.dns_message.specs.declared.stream.FrameError.{FrameError}
 use Rattle.dns_message.specs.declared.transfer.Steps.{Steps}

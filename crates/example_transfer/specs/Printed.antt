@@ -9,8 +9,8 @@ use Rattle.dns_message.specs.Records.{EncodedRecord, IsThere, HasData, HasDataFa
 use Rattle.dns_message.specs.declared.record.Record.{Record}
 use Rattle.dns_message.specs.Show.{line}
 use Rattle.dns_message.specs.ZoneLines.{line_with}
-use Rattle.dns_transfer.specs.Runs.StepOf.{Begin, UpToDate, FallsBackToAxfr, Remove, Add, End}
-use Rattle.dns_transfer.specs.Steps.{TransferStep, Item}
+use Rattle.dns_message.specs.Transfers.{Begin, UpToDate, FallsBackToAxfr, Remove, Add, End}
+use Rattle.dns_message.specs.Transfers.Steps.{TransferStep, Item}
 
 -- The line of a record: its RDATA as the fields of its type, or as octets if it isn't such fields.
 pub data IsRecordLine (x : EncodedRecord) (text : List ℕ) : Type 0 where

@@ -5,12 +5,8 @@ use Rattle.dns_message.specs.Streams.{BeginsWithAll, IsPartial, Refuses}
 use Rattle.dns_message.specs.declared.message.Section.TheVariants.{Answer}
 use Rattle.dns_message.specs.declared.transfer.Transfer.{Transfer}
 use Rattle.dns_message.specs.declared.transfer.TransferError.{TransferError}
-use Rattle.dns_transfer.specs.Asked.{Asked}
-use Rattle.dns_transfer.specs.Messages.{is_ended}
-use Rattle.dns_transfer.specs.Transfers.{IsTaken, TransfersFrom}
-use Rattle.dns_transfer.specs.declared.grammar.State.{State}
-use Rattle.dns_transfer.specs.Steps.{Item, run_of}
-use Rattle.dns_transfer.specs.Transfer.{asked_of, state_of}
+use Rattle.dns_message.specs.Transfers.{Asked, is_ended, IsTaken, TransfersFrom, State, asked_of, state_of}
+use Rattle.dns_message.specs.Transfers.Steps.{Item, run_of}
 use Rattle.example_transfer.specs.Printed.{PrintsItems}
 use Rattle.example_transfer.specs.declared.transfer.Failure.{Failure}
 use Rattle.example_transfer.specs.declared.transfer.Failure.TheVariants as failures

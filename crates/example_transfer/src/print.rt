@@ -3,7 +3,7 @@ ghost use Rattle.std.specs.Prelude.{◌++◌, OnOk, codes};
 ghost use Rattle.std.specs.Io.KnownBytes.{Appends};
 ghost use Rattle.dns_message.specs.Data.{unknown_octets, unknown_rtype_of};
 ghost use Rattle.dns_message.specs.Records.{encoded_record};
-ghost use Rattle.dns_transfer.specs.Steps.{step_result, step_said};
+ghost use Rattle.dns_message.specs.Transfers.Steps.{step_result, step_said};
 ghost use Rattle.example_transfer.specs.Printed.{octets_line, IsBeginText, IsRecordText, IsRemovedText, Prints, PrintsItem, PrintsStep};
 
 use dns_message::data::UnknownRecordData;

@@ -2,8 +2,8 @@
 ghost use Rattle.std.specs.Prelude.{◌≡◌, OnOk};
 ghost use Rattle.dns_message.specs.Messages.{message_octets};
 ghost use Rattle.dns_message.specs.Streams.{IsPartial};
-ghost use Rattle.dns_transfer.specs.Steps.{asked_of as asked_by_steps, state_left, steps_left};
-ghost use Rattle.dns_transfer.specs.Transfer.{asked_of, state_of};
+ghost use Rattle.dns_message.specs.Transfers.Steps.{asked_of as asked_by_steps, state_left, steps_left};
+ghost use Rattle.dns_message.specs.Transfers.{asked_of, state_of};
 ghost use Rattle.example_transfer.specs.Printed.{PrintsItems};
 ghost use Rattle.example_transfer.specs.Transfer.{Ends, PrintsMessage, PrintsTransfer};
 

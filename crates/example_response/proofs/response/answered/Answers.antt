@@ -1,7 +1,6 @@
 use Rattle.std.proofs.Common.{◌≡◌, ◌∙◌, ◌+◌, ◌≤◌, arith, length, map, subst}
 use Rattle.std.specs.Prelude.{option_map}
-use Rattle.dns_build.specs.Fitting.{fitting}
-use Rattle.dns_message.specs.Builders.{InAnswer, MovesState, Represents, gathered}
+use Rattle.dns_message.specs.Builders.{InAnswer, MovesState, Represents, fitting, gathered}
 use Rattle.dns_message.specs.Messages.{message_octets}
 use Rattle.dns_message.specs.Targets.{Tree}
 use Rattle.example_response.specs.Answers.{is_authoritative, step_shown}

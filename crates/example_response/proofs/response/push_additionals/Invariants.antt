@@ -1,7 +1,6 @@
 use Rattle.std.proofs.Common.{◌≡◌, None, take}
 use Rattle.std.specs.List.{flat_map}
-use Rattle.dns_build.specs.Fitting.{fit_sets}
-use Rattle.dns_message.specs.Builders.{InAdditional, MovesState}
+use Rattle.dns_message.specs.Builders.{InAdditional, MovesState, fit_sets}
 use Rattle.dns_message.specs.Targets.{Tree}
 use Rattle.example_response.specs.Sets.{record_glue}
 use Rattle.example_response.proofs.response.push_additionals.Given as goal

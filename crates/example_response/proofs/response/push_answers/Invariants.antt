@@ -1,7 +1,6 @@
 use Rattle.std.proofs.Common.{◌≡◌, None, map, take}
 use Rattle.std.specs.List.{flat_map}
-use Rattle.dns_build.specs.Fitting.{fit_sets}
-use Rattle.dns_message.specs.Builders.{InAnswer, MovesState}
+use Rattle.dns_message.specs.Builders.{InAnswer, MovesState, fit_sets}
 use Rattle.dns_message.specs.Targets.{Tree}
 use Rattle.example_response.specs.Answers.{step_shown}
 use Rattle.example_response.specs.Sets.{answer_sets}

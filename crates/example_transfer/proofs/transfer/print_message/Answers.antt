@@ -1,5 +1,5 @@
 use Rattle.dns_message.specs.Messages.{message_octets}
-use Rattle.dns_transfer.specs.Transfer.{asked_of, state_of}
+use Rattle.dns_message.specs.Transfers.{asked_of, state_of}
 use Rattle.example_transfer.proofs.Reading.{message_read, message_refused, message_stops}
 use Rattle.example_transfer.proofs.transfer.print_message.Goals as goal
 

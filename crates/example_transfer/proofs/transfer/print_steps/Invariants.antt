@@ -1,5 +1,5 @@
 use Rattle.std.proofs.Common.{◌≡◌, length}
-use Rattle.dns_transfer.specs.Steps.{asked_of, state_left, steps_left}
+use Rattle.dns_message.specs.Transfers.Steps.{asked_of, state_left, steps_left}
 use Rattle.example_transfer.proofs.Printing.{PrintedUpTo}
 use Rattle.example_transfer.proofs.transfer.print_steps.Given as goal
 

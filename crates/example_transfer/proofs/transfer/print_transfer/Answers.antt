@@ -1,7 +1,7 @@
 use Rattle.std.proofs.Common.{refl, arith}
 use Rattle.dns_message.specs.Messages.{message_octets}
 use Rattle.dns_message.proofs.CallerLemmas.{frame_length}
-use Rattle.dns_transfer.specs.Transfer.{asked_of, state_of}
+use Rattle.dns_message.specs.Transfers.{asked_of, state_of}
 use Rattle.example_transfer.proofs.Reading.{after_failure, after_message, at_end, at_refused, none_read}
 use Rattle.example_transfer.proofs.transfer.print_transfer.Goals as goal
 

@@ -1,5 +1,5 @@
 use Rattle.std.proofs.Common.{◌≡◌, length}
-use Rattle.dns_transfer.specs.Transfer.{asked_of, state_of}
+use Rattle.dns_message.specs.Transfers.{asked_of, state_of}
 use Rattle.example_transfer.proofs.Reading.{ReadsSome}
 use Rattle.example_transfer.proofs.transfer.print_transfer.Given as goal
 
