@@ -9,7 +9,7 @@
 //!
 //! An empty line ends a block. A line whose first mark is `#` is a comment. A block whose first
 //! line is `case NAME` is a case, and each further line a part of it or a check. What the keys say
-//! is in the pages of the programs. A file without a case is a failure.
+//! is at the head of the programs' sources. A file without a case is a failure.
 #![tactic(auto)]
 
 mod block;

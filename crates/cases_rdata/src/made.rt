@@ -3,6 +3,7 @@ use crate::case::{Case, digits_written};
 use crate::named::made_of;
 use dns_data::{ComposeRecordData, RecordData};
 use dns_wire::{AppendError, FlattenInto, OctetsFrom};
+use fields_forms::Location;
 use fields_table::{FieldData, Fields, Kind, OwnedFieldData, Value, fields_of};
 use fields_values::NewValue;
 use std::alloc::{AllocError, Global};
@@ -54,7 +55,7 @@ fn next_value<'a>(fields: &mut Fields<'a>) -> NewValue<'a> {
     }
 }
 
-/// The value as a field of this kind takes it: an address or a locator isn't `Octets`.
+/// The value as a field of this kind takes it: an address, a locator or a location isn't `Octets`.
 fn own_value<'a>(kind: Kind, value: &Value<'a>) -> NewValue<'a> {
     let Value::Octets(octets) = value else {
         return NewValue::from(value);
@@ -71,6 +72,10 @@ fn own_value<'a>(kind: Kind, value: &Value<'a>) -> NewValue<'a> {
         Kind::Locator64 => match <[u8; 8]>::try_from(*octets) {
             Ok(locator) => NewValue::Locator64(locator),
             Err(_) => NewValue::Number(0),
+        },
+        Kind::Location => match Location::from_octets(octets) {
+            Some(location) => NewValue::Location(location),
+            None => NewValue::from(value),
         },
         _ => NewValue::from(value),
     }

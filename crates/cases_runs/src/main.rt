@@ -16,6 +16,7 @@ mod replies;
 mod returned;
 mod run;
 mod transfer;
+mod written;
 
 use crate::message::check_call;
 use crate::part::check_part;

@@ -23,6 +23,9 @@
 //! - `remove-last 0 = DIGITS`: the message after `remove_last_additional`.
 //! - `axfr ZONE = TEXT`, `ixfr SERIAL ZONE = TEXT`: the steps of the messages as a response to a
 //!   query with ID 1234, and how it ends.
+//! - `writes-zone NUMBER = DIGITS DIGITS`, `writes-changes NUMBER = DIGITS`: the messages that a
+//!   `TransferWriter` writes of the records, with this number of octets at most, in response to the
+//!   second message; and the error that ends them, if any.
 //! - `reply ZONE = TEXT`, `reply-exact ZONE = TEXT`: what the message says of the second one's
 //!   question, by `reply_to` or `reply_to_exact`.
 //! - `redirected NAME OWNER TARGET = NAME`: `substitute`, or `none`.
@@ -37,6 +40,7 @@ use crate::replies::{redirected_shown, reply_shown};
 use crate::returned::write_call;
 use crate::run::{Run, words_of};
 use crate::transfer::transfer_shown;
+use crate::written::written_shown;
 use cases_files::{Report, key_of, octets_of};
 use dnsview_tool::{file_of, rows};
 use std::alloc::{AllocError, Global};
@@ -76,6 +80,8 @@ pub(crate) enum Call {
     Limited,
     Axfr,
     Ixfr,
+    WritesZone,
+    WritesChanges,
     Reply,
     ReplyExact,
     Redirected,
@@ -113,6 +119,8 @@ const CALLS: &[(&str, Call)] = &[
     ("limited", Call::Limited),
     ("axfr", Call::Axfr),
     ("ixfr", Call::Ixfr),
+    ("writes-zone", Call::WritesZone),
+    ("writes-changes", Call::WritesChanges),
     ("reply", Call::Reply),
     ("reply-exact", Call::ReplyExact),
     ("redirected", Call::Redirected),
@@ -152,6 +160,7 @@ pub(crate) fn check_call<W: Write + Drop>(
         Call::Age | Call::Cap | Call::ChangeCap | Call::Id | Call::HeaderRcode | Call::RemoveLast =>
             changed_shown(alloc, run, call, text)?,
         Call::Axfr | Call::Ixfr => transfer_shown(alloc, run, call, text)?,
+        Call::WritesZone | Call::WritesChanges => written_shown(alloc, run, call, text)?,
         _ => message_shown(alloc, run, call)?,
     };
     report.check(line, text.as_bytes(), shown.as_bytes())

@@ -4,9 +4,8 @@
 //!
 //! Nothing is exported. `callers`, `tour` and `typed` have proved callers, `ptr`, `fields`, `made`
 //! and `own` the examples of three modules. `input_output` tests `dnsmsg`, `view` `dnsview`,
-//! `script` a list of calls, `memory` calls that allocate, `options` values that are printed, and
-//! `json` an object of `json_print`. `asserts` has what many tests use. The rows of a table have
-//! names, which failures print.
+//! `script` a list of calls, `memory` calls that allocate, and `json` an object of `json_print`.
+//! `asserts` has what many tests use. The rows of a table have names, which failures print.
 #![tactic(auto)]
 
 #[cfg(test)]
@@ -23,8 +22,6 @@ mod json;
 mod made;
 #[cfg(test)]
 mod memory;
-#[cfg(test)]
-mod options;
 #[cfg(test)]
 mod own;
 #[cfg(test)]

@@ -1,8 +1,7 @@
 //! Messages on a stream that comes in pieces, as over TCP (RFC 1035 section 4.2.2).
 use crate::asserts::{assert_holds, assert_octets};
 use dns_stream::{FrameError, MAX_FRAME, StreamReader, first_message, missing_octets};
-use dns_target::StreamTarget;
-use dns_wire::{AppendError, Composer};
+use dns_wire::AppendError;
 use std::process::Abort;
 
 /// A query for the address of example.com, a header section alone, and a query for the name servers
@@ -148,18 +147,10 @@ fn refuses_what_exceeds_it(rt: HostRuntime) {
     assert_holds(&rt, "all messages", taken == 3 && is_clear);
 }
 
-/// What stream targets hold, one after the other, in a buffer of the caller.
+/// The messages of a buffer of the caller, one after the other.
 #[test]
-fn reads_what_targets_hold(rt: HostRuntime) {
-    let mut stream = Vec::new(rt.alloc());
-    for message in MESSAGES {
-        let mut target = StreamTarget::new_vec(rt.alloc()).expect(&rt, "memory");
-        target.append_slice(message).expect(&rt, "memory");
-        let held = target.as_stream_slice();
-        stream.append_slice(held).expect(&rt, "memory");
-    }
-    assert_octets(&rt, "the stream", &stream, STREAM);
-    let mut rest = stream.as_slice();
+fn takes_messages_of_a_buffer(rt: HostRuntime) {
+    let mut rest = STREAM.as_slice();
     for message in MESSAGES {
         let first = first_message(rest, MAX_FRAME).expect(&rt, "a length");
         let (found, after) = first.expect(&rt, "a frame");

@@ -31,10 +31,6 @@ mod lp;
 #[cfg(test)]
 mod many_words;
 #[cfg(test)]
-mod mx;
-#[cfg(test)]
-mod naptr;
-#[cfg(test)]
 mod opt;
 #[cfg(test)]
 mod questions;

@@ -4,7 +4,8 @@ use crate::asserts::{assert_octets, assert_prints, assert_same, name_of};
 use dns_code::Rtype;
 use dns_data::ComposeRecordData;
 use dns_message::fields::{
-    AddressPrefix, NewValue, OwnedFieldData, TypeMap, ValueError, from_values,
+    AddressPrefix, Location, NewGateway, NewGatewayAndKey, NewHostIdentity, NewRelay, NewValue,
+    OwnedFieldData, TypeMap, ValueError, from_values,
 };
 use dns_message::make::{caa, https, nsec, svcb, text, txt};
 use dns_wire::{Name, ToName};
@@ -62,6 +63,52 @@ fn makes_a_list_of_types(rt: HostRuntime) {
 }
 
 #[test]
+fn makes_gateways(rt: HostRuntime) {
+    let alloc = rt.alloc();
+    // RFC 4025 section 3.2, with the first octets of the key
+    let value = NewGatewayAndKey {
+        algorithm: 2,
+        gateway: NewGateway::Ipv4([192, 0, 2, 38]),
+        key: b"\x01\x03\x51",
+    };
+    let values = [NewValue::Number(10), NewValue::GatewayAndKey(value)];
+    let made = from_values(alloc, Rtype::IPSECKEY, &values);
+    let wanted = b"\x0a\x01\x02\xc0\x00\x02\x26\x01\x03\x51";
+    assert_made(&rt, alloc, "a gateway", made, wanted);
+    // RFC 8777 section 4.3.2
+    let relay = name_of(&rt, b"\x09amtrelays\x07example\x03com\x00");
+    let value = NewRelay {
+        optional: true,
+        relay: NewGateway::Name(relay.as_parsed()),
+    };
+    let values = [NewValue::Number(128), NewValue::Relay(value)];
+    let made = from_values(alloc, Rtype::AMTRELAY, &values);
+    let wanted = b"\x80\x83\x09amtrelays\x07example\x03com\x00";
+    assert_made(&rt, alloc, "a relay", made, wanted);
+}
+
+#[test]
+fn makes_a_location_and_a_host_identity(rt: HostRuntime) {
+    let alloc = rt.alloc();
+    // RFC 1876 section 4: 42 21 54 N 71 06 18 W -24m 30m
+    let location = Location::new(0x33, 0x16, 0x13, 2_299_997_648, 1_891_505_648, 9_997_600);
+    let location = location.expect(&rt, "a location");
+    let made = from_values(alloc, Rtype::LOC, &[NewValue::Location(location)]);
+    let wanted = b"\x00\x33\x16\x13\x89\x17\x2d\xd0\x70\xbe\x15\xf0\x00\x98\x8d\x20";
+    assert_made(&rt, alloc, "a location", made, wanted);
+    // RFC 8005 section 5, of a short tag and key, without servers
+    let value = NewHostIdentity {
+        algorithm: 2,
+        tag: b"\x20\x01",
+        key: b"\x03\x01\x00",
+        servers: &[],
+    };
+    let made = from_values(alloc, Rtype::HIP, &[NewValue::HostIdentity(value)]);
+    let wanted = b"\x02\x02\x00\x03\x20\x01\x03\x01\x00";
+    assert_made(&rt, alloc, "a host identity", made, wanted);
+}
+
+#[test]
 fn makes_a_long_text(rt: HostRuntime) {
     let alloc = rt.alloc();
     // Two strings, of 255 octets and of one.
@@ -80,30 +127,6 @@ const LONG_STRING: &[u8] = &[97; 256];
 /// Why there is no RDATA with these values.
 fn error_of(alloc: Global, rtype: Rtype, values: &[NewValue<'_>]) -> Option<ValueError> {
     from_values(alloc, rtype, values).err()
-}
-
-#[test]
-fn says_what_is_wrong(rt: HostRuntime) {
-    let alloc = rt.alloc();
-    let errors = [
-        error_of(alloc, Rtype::MX, &[NewValue::Number(1)]),
-        error_of(
-            alloc,
-            Rtype::MX,
-            &[NewValue::Number(65536), NewValue::Number(1)],
-        ),
-        error_of(
-            alloc,
-            Rtype::MX,
-            &[NewValue::Number(65535), NewValue::Number(1)],
-        ),
-    ];
-    let expected = [
-        Some(ValueError::WrongCount),
-        Some(ValueError::OutOfRange(0)),
-        Some(ValueError::WrongKind(1)),
-    ];
-    assert_same(&rt, "errors of values", errors, expected);
 }
 
 /// A prefix with this address.
@@ -138,23 +161,6 @@ fn refuses_what_is_too_long(rt: HostRuntime) {
     ];
     let row = "a string, a tag, a parameter, a prefix, a text";
     assert_same(&rt, row, errors, expected);
-}
-
-/// A MAC that is too long.
-#[test]
-fn refuses_a_long_mac(rt: HostRuntime) {
-    let root = Name::root_slice();
-    let values = [
-        NewValue::Name(root.as_parsed()),
-        NewValue::Number(0),
-        NewValue::Number(300),
-        NewValue::Sized(LONG),
-        NewValue::Number(0),
-        NewValue::Number(0),
-        NewValue::Sized(b""),
-    ];
-    let error = error_of(rt.alloc(), Rtype::TSIG, &values);
-    assert_same(&rt, "a long MAC", error, Some(ValueError::OutOfRange(3)));
 }
 
 /// Errors, and how they are printed.
