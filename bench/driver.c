@@ -4,8 +4,10 @@
  *   names ROW WORKLOAD N     writes N messages of one row, for an instruction counter
  *
  * If it is built with COUNT_ALLOCATIONS defined, and with count.c, the rows
- * have allocations instead of times.
+ * have allocations instead of times; with COUNT_INSTRUCTIONS, instructions (counter.h).
  */
+
+#include "counter.h"
 
 #include <inttypes.h>
 #include <stdint.h>
@@ -126,7 +128,18 @@ static void write_messages(const struct row *row, const struct workload *load, s
         fail(row->name, load->name, "the message has another length");
 }
 
-#ifdef COUNT_ALLOCATIONS
+#ifdef COUNT_INSTRUCTIONS
+
+static void report(const struct row *row, const struct workload *work)
+{
+    for (size_t rounds = 10; rounds <= 30; rounds += 20) {
+        start_row();
+        write_messages(row, work, rounds);
+        end_row("names", work->name, row->name, rounds);
+    }
+}
+
+#elif defined COUNT_ALLOCATIONS
 
 static double allocations_of(const struct row *row, const struct workload *work, size_t rounds)
 {

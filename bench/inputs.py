@@ -245,4 +245,5 @@ def main():
         line(f"z{count}", zone(count).sum, zone(count).octets)
 
 
-main()
+if __name__ == "__main__":
+    main()

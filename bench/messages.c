@@ -6,9 +6,11 @@
  *
  * A line of INPUTS has a workload, its sum (`-` if the message has to be refused, `?` if it may be),
  * and its octets in hexadecimal. If it is built with COUNT_ALLOCATIONS defined, and with count.c, the
- * rows have allocations and octets of memory instead of times.
+ * rows have allocations and octets of memory instead of times; with COUNT_INSTRUCTIONS, instructions
+ * (counter.h).
  */
 
+#include "counter.h"
 #include "peer.h"
 
 #include <inttypes.h>
@@ -135,6 +137,21 @@ static void run(const struct task *task, uint64_t times)
                 kept = read_message(task, &task->first[i]);
 }
 
+#ifdef COUNT_INSTRUCTIONS
+
+static void report(const char *peer, const char *way, const struct task *task)
+{
+    uint64_t batch = task->kind > FIELDS ? BATCH : 1;
+    run(task, batch);
+    for (uint64_t times = batch; times <= 2 * batch; times += batch) {
+        start_row();
+        run(task, times);
+        end_row(peer, task->first->workload, way, times);
+    }
+}
+
+#else
+
 static void print_row(const char *peer, const char *way, const struct task *task)
 {
     printf("%-18s  %-19s  %-6s", peer, way, task->first->workload);
@@ -176,7 +193,7 @@ static const char *difference_walked(const struct task *task)
     size_t taken = 0;
     for (size_t i = 0; i < task->count; i++)
         taken += read_message(task, &asked[i]) >= 0;
-    snprintf(text, sizeof text, "takes %zu of %zu", taken, task->count);
+    snprintf(text, sizeof text, "%zu of %zu", taken, task->count);
     if (!strcmp(asked->sum, "?"))
         return text;
     if (!strcmp(asked->sum, "-"))
@@ -224,6 +241,7 @@ static void report(const char *peer, const char *way, const struct task *task)
            task->kind <= FIELDS ? difference_walked(task) : difference_written(task));
 }
 
+#endif
 #endif
 
 static const char *way_of(int32_t variant)

@@ -19,7 +19,7 @@ def said(*words):
 def machine(*others):
     """The processor, the compiler, what else was measured, and the date, in one line."""
     processor = re.search(r"^Model name: *(.*)", said("lscpu"), re.M)
-    compiler = said(os.environ.get("CC", "cc"), "--version").split("\n")[0]
+    compiler = re.sub(r" \(.*\)", "", said(os.environ.get("CC", "cc"), "--version").split("\n")[0])
     date = datetime.datetime.now(datetime.timezone.utc).strftime("%Y-%m-%d")
     parts = [f"{processor[1] if processor else 'unknown'}, {os.cpu_count()} processors", compiler, ", ".join(filter(None, others)), date]
     return "; ".join(filter(None, parts))

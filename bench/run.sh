@@ -1,8 +1,8 @@
 #!/usr/bin/env bash
 # Builds crates/bench over what `./test` has left proved. Prints times and allocations of reading and building whole
-# messages, of writing names with the four compressors, and of reading two messages. Whole messages are timed by four
-# programs, whose code is shifted by 16 octets each (shift.c); the least time is the one that counts.
-# ROUNDS is the number of rounds, 1 by default. count.sh counts instructions.
+# messages, and of writing names with the four compressors. Whole messages are timed by four programs, whose code is
+# shifted by 16 octets each (shift.c); the least time is the one that counts.
+# ROUNDS is the number of rounds, 1 by default. count counts instructions.
 #
 # It needs a C compiler (CC, else cc) and python3.
 set -eu
@@ -21,7 +21,6 @@ compile() {
 }
 compile "$build/times" "$here/driver.c"
 compile "$build/allocations" -DCOUNT_ALLOCATIONS "$here/count.c" "$here/driver.c"
-compile "$build/walk" "$here/walk.c"
 shifts=(0 16 32 48)
 for shift in "${shifts[@]}"; do
   compile "$build/messages$shift" "$here/ours.c" "$here/messages.c" -DSHIFT="$shift" "$here/shift.c"
@@ -43,7 +42,6 @@ echo
 
 printf '%-14s %-9s %12s %12s\n' compressor workload 'ns, median' 'ns, least'
 "$build/times"
-"$build/walk"
 echo
 printf '%-14s %-9s %12s\n' compressor workload allocations
 "$build/allocations"

@@ -51,7 +51,7 @@ static size_t read_name(void)
     return text_len;
 }
 
-const struct task tasks[] = {
+struct task tasks[] = {
     {"query", "ares_create_query", .one = write_query},
     {"addresses of w2", "ares_parse_a_reply", .one = read_addresses},
     {"MX of m40 as text", "ares_parse_mx_reply", .one = read_exchanges},

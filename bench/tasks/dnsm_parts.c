@@ -140,7 +140,7 @@ static size_t find_cookie(void)
     return option.data_len;
 }
 
-const struct task tasks[] = {
+struct task tasks[] = {
     {"names are equal", "dnsm_name_equal", .one = are_equal},
     {"a name is below another", "dnsm_name_below", .one = is_below},
     {"order of names", "dnsm_name_order", .one = compare},

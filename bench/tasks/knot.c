@@ -262,16 +262,16 @@ static size_t respond_with_all(void)
     return knot_pkt_put(response, KNOT_COMPR_HINT_NONE, &opt, 0) == KNOT_EOK ? response->size : 0;
 }
 
-const struct task tasks[] = {
-    {"20 addresses", "knot_pkt_put, QNAME hint", .one = write_hinted},
-    {"20 addresses", "knot_pkt_put, no hint", .one = write_addresses},
-    {"20 addresses", "knot_pkt_put of one RRset, QNAME hint", .one = write_set},
-    {"500 owners", "knot_pkt_put, no hint", .one = write_owners},
-    {"20 RRSIG of m40", "knot_pkt_put, QNAME hint", .one = write_signatures},
+struct task tasks[] = {
+    {"20 addresses", "knot_pkt_put, hint", .one = write_hinted},
+    {"20 addresses", "knot_pkt_put", .one = write_addresses},
+    {"20 addresses", "knot_pkt_put, RRset, hint", .one = write_set},
+    {"500 owners", "knot_pkt_put", .one = write_owners},
+    {"20 RRSIG of m40", "knot_pkt_put, hint", .one = write_signatures},
     {"query", "knot_pkt_put_question", .one = write_query},
     {"response to q1", "knot_pkt_init_response, knot_pkt_put", .one = respond},
-    {"20 addresses for q1", "knot_pkt_init_response, knot_pkt_put of one RRset", .one = respond_with_all},
-    {"w2 written again", "knot_pkt_put, no hint", .one = put_from},
+    {"20 addresses for q1", "knot_pkt_init_response, knot_pkt_put, RRset", .one = respond_with_all},
+    {"w2 written again", "knot_pkt_put", .one = put_from},
     {"items of w2", "knot_pkt_parse", .one = read_items},
     {"items of f64", "knot_pkt_parse", .one = read_f64},
     {"items of h64", "knot_pkt_parse", .one = read_h64},

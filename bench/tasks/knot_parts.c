@@ -144,7 +144,7 @@ static size_t find_cookie(void)
     return cookie ? knot_edns_opt_get_length(cookie) : 0;
 }
 
-const struct task tasks[] = {
+struct task tasks[] = {
     {"names are equal", "knot_dname_is_case_equal", .one = are_equal},
     {"a name is below another", "knot_dname_in_bailiwick", .one = is_below},
     {"order of names", "knot_dname_cmp", .one = compare},

@@ -174,7 +174,7 @@ static size_t write_again(void)
     return len;
 }
 
-const struct task tasks[] = {
+struct task tasks[] = {
     {"20 addresses", "ldns_pkt2buffer_wire", .one = write_addresses},
     {"500 owners", "ldns_pkt2buffer_wire", .one = write_owners},
     {"20 RRSIG of m40", "ldns_pkt2buffer_wire", .one = write_signatures},

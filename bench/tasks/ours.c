@@ -31,7 +31,7 @@ static size_t run_mx_text(uint64_t times)
     return dns_bench_mx(text, sizeof text - 1, 1, times) == times ? MX_LEN : 0;
 }
 
-const struct task tasks[] = {
+struct task tasks[] = {
     {"TTLs of w2", "age_ttls", .often = run_age_w2},
     {"TTLs of 64 KiB", "age_ttls", .often = run_age_f64},
     {"RDATA of MX", "mx", .often = run_mx},

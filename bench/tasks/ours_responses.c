@@ -69,7 +69,7 @@ static size_t print_line(const struct line *record, uint64_t times)
     return dns_bench_print_line((const uint8_t *)record->text, record->len, times);
 }
 
-const struct task tasks[] = {
+struct task tasks[] = {
     {"20 addresses for q1", "respond, fit", .often = run_fit},
     {"w2 as a reply", "reply_to", .often = run_reply},
     {"w2 as JSON", "MessageJson", .often = run_json},

@@ -29,7 +29,7 @@ static const struct line lines[LINES] = {
 
 /* The tasks of printing and of reading the record of this number, each by this call with this name. */
 #define TASKS_OF_LINE(type, number, printed, print, was_read, read)                                                                    \
-    {type " as text", printed, .with = print, .record = &lines[number]}, {type " as text", was_read, .with = read, .record = &lines[number]}
+    {type " text", printed, .with = print, .record = &lines[number]}, {type " text", was_read, .with = read, .record = &lines[number]}
 
 #define TASKS_OF_LINES(...)                                                                                                            \
     TASKS_OF_LINE("A", 0, __VA_ARGS__), TASKS_OF_LINE("AAAA", 1, __VA_ARGS__), TASKS_OF_LINE("NS", 2, __VA_ARGS__),                    \

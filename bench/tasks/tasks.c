@@ -2,9 +2,13 @@
  *
  *     tasks LIBRARY               prints for each task the library, the work, the way, nanoseconds and octets, separated by `|`
  *     tasks LIBRARY -n N TASK     does one of them N times, counted from 0, for an instruction counter
+ *
+ * With COUNT_INSTRUCTIONS defined, the rows have instructions (counter.h) instead.
  */
 
 #include "tasks.h"
+
+#include "../counter.h"
 
 #include <stdio.h>
 #include <stdlib.h>
@@ -53,6 +57,16 @@ static size_t run(const struct task *task, uint64_t times)
     return len;
 }
 
+/* Ends with a message if the task failed. */
+static size_t checked(const struct task *task, size_t len)
+{
+    if (len == 0) {
+        fprintf(stderr, "tasks: %s, %s failed\n", task->work, task->way);
+        exit(1);
+    }
+    return len;
+}
+
 /* The processor time in nanoseconds, which other work on the machine affects less. */
 static double now(void)
 {
@@ -60,6 +74,24 @@ static double now(void)
     clock_gettime(CLOCK_PROCESS_CPUTIME_ID, &t);
     return (double)t.tv_sec * 1e9 + (double)t.tv_nsec;
 }
+
+#ifdef COUNT_INSTRUCTIONS
+
+static void report(const char *library, const struct task *task)
+{
+    if (task->uncounted)
+        return;
+    double start = now();
+    checked(task, run(task, 1));
+    uint64_t few = now() - start > 10e6 ? 1 : 32;
+    for (uint64_t times = few; times <= 2 * few; times += few) {
+        start_row();
+        run(task, times);
+        end_row(library, task->work, task->way, times);
+    }
+}
+
+#else
 
 /* How many times the task has to be done to take some 10 ms. */
 static uint64_t times_for(const struct task *task)
@@ -89,14 +121,12 @@ static double least(const struct task *task)
 
 static void report(const char *library, const struct task *task)
 {
-    size_t len = run(task, 1);
-    if (len == 0) {
-        fprintf(stderr, "tasks: %s, %s failed\n", task->work, task->way);
-        exit(1);
-    }
+    size_t len = checked(task, run(task, 1));
     printf("%s|%s|%s|%.1f|%zu\n", library, task->work, task->way, least(task), len);
     fflush(stdout);
 }
+
+#endif
 
 int main(int argc, char **argv)
 {

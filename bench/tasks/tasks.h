@@ -20,10 +20,13 @@ struct task {
     size_t (*often)(uint64_t times);
     size_t (*with)(const struct line *record, uint64_t times);
     const struct line *record;
+
+    /* It takes too long for an instruction counter. */
+    int uncounted;
 };
 
 /* The tasks of a library, up to one without a call. */
-extern const struct task tasks[];
+extern struct task tasks[];
 
 /* Prepares what the tasks use, such as names in wire format. */
 void prepare(void);
