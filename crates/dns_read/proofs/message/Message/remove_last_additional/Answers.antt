@@ -23,4 +23,5 @@ returns-clause-before g c =
 pub returns-clause-after : goal.returns-clause-after
 returns-clause-after g c =
     let long = c.args.self.now.long in
-    ap (drop header_size) c.write_at.ensures.octets ∙ kept_after (message_octets c.args.self.now) c.to_be_bytes.result 10 header_size (omega (arith, ap length c.to_be_bytes.ensures)) (omega (arith, long))
+    ap (drop header_size) c.write_at.ensures.octets
+    ∙ kept_after (message_octets c.args.self.now) c.to_be_bytes.result 10 header_size (omega (arith, ap length c.to_be_bytes.ensures)) (omega (arith, long))
