@@ -10,7 +10,8 @@ use Rattle.dns_message.specs.Records.{OptItem}
 use Rattle.dns_message.specs.Targets.{Tree}
 use Rattle.dns_message.specs.declared.builder.PushError.{PushError}
 use Rattle.example_response.specs.Answers.{StepItem, end_of, is_authoritative}
-use Rattle.example_response.specs.Sets.{additional_sets, answer_sets, authority_sets, filled}
+use Rattle.example_response.specs.Filling.{filled}
+use Rattle.example_response.specs.Sets.{additional_sets, answer_sets, authority_sets}
 use Rattle.example_response.specs.Zones.{CaseItem}
 use Rattle.example_response.specs.Responses.{IsAnswered, IsEnded, IsEndedBy, IsReasonFor, opt_for, own_opt, reserved_for, size_of_opt, started, whole_limit, with_own_opt}
 use Rattle.example_response.proofs.Fitting.{fits-limit}

@@ -15,7 +15,8 @@ use Rattle.dns_message.specs.Targets.{Tree}
 use Rattle.dns_message.specs.declared.fields.OwnedFieldData.{OwnedFieldData}
 use Rattle.dns_message.specs.declared.name.Name.{Name}
 use Rattle.dns_message.specs.declared.wire.Octets.{Ghosts}
-use Rattle.example_response.specs.Sets.{Fits, address_sets, host_sets, required}
+use Rattle.example_response.specs.Filling.{Fits}
+use Rattle.example_response.specs.Sets.{address_sets, host_sets, required, unless}
 use Rattle.example_response.specs.Zones.{set_at}
 use Rattle.example_response.specs.declared.zone.Rrset.{Rrset}
 use Rattle.example_response.specs.declared.zone.Zone.{Zone}
@@ -78,6 +79,16 @@ fits-limit stage reserved (x ∷ xs) s =
 pub sets_are : (stage : Stage) (xs ys : List RecordSet) (old : Reserving) (new : Built) → xs ≡ ys → MovesState stage stage Tree (fit_sets None Tree stage old.reserved xs) old.built new
     → MovesState stage stage Tree (fit_sets None Tree stage old.reserved ys) old.built new
 sets_are stage xs ys old new is = subst (λ zs. MovesState stage stage Tree (fit_sets None Tree stage old.reserved zs) old.built new) is
+
+-- A set that an earlier step has isn't fitted again.
+pub fits_none : (stage : Stage) (repeats : Bool) (set : RecordSet) (old : Reserving) → repeats ≡ true
+    → MovesState stage stage Tree (fit_sets None Tree stage old.reserved (unless repeats set)) old.built old.built
+fits_none stage repeats set old is = subst (λ b. MovesState stage stage Tree (fit_sets None Tree stage old.reserved (unless b set)) old.built old.built) (sym is) (λ s h. h)
+
+-- Another set is.
+pub fits_one : {X E : Type 0} (stage : Stage) (repeats : Bool) (set : RecordSet) (old new : Reserving) (r : Result X E) → repeats ≡ false → Fits stage (set ∷ []) old new r
+    → Fits stage (unless repeats set) old new r
+fits_one stage repeats set old new r is = subst (λ b. Fits stage (unless b set) old new r) (sym is)
 
 -- a record as it is pushed with another owner
 abbrev pub pushed_record : {X : Type 0} {octets : Ghosts X} → Bor (Name X octets) × ℕ × ℕ × Bor OwnedFieldData → RecordItem

@@ -1,7 +1,12 @@
 mod Answering
 mod Asking
+mod CaseLemmas
+mod EncloserLemmas
 mod Ending
 mod Fitting
+mod NearestLemmas
+mod OriginLemmas
 mod Starting
 mod StepLemmas
+mod Tests
 mod WildcardLemmas

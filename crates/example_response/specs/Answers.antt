@@ -1,7 +1,8 @@
 -- The names of an answer: the one that is asked for, and those that aliases lead to. RFC 1034 section 4.3.2, RFC 6672 section 2.2, RFC 6604 section 3.
-use Rattle.std.specs.Prelude.{◌-◌, ◌==◌, ◌&&◌, nat_le, if◌then◌else◌, ℕ, zero, suc, Bool, true, false, List, [], ◌∷◌, length, slice_get, Option, Some, None, option_and_then, option_map, is_some}
+use Rattle.std.specs.Prelude.{◌-◌, ◌==◌, ◌&&◌, nat_le, if◌then◌else◌, ℕ, zero, suc, Bool, true, false, List, [], ◌∷◌, ◌++◌, length, slice_get, Option, Some, None, option_and_then, option_map, is_some}
+use Rattle.std.specs.List.{list_any}
 use Rattle.dns_message.specs.Fields.{NamedPart, definitions_of, named_parts, owned_parts_of, owned_rtype_of}
-use Rattle.dns_message.specs.Names.{Labels, max_size, name_labels, name_size}
+use Rattle.dns_message.specs.Names.{Labels, max_size, name_labels, name_size, names_equal}
 use Rattle.dns_message.specs.Records.{data_of}
 use Rattle.dns_message.specs.Replies.{is_below, substituted, target_in}
 use Rattle.dns_message.specs.declared.fields.OwnedFieldData.{OwnedFieldData}
@@ -44,26 +45,64 @@ next_of name (Found s by) = None
 next_of name (NoData by) = None
 next_of name NoName = None
 
--- a name, its case, and the name that it leads to
+-- a name, its case, the name that it leads to, and whether an earlier step has the records of the case
 pub record StepItem : Type 0 where
   pub name : Labels
   pub case : CaseItem
   pub next : Option Labels
+  pub repeats : Bool
 
 abbrev pub step_shown : Step → StepItem
-step_shown step = record { name = name_labels step.name; case = case_shown step.case; next = option_map name_labels step.next }
+step_shown step = record { name = name_labels step.name; case = case_shown step.case; next = option_map name_labels step.next; repeats = step.repeats }
 
--- the step of a name
-abbrev pub step_of : Zone → ℕ → Labels → StepItem
-step_of zone qtype name = let case = case_of zone name qtype in record { name = name; case = case; next = next_of name case }
+-- whether a name is that of a step, or of one of some steps
+abbrev pub is_named : Labels → StepItem → Bool
+is_named name step = names_equal step.name name
 
--- at most n steps from a name: its own, and those from the name that it leads to
-unfoldable pub steps_from : Zone → ℕ → ℕ → Option Labels → List StepItem
-steps_from zone qtype zero next = []
-steps_from zone qtype (suc n) None = []
-steps_from zone qtype (suc n) (Some name) = step_of zone qtype name ∷ steps_from zone qtype n (step_of zone qtype name).next
+abbrev pub is_among : Labels → List StepItem → Bool
+is_among name steps = list_any (is_named name) steps
 
--- The most names of an answer: chains may be loops (RFC 1034 section 5.3.3). If CNAME records (5) are asked for, the first one is the answer, even if a DNAME record makes it.
+-- whether a case is that the DNAME records of this owner redirect the name
+abbrev pub redirects : Labels → CaseItem → Bool
+redirects owner (Redirected s) = names_equal (owner_of_set s) owner
+redirects owner Refused = false
+redirects owner (Delegated s) = false
+redirects owner (Found s by) = false
+redirects owner (Alias s by) = false
+redirects owner (NoData by) = false
+redirects owner NoName = false
+
+abbrev pub is_redirected_by : Labels → StepItem → Bool
+is_redirected_by owner step = redirects owner step.case
+
+-- whether the DNAME records of this owner redirect one of the names
+abbrev pub are_redirected_by : Labels → List StepItem → Bool
+are_redirected_by owner steps = list_any (is_redirected_by owner) steps
+
+-- whether the records of a name's case are DNAME records (39) that redirect an earlier name: an answer has them once (RFC 2181 section 5)
+abbrev pub repeats_dname : List StepItem → Labels → CaseItem → Bool
+repeats_dname before name (Redirected s) = are_redirected_by (owner_of_set s) before
+repeats_dname before name (Found s by) = (s.rtype == 39) && are_redirected_by name before
+repeats_dname before name Refused = false
+repeats_dname before name (Delegated s) = false
+repeats_dname before name (Alias s by) = false
+repeats_dname before name (NoData by) = false
+repeats_dname before name NoName = false
+
+-- the step of a name after these steps
+abbrev pub step_of : Zone → ℕ → List StepItem → Labels → StepItem
+step_of zone qtype before name =
+    let case = case_of zone name qtype in record { name = name; case = case; next = next_of name case; repeats = repeats_dname before name case }
+
+-- At most n steps from a name, after these steps: its own, and those from the name that it leads to. No name is there twice, as aliases may be loops (RFC 1034 section 5.3.3).
+unfoldable pub steps_from : Zone → ℕ → ℕ → List StepItem → Option Labels → List StepItem
+steps_from zone qtype zero before next = []
+steps_from zone qtype (suc n) before None = []
+steps_from zone qtype (suc n) before (Some name) =
+    if is_among name before then []
+    else (let step = step_of zone qtype before name in step ∷ steps_from zone qtype n (before ++ step ∷ []) step.next)
+
+-- The most names of an answer: chains may be long (RFC 1034 section 5.3.3). If CNAME records (5) are asked for, the first one is the answer, even if a DNAME record makes it.
 abbrev pub most_names : ℕ → ℕ
 most_names qtype = if qtype == 5 then 1 else 20
 

@@ -1,51 +1,21 @@
 -- Responses to queries about a zone. RFC 1035 section 4.1.1, RFC 2181 section 9, RFC 6891 section 6.1.
-use Rattle.std.specs.Prelude.{nat_lt, ◌≡◌, ◌≤◌, ◌<◌, ◌+◌, ◌==◌, not, if◌then◌else◌, ℕ, Bool, false, List, [], length, Option, Some, None, option_map, Result, Ok, Err}
+use Rattle.std.specs.Prelude.{◌≡◌, ◌≤◌, ◌<◌, ◌+◌, ℕ, Bool, false, List, [], length, Option, Some, None, option_map, Result, Ok, Err}
 use Rattle.dns_message.specs.Builders.{Gathered, InAdditional, InAnswer, InEach, IsMessageOf, Reserving, State, fitting, fresh, header_to, opt_size, opt_to, readable_questions, size_after, with_limit}
 use Rattle.dns_message.specs.Builders.{with_opt}
-use Rattle.dns_message.specs.Headers.{fields_in}
-use Rattle.dns_message.specs.Messages.{asked_first, opt_of}
-use Rattle.dns_message.specs.Questions.{QuestionItem, parsed_question}
-use Rattle.dns_message.specs.Records.{OptItem}
-use Rattle.dns_message.specs.Replies.{opts_of}
-use Rattle.dns_message.specs.Sections.{question_count}
+use Rattle.dns_message.specs.Questions.{QuestionItem}
 use Rattle.dns_message.specs.Targets.{Tree}
 use Rattle.dns_message.specs.declared.builder.PushError.{PushError}
 use Rattle.dns_message.specs.declared.builder.PushError.TheVariants.{CountOverflow, LimitExceeded, ShortBuf, OutOfMemory}
-use Rattle.dns_message.specs.declared.name.ParsedName.{ParsedName}
-use Rattle.dns_message.specs.declared.question.Question.{Question}
 use Rattle.example_response.specs.Answers.{StepItem, is_authoritative, most_names, rcode_of, steps_from}
-use Rattle.example_response.specs.Sets.{filled}
+use Rattle.example_response.specs.Filling.{filled}
+use Rattle.example_response.specs.Questions.{question_or_rcode}
 use Rattle.example_response.specs.declared.zone.Zone.{Zone}
 
--- Which question is answered.
-
--- whether an OPT record has an EDNS version above 0
-abbrev pub has_later_version : Option OptItem → Bool
-has_later_version None = false
-has_later_version (Some opt) = not (opt.fields.version == 0)
-
--- a question in the class IN (1), else REFUSED (5); without one FORMERR (1)
-abbrev pub in_class : Option QuestionItem → Result QuestionItem ℕ
-in_class None = Err 1
-in_class (Some question) = if question.class == 1 then Ok question else Err 5
-
--- The question of a query, or the rcode of a response without records: FORMERR to two OPT records (RFC 6891 section 6.1.1), NOTIMP (4) to another opcode than QUERY, FORMERR to other than one
--- question. For a later version of EDNS `opt_to` gives BADVERS.
-abbrev pub question_or_rcode : List ℕ → Result QuestionItem ℕ
-question_or_rcode query =
-    if nat_lt 1 (length (opts_of query)) then Err 1
-    else (if has_later_version (opt_of query) then Err 0
-    else (if not ((fields_in query).opcode == 0) then Err 4
-    else (if not (question_count query == 1) then Err 1
-    else in_class (asked_first query))))
-
-abbrev pub question_result : Result (Question ParsedName) ℕ → Result QuestionItem ℕ
-question_result (Ok question) = Ok (parsed_question question)
-question_result (Err rcode) = Err rcode
+-- Which steps answer a question.
 
 -- the steps of the answer to a question
 abbrev pub steps_of : Zone → Result QuestionItem ℕ → List StepItem
-steps_of zone (Ok question) = steps_from zone question.rtype (most_names question.rtype) (Some question.name)
+steps_of zone (Ok question) = steps_from zone question.rtype (most_names question.rtype) [] (Some question.name)
 steps_of zone (Err rcode) = []
 
 -- the rcode of the response

@@ -1,18 +1,17 @@
 -- Which sets of records a response has in its sections. RFC 1034 section 4.3.2, RFC 2181 sections 5 and 9, RFC 2308 section 3, RFC 6672 section 3.1.
-use Rattle.std.specs.Prelude.{ℕ, Bool, true, List, [], ◌∷◌, ◌++◌, map, Option, Some, None, OnOk, Result}
+use Rattle.std.specs.Prelude.{if◌then◌else◌, ℕ, Bool, true, List, [], ◌∷◌, ◌++◌, map, Option, Some, None}
 use Rattle.std.specs.List.{flat_map}
-use Rattle.dns_message.specs.Builders.{InAdditional, InAnswer, InAuthority, MovesState, RecordSet, Reserving, Stage, State, fit_sets, move_to}
+use Rattle.dns_message.specs.Builders.{RecordSet}
 use Rattle.dns_message.specs.Data.{CompressibleName}
 use Rattle.dns_message.specs.Fields.{owned_parts_of, owned_rtype_of}
 use Rattle.dns_message.specs.Names.{Labels, name_labels}
 use Rattle.dns_message.specs.Records.{RecordItem, data_of, record_item}
 use Rattle.dns_message.specs.Replies.{is_within}
-use Rattle.dns_message.specs.Targets.{Tree}
 use Rattle.dns_message.specs.declared.fields.OwnedFieldData.{OwnedFieldData}
 use Rattle.dns_message.specs.declared.name.Name.{Name}
 use Rattle.dns_message.specs.declared.record.Record.{Record}
 use Rattle.dns_message.specs.declared.wire.Octets.{Ghosts}
-use Rattle.example_response.specs.Answers.{StepItem, end_of, name_in}
+use Rattle.example_response.specs.Answers.{StepItem, name_in}
 use Rattle.example_response.specs.Zones.{CaseItem, owner_of_set, set_at}
 use Rattle.example_response.specs.Zones.CaseItem.{Refused, Delegated, Redirected, Found, Alias, NoData, NoName}
 use Rattle.example_response.specs.declared.zone.Rrset.{Rrset}
@@ -36,19 +35,33 @@ records_of s = map record_shown s.records.items
 abbrev pub named_set : Labels → Rrset → RecordSet
 named_set name s = required (map (renamed name) s.records.items)
 
--- the CNAME record (5) that a DNAME record makes, if it leads to a name (RFC 6672 section 3.1)
+-- the CNAME record (5) of a name
+abbrev pub cname_record : Labels → ℕ → Labels → RecordItem
+cname_record name ttl next = record { owner = name; rtype = 5; class = 1; ttl = ttl; parts = CompressibleName next ∷ [] }
+
+-- the CNAME record that a DNAME record makes, if it leads to a name (RFC 6672 section 3.1)
 abbrev pub cname_sets : Labels → ℕ → Option Labels → List RecordSet
 cname_sets name ttl None = []
-cname_sets name ttl (Some next) = required (record { owner = name; rtype = 5; class = 1; ttl = ttl; parts = CompressibleName next ∷ [] } ∷ []) ∷ []
+cname_sets name ttl (Some next) = required (cname_record name ttl next ∷ []) ∷ []
 
 abbrev pub made_sets : StepItem → ℕ → List RecordSet
 made_sets step ttl = cname_sets step.name ttl step.next
 
+-- a set, unless an earlier step has it (RFC 2181 section 5)
+abbrev pub unless : Bool → RecordSet → List RecordSet
+unless repeats set = if repeats then [] else set ∷ []
+
+abbrev pub found_sets : StepItem → Rrset → List RecordSet
+found_sets step s = unless step.repeats (named_set step.name s)
+
+abbrev pub redirection_sets : StepItem → Rrset → List RecordSet
+redirection_sets step s = unless step.repeats (required (records_of s))
+
 -- the answers of a name of this case
 abbrev pub case_answers : StepItem → CaseItem → List RecordSet
-case_answers step (Found s by) = named_set step.name s ∷ []
+case_answers step (Found s by) = found_sets step s
 case_answers step (Alias s by) = named_set step.name s ∷ []
-case_answers step (Redirected s) = required (records_of s) ∷ made_sets step s.ttl
+case_answers step (Redirected s) = redirection_sets step s ++ made_sets step s.ttl
 case_answers step Refused = []
 case_answers step (Delegated s) = []
 case_answers step (NoData by) = []
@@ -93,14 +106,3 @@ additional_sets zone (Found s by) = []
 additional_sets zone (Alias s by) = []
 additional_sets zone (NoData by) = []
 additional_sets zone NoName = []
-
--- Sets of records go into a section in order, as far as they fit, while octets are reserved.
-abbrev pub Fits : {X E : Type 0} → Stage → List RecordSet → Reserving → Reserving → Result X E → Type 0
-Fits stage sets old new result = OnOk result (MovesState stage stage Tree (fit_sets None Tree stage old.reserved sets) old.built new.built)
-
--- the sets of the steps go into the three sections
-abbrev pub filled : ℕ → Zone → List StepItem → State → State
-filled reserved zone steps s =
-    let answers = fit_sets None Tree InAnswer reserved (flat_map answer_sets steps) s in
-    let authorities = fit_sets None Tree InAuthority reserved (authority_sets zone (end_of steps)) (move_to InAuthority answers) in
-    fit_sets None Tree InAdditional reserved (additional_sets zone (end_of steps)) (move_to InAdditional authorities)

@@ -1,6 +1,6 @@
 -- Zones, and which case of RFC 1034 section 4.3.2 a question for the records of a name is.
 --
--- `name` is the name, and `qtype` the type that is asked for. The sets of a zone are in canonical order (RFC 4034 section 6.1): a name comes before those below it.
+-- `name` is the name, and `qtype` the type that is asked for.
 use Rattle.std.specs.Prelude.{◌==◌, ◌&&◌, ◌||◌, not, nat_le, if◌then◌else◌, ℕ, Bool, [], ◌∷◌, find, Option, Some, None, option_and_then}
 use Rattle.std.specs.List.{list_any}
 use Rattle.dns_message.specs.Names.{Labels, max_size, name_labels, name_size, names_equal, suffixes}
@@ -63,7 +63,7 @@ delegates zone name qtype s = is_below (owner_of_set s) (name_labels zone.apex) 
 abbrev pub stops : Zone → Labels → ℕ → Rrset → Bool
 stops zone name qtype s = if s.rtype == 2 then delegates zone name qtype s else ((s.rtype == 39) && is_below name (owner_of_set s))
 
--- the first set that does so, which is the nearest to the apex
+-- the first set that does so: the nearest to the apex if the sets are in canonical order, in which a name comes before those below it (RFC 4034 section 6.1)
 abbrev pub stop_of : Zone → Labels → ℕ → Option Rrset
 stop_of zone name qtype = find (stops zone name qtype) zone.sets.items
 

@@ -1,8 +1,9 @@
 //! The names of an answer: the one that is asked for, and those that aliases lead to (RFC 1034
 //! section 4.3.2).
-ghost use Rattle.std.specs.Prelude.{◌≡◌, IfOk, map, option_map};
+ghost use Rattle.std.specs.Prelude.{◌≡◌, [], IfOk, map, option_map};
+ghost use Rattle.std.specs.List.{list_any};
 ghost use Rattle.dns_message.specs.Names.{labels, name_labels};
-ghost use Rattle.example_response.specs.Answers.{is_authoritative, most_names, name_in, next_of, rcode_of, step_shown, steps_from, target_of};
+ghost use Rattle.example_response.specs.Answers.{are_redirected_by, is_authoritative, is_named, is_redirected_by, most_names, name_in, next_of, rcode_of, repeats_dname, step_shown, steps_from, target_of};
 ghost use Rattle.example_response.specs.Zones.{case_shown};
 
 use crate::zone::{Case, OwnName, Rrset, Zone};
@@ -19,10 +20,12 @@ pub struct Step<'z> {
     pub name: OwnName,
     pub case: Case<'z>,
     pub next: Option<OwnName>,
+    /// Whether an earlier step has the records of the case, which are DNAME records.
+    pub repeats: bool,
 }
 
 /// The steps of an answer: that of the name that is asked for, and those of the names that aliases
-/// lead to.
+/// lead to. No name is there twice, as aliases may be loops.
 pub fn steps<'z>(
     alloc: Global,
     zone: &'z Zone,
@@ -30,7 +33,7 @@ pub fn steps<'z>(
     qtype: Rtype,
 ) -> Result<Vec<Step<'z>>, AllocError>
     ensures { IfOk result (λ steps. map step_shown steps.items
-        ≡ steps_from zone.now qtype (most_names qtype) (Some (name_labels name))) }
+        ≡ steps_from zone.now qtype (most_names qtype) [] (Some (name_labels name))) }
 {
     let most = most_names(qtype);
     let mut steps = Vec::new(alloc);
@@ -39,15 +42,70 @@ pub fn steps<'z>(
         let Some(name) = current else {
             return Ok(steps);
         };
+        if is_among(&name, &steps) {
+            return Ok(steps);
+        }
         let case = zone.case_of(&name.as_parsed(), qtype);
         let next = next_of(alloc, &name, &case);
+        let repeats = repeats_dname(&steps, &name, &case);
         current = next.clone()?;
-        steps.push(Step { name, case, next })?;
+        steps.push(Step {
+            name,
+            case,
+            next,
+            repeats,
+        })?;
     }
     Ok(steps)
 }
 
-/// The most names of an answer: chains of aliases may be loops (RFC 1034 section 5.3.3). If CNAME
+/// Whether a name is that of a step.
+fn is_among(name: &OwnName, steps: &[Step<'_>]) -> bool
+    ensures { result ≡ list_any (λ step. is_named (name_labels name.now) (step_shown step))
+        steps.now }
+{
+    steps.iter().any(|step| step.name == *name)
+}
+
+/// Whether the records of a case are DNAME records that redirect an earlier name: an answer has
+/// them once (RFC 2181 section 5).
+fn repeats_dname(steps: &[Step<'_>], name: &OwnName, case: &Case<'_>) -> bool
+    ensures { result ≡ repeats_dname (map step_shown steps.now) (name_labels name.now)
+        (case_shown case.now) }
+{
+    match case {
+        Case::Redirected(set) => are_redirected_by(steps, &set.owner),
+        Case::Found(set, _by) => set.rtype == Rtype::DNAME && are_redirected_by(steps, name),
+        _ => false,
+    }
+}
+
+/// Whether the DNAME records of this owner redirect one of the names.
+fn are_redirected_by(steps: &[Step<'_>], owner: &OwnName) -> bool
+    ensures { result ≡ are_redirected_by (name_labels owner.now) (map step_shown steps.now) }
+{
+    has_redirected(steps, owner)
+}
+
+/// Whether they redirect the name of one of the steps.
+fn has_redirected(steps: &[Step<'_>], owner: &OwnName) -> bool
+    ensures { result ≡ list_any (λ step. is_redirected_by (name_labels owner.now) (step_shown step))
+        steps.now }
+{
+    steps.iter().any(|step| is_redirected_by(step, owner))
+}
+
+/// Whether the DNAME records of this owner redirect the name of a step.
+fn is_redirected_by(step: &Step<'_>, owner: &OwnName) -> bool
+    ensures { result ≡ is_redirected_by (name_labels owner.now) (step_shown step.now) }
+{
+    match step.case {
+        Case::Redirected(set) => set.owner == *owner,
+        _ => false,
+    }
+}
+
+/// The most names of an answer: chains of aliases may be long (RFC 1034 section 5.3.3). If CNAME
 /// records are asked for, the first one is the answer, even if a DNAME record makes it.
 fn most_names(qtype: Rtype) -> usize
     ensures { result ≡ most_names qtype }

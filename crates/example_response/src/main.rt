@@ -8,11 +8,14 @@
 //! the response in the same form, or an empty line if a message gets none: it is no query, it isn't
 //! regular, so that its names may be dear to read, or its questions alone exceed the limit.
 //!
-//! The contract of `response::response` says which response, and that of `zone::Zone::case_of`
-//! which case of RFC 1034 section 4.3.2 a question is.
+//! The contract of `response::response` says which response, that of `zone::Zone::case_of` which case
+//! of RFC 1034 section 4.3.2 a question is, and `laws` what that says of the zone, and where the
+//! records of a response are from. AXFR and the like get NOTIMP.
 #![tactic(auto)]
 
 mod answer;
+mod laws;
+mod question;
 mod reading;
 mod response;
 mod zone;

@@ -7,24 +7,24 @@ ghost use Rattle.dns_message.specs.Messages.{message_octets};
 ghost use Rattle.dns_message.specs.Names.{name_labels};
 ghost use Rattle.dns_message.specs.Targets.{Tree};
 ghost use Rattle.example_response.specs.Answers.{end_of, is_authoritative as has_aa, step_shown};
-ghost use Rattle.example_response.specs.Sets.{Fits, additional_sets, address_sets, answer_sets, authority_sets, filled as filled_state, glue_sets, made_sets, named_set};
-ghost use Rattle.example_response.specs.Responses.{IsAnswered, IsEnded, IsEndedBy, IsReason, IsReasonFor, IsResponse, opt_for, own_opt as with_payload, question_or_rcode, question_result, started as started_state};
+ghost use Rattle.example_response.specs.Filling.{Fits, filled as filled_state};
+ghost use Rattle.example_response.specs.Sets.{additional_sets, address_sets, answer_sets, authority_sets, found_sets, glue_sets, made_sets, named_set, redirection_sets};
+ghost use Rattle.example_response.specs.Responses.{IsAnswered, IsEnded, IsEndedBy, IsReason, IsReasonFor, IsResponse, opt_for, own_opt as with_payload, started as started_state};
 ghost use Rattle.example_response.specs.Zones.{case_shown};
 
 use crate::answer::{Step, is_authoritative, name_in, owned, rcode_of, steps};
+use crate::question::asked;
 use crate::zone::{Case, OwnName, Rrset, Zone, is_within};
 use dns_message::builder::{
     AnswerBuilder, AtAdditional, AtAnswer, AtAuthority, MessageBuilder, OptBuilder, PushError,
     RecordStage, ReservedBuilder,
 };
-use dns_message::code::{Class, Opcode, Rcode, Rtype};
+use dns_message::code::{Rcode, Rtype};
 use dns_message::data::Cname;
 use dns_message::fields::OwnedFieldData;
 use dns_message::message::Message;
-use dns_message::name::{ParsedName, ToName};
-use dns_message::question::Question;
+use dns_message::name::ToName;
 use dns_message::record::ComposeRecord;
-use dns_message::reply::has_many_opts;
 use dns_message::target::TreeCompressor;
 use std::alloc::{AllocError, Global};
 
@@ -43,8 +43,8 @@ const OPT_OCTETS: u16 = 11;
 /// The response to a query about a zone, of at most `limit` octets.
 ///
 /// A query with two OPT records gets FORMERR, with an EDNS version above 0 BADVERS, with another
-/// opcode than QUERY NOTIMP, without exactly one question FORMERR, and in another class than IN
-/// REFUSED.
+/// opcode than QUERY NOTIMP, without exactly one question FORMERR, in another class than IN REFUSED,
+/// and for a type that no record of a zone has, such as AXFR, NOTIMP.
 pub fn response(
     alloc: Global,
     zone: &Zone,
@@ -65,34 +65,6 @@ pub fn response(
         }
         Err(rcode) => answered(alloc, zone, query, rcode, &[], limit),
     }
-}
-
-/// The question of a query, or the rcode of a response without records.
-#[tactic(auto, using(crate::proofs::Asking::opcode_is))]
-fn asked(query: &Message<Vec<u8>>) -> Result<Question<ParsedName<'_>>, Rcode>
-    ensures { question_result result ≡ question_or_rcode (message_octets query.now) }
-{
-    if has_many_opts(query) {
-        return Err(Rcode::FORMERR);
-    }
-    if let Some(opt) = query.opt() {
-        if opt.version() != 0 {
-            return Err(Rcode::NOERROR);
-        }
-    }
-    if query.header().opcode() != Opcode::QUERY {
-        return Err(Rcode::NOTIMP);
-    }
-    if query.header_counts().qdcount() != 1 {
-        return Err(Rcode::FORMERR);
-    }
-    let Some(question) = query.first_question() else {
-        return Err(Rcode::FORMERR);
-    };
-    if question.qclass() != Class::IN {
-        return Err(Rcode::REFUSED);
-    }
-    Ok(question)
 }
 
 /// The response to a query with this rcode and the records of these steps.
@@ -214,14 +186,47 @@ fn push_step(
     ensures reserved { builder.new.reserved ≡ builder.old.reserved }
 {
     match step.case {
-        Case::Found(set, _by) => push_named(alloc, builder, &step.name, set),
+        Case::Found(set, _by) => push_found(alloc, builder, step, set),
         Case::Alias(set, _by) => push_named(alloc, builder, &step.name, set),
         Case::Redirected(set) => {
-            push_set(builder, true, &set.records)?;
+            push_redirection(builder, step, set)?;
             push_made(builder, step, set.ttl)
         }
         _ => Ok(()),
     }
+}
+
+/// Adds the records that are asked for, unless an earlier step has them.
+fn push_found(
+    alloc: Global,
+    builder: &mut Fitting<AtAnswer>,
+    step: &Step<'_>,
+    set: &Rrset,
+) -> Result<(), AllocError>
+    ensures fits { Fits InAnswer (found_sets (step_shown step.now) set.now)
+        builder.old builder.new result }
+    ensures reserved { builder.new.reserved ≡ builder.old.reserved }
+{
+    if step.repeats {
+        return Ok(());
+    }
+    push_named(alloc, builder, &step.name, set)
+}
+
+/// Adds DNAME records, unless an earlier step has them.
+fn push_redirection(
+    builder: &mut Fitting<AtAnswer>,
+    step: &Step<'_>,
+    set: &Rrset,
+) -> Result<(), AllocError>
+    ensures fits { Fits InAnswer (redirection_sets (step_shown step.now) set.now)
+        builder.old builder.new result }
+    ensures reserved { builder.new.reserved ≡ builder.old.reserved }
+{
+    if step.repeats {
+        return Ok(());
+    }
+    push_set(builder, true, &set.records)
 }
 
 /// Adds a set with this name as the owner, which isn't that of a wildcard (RFC 4592 section 3.3.1).

@@ -29,8 +29,8 @@ pub struct Rrset {
     pub records: Vec<ZoneRecord>,
 }
 
-/// A zone: the name of its apex, and its sets of records in canonical order (RFC 4034 section 6.1),
-/// in which a name comes before those below it.
+/// A zone: the name of its apex, and its sets of records. `read_zone` checks that they are in
+/// canonical order (RFC 4034 section 6.1), in which a name comes before those below it.
 #[derive(Debug, Drop)]
 pub struct Zone {
     pub apex: OwnName,
@@ -81,7 +81,8 @@ impl Zone {
         }
     }
 
-    /// The first set that ends the search on the way down to a name.
+    /// The first set that ends the search on the way down to a name: the nearest to the apex if the
+    /// sets are in canonical order.
     fn stop_of(&self, name: &ParsedName<'_>, qtype: Rtype) -> Option<&Rrset>
         ensures { option_copied result ≡ stop_of self.now (labels name.now) qtype }
     {
