@@ -8,16 +8,17 @@
 #include <stdio.h>
 #include <valgrind/callgrind.h>
 
-/* Counts from here on. */
-static inline void start_row(void) { CALLGRIND_ZERO_STATS; }
+static char row_name[256];
 
-/* Writes what was counted for doing a work `times` times in a way. */
-static inline void end_row(const char *library, const char *work, const char *way, unsigned long times)
+/* Counts from here on what it takes to do a work `times` times in a way. */
+static inline void start_row(const char *library, const char *work, const char *way, unsigned long times)
 {
-    char name[256];
-    snprintf(name, sizeof name, "%s|%s|%s|%lu", library, work, way, times);
-    CALLGRIND_DUMP_STATS_AT(name);
+    snprintf(row_name, sizeof row_name, "%s|%s|%s|%lu", library, work, way, times);
+    CALLGRIND_ZERO_STATS;
 }
+
+/* Writes what was counted. */
+static inline void end_row(void) { CALLGRIND_DUMP_STATS_AT(row_name); }
 
 #endif
 

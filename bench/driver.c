@@ -133,9 +133,9 @@ static void write_messages(const struct row *row, const struct workload *load, s
 static void report(const struct row *row, const struct workload *work)
 {
     for (size_t rounds = 10; rounds <= 30; rounds += 20) {
-        start_row();
+        start_row("names", work->name, row->name, rounds);
         write_messages(row, work, rounds);
-        end_row("names", work->name, row->name, rounds);
+        end_row();
     }
 }
 

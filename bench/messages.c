@@ -144,9 +144,9 @@ static void report(const char *peer, const char *way, const struct task *task)
     uint64_t batch = task->kind > FIELDS ? BATCH : 1;
     run(task, batch);
     for (uint64_t times = batch; times <= 2 * batch; times += batch) {
-        start_row();
+        start_row(peer, task->first->workload, way, times);
         run(task, times);
-        end_row(peer, task->first->workload, way, times);
+        end_row();
     }
 }
 

@@ -85,9 +85,9 @@ static void report(const char *library, const struct task *task)
     checked(task, run(task, 1));
     uint64_t few = now() - start > 10e6 ? 1 : 32;
     for (uint64_t times = few; times <= 2 * few; times += few) {
-        start_row();
+        start_row(library, task->work, task->way, times);
         run(task, times);
-        end_row(library, task->work, task->way, times);
+        end_row();
     }
 }
 
